@@ -1,0 +1,33 @@
+//! The plain side: entries of an update list and acts of a trail, and the definitions that every clause
+//! about them rests on.
+#![tactic(auto)]
+
+mod act;
+mod causes;
+mod entries;
+mod entry;
+mod item;
+mod job_apps;
+mod layout;
+mod mode;
+mod name_list;
+mod op;
+mod question;
+mod refused;
+mod trail;
+mod via;
+
+pub use act::Act;
+pub use causes::{Loss, PairEnd, ShutCause};
+pub use entries::Entries;
+pub use entry::Entry;
+pub use item::Item;
+pub use job_apps::JobApps;
+pub use layout::{Layout, Names, Times};
+pub use mode::Mode;
+pub use name_list::NameList;
+pub use op::Op;
+pub use question::Question;
+pub use refused::{LinkName, ReasonName, Refused};
+pub use trail::Trail;
+pub use via::Via;
