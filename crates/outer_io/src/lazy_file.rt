@@ -63,3 +63,27 @@ fn read_from<R: Files>(
         None => Err(Failed),
     }
 }
+
+#[cfg(test)]
+mod tests {
+    use super::*;
+    use std::fs;
+    use std::test::Fail;
+
+    #[test]
+    fn a_file_is_read_to_its_end_and_a_missing_one_fails(rt: HostRuntime) -> Result<(), Fail> {
+        let alloc = rt.alloc();
+        let name = "outer_io_lazy_file.bytes";
+        fs::write(&rt, name, "abc")?;
+        let mut there = LazyFile::new(rt, Word::from_string(String::from_str(alloc, name)?));
+        for (count, given) in [(2, [97u8, 98]), (1, [99, 0]), (0, [0, 0])] {
+            let mut buf = [0u8; 2];
+            assert_eq!(rt; there.take(&mut buf), Ok(count));
+            assert_eq!(rt; buf, given);
+        }
+        fs::remove_file(&rt, name)?;
+        let missing = Word::from_string(String::from_str(alloc, name)?);
+        assert_eq!(rt; LazyFile::new(rt, missing).take(&mut [0]), Err(Failed));
+        Ok(())
+    }
+}

@@ -58,3 +58,20 @@ impl Clock for MemClock {
         time
     }
 }
+
+#[cfg(test)]
+mod tests {
+    use super::*;
+    use std::test::Fail;
+
+    #[test]
+    fn its_times_come_in_turn_and_then_its_last(rt: HostRuntime) -> Result<(), Fail> {
+        let mut clock = MemClock::new(vec![in rt.alloc(); 3u64, 3, 8]?);
+        for told in [3, 3, 8, 8, 8] {
+            assert_eq!(rt; clock.now(), told);
+        }
+        let mut standing = MemClock::new(Vec::new(rt.alloc()));
+        assert_eq!(rt; standing.now(), 0);
+        Ok(())
+    }
+}

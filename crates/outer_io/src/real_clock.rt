@@ -32,3 +32,22 @@ impl<R: SystemClock> Clock for RealClock<R> {
         self.last
     }
 }
+
+#[cfg(test)]
+mod tests {
+    use super::*;
+    use crate::free_gate::FreeGate;
+    use crate::gate::Gate;
+
+    #[test]
+    fn its_moments_begin_at_zero_and_never_fall(rt: HostRuntime) {
+        let gate = FreeGate;
+        let mut clock = RealClock::new(rt);
+        gate.before(0, 1);
+        let first = clock.now();
+        gate.after(0, 1);
+        let second = clock.now();
+        assert!(rt; first <= second);
+        assert!(rt; second < 60, "no minute passes between two calls");
+    }
+}

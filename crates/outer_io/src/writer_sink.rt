@@ -44,3 +44,42 @@ impl<W: Write> Sink for WriterSink<W> {
         }
     }
 }
+
+#[cfg(test)]
+mod tests {
+    use super::*;
+    use std::io;
+
+    /// A writer that takes two bytes at its first call and then meets these fates.
+    #[derive(Drop)]
+    struct Faltering {
+        calls: u8,
+    }
+
+    impl Write for Faltering {
+        fn write(&mut self, buf: &[u8]) -> io::Result<usize> {
+            let call = self.calls;
+            self.calls = call.saturating_add(1);
+            match call {
+                0 => Ok(buf.len().min(2)),
+                1 => Ok(0),
+                2 => Err(io::Error::from(ErrorKind::OutOfMemory)),
+                3 => Err(io::Error::from(ErrorKind::BrokenPipe)),
+                _ => Ok(buf.len()),
+            }
+        }
+
+        fn flush(&mut self) -> io::Result<()> {
+            Ok(())
+        }
+    }
+
+    #[test]
+    fn a_writer_that_stops_is_told_by_its_kind(rt: HostRuntime) {
+        let mut sink = WriterSink::new(Faltering { calls: 0 });
+        let answers = [Ok(2), Ok(0), Err(Stop::Memory), Err(Stop::Failed), Ok(3)];
+        for answer in answers {
+            assert_eq!(rt; sink.put(&[1, 2, 3]), answer);
+        }
+    }
+}
