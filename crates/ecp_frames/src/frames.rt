@@ -93,19 +93,30 @@ mod tests {
         0, 0, 0, 0, 0, 0, 1, 0, 2, 0x78, 0, 0, 1, 0x35,
     ];
 
+    /// Whether the next frame is there and is the update's.
+    fn gives_update(frames: &mut Frames) -> Result<bool, AllocError> {
+        match frames.next()? {
+            Some(body) => Ok(body.as_slice() == &UPDATE[4..]),
+            None => Ok(false),
+        }
+    }
+
     #[test]
     fn a_frame_is_the_same_whole_and_byte_by_byte(rt: HostRuntime) -> Result<(), Fail> {
-        for size in [43, 1, 7] {
+        let mut bytewise = Frames::new(rt.alloc());
+        for byte in UPDATE {
+            assert!(rt; bytewise.next()?.is_none());
+            bytewise.feed(&[byte])?;
+        }
+        assert!(rt; gives_update(&mut bytewise)?);
+        for cut in 0..43 {
+            let (front, back) = UPDATE.split_at(cut);
             let mut frames = Frames::new(rt.alloc());
-            for piece in UPDATE.chunks(size) {
-                assert!(rt; frames.next()?.is_none(), "in pieces of {size}");
-                frames.feed(piece)?;
-            }
-            match frames.next()? {
-                Some(body) => assert_eq!(rt; body.as_slice(), &UPDATE[4..], "in pieces of {size}"),
-                None => assert!(rt; false, "no frame in pieces of {size}"),
-            }
-            assert!(rt; frames.next()?.is_none(), "behind pieces of {size}");
+            frames.feed(front)?;
+            assert!(rt; frames.next()?.is_none(), "before the cut at {cut}");
+            frames.feed(back)?;
+            assert!(rt; gives_update(&mut frames)?, "behind the cut at {cut}");
+            assert!(rt; frames.next()?.is_none());
         }
         Ok(())
     }

@@ -157,14 +157,19 @@ mod tests {
         }
     }
 
+    /// Pushes an item, where its number is above those of the others.
+    fn push_newest(queue: &mut UpdateQueue, w: u64) -> Result<(), Full> {
+        if queue.as_slice().iter().all(|held| held.w < w) {
+            return queue.push(item(w));
+        }
+        Ok(())
+    }
+
     /// Pushes so many items, numbered from 1.
     fn filled(alloc: Global, count: u64) -> Result<UpdateQueue, Fail> {
         let mut queue = UpdateQueue::new(alloc)?;
         for w in 1..=count {
-            let is_newest = queue.as_slice().iter().all(|held| held.w < w);
-            if is_newest {
-                queue.push(item(w))?;
-            }
+            push_newest(&mut queue, w)?;
         }
         Ok(queue)
     }
@@ -174,9 +179,7 @@ mod tests {
         let mut queue = filled(rt.alloc(), 1024)?;
         assert_eq!(rt; queue.as_slice().len(), 1024);
         assert!(rt; queue.is_full());
-        let is_newest = queue.as_slice().iter().all(|held| held.w < 1025);
-        assert!(rt; is_newest);
-        match queue.push(item(1025)) {
+        match push_newest(&mut queue, 1025) {
             Ok(()) => assert!(rt; false, "a full queue took an item"),
             Err(refused) => assert_eq!(rt; refused.item.w, 1025),
         }
