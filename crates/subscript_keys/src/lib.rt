@@ -3,14 +3,30 @@
 
 mod decimal;
 mod key_bytes;
+mod key_error;
+mod limits;
 mod name;
+mod node;
+mod pair;
+mod pairs;
+mod run;
+mod span;
 mod sub;
 mod sub_text;
+mod subs;
 mod value_bytes;
 
 pub use decimal::Decimal;
 pub use key_bytes::KeyBytes;
+pub use key_error::KeyError;
+pub use limits::{DIGIT_LIMIT, GLOBAL_NAME_LIMIT, KEY_LIMIT, NODE_NAME_LIMIT, VALUE_LIMIT};
 pub use name::Name;
+pub use node::Node;
+pub use pair::Pair;
+pub use pairs::Pairs;
+pub use run::Run;
+pub use span::Span;
 pub use sub::Sub;
 pub use sub_text::SubText;
+pub use subs::Subs;
 pub use value_bytes::ValueBytes;
