@@ -1,0 +1,6 @@
+pub mod Entries
+pub mod PairMap
+pub mod Numbers
+pub mod Fold
+pub mod Conflict
+pub mod Own

@@ -14,6 +14,7 @@ mod name_list;
 mod op;
 mod question;
 mod refused;
+mod sum;
 mod trail;
 mod via;
 
@@ -29,5 +30,6 @@ pub use name_list::NameList;
 pub use op::Op;
 pub use question::Question;
 pub use refused::{LinkName, ReasonName, Refused};
+pub use sum::Sum;
 pub use trail::Trail;
 pub use via::Via;
