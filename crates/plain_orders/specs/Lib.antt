@@ -2,5 +2,7 @@ pub mod Entries
 pub mod PairMap
 pub mod Numbers
 pub mod Fold
-pub mod Conflict
+pub mod Ordered
+pub mod Answers
 pub mod Own
+pub mod Conflict
