@@ -6,3 +6,4 @@ pub mod Ordered
 pub mod Answers
 pub mod Own
 pub mod Conflict
+pub mod Spans
