@@ -1,4 +1,4 @@
-ghost use Rattle.std.specs.Prelude.{◌≡◌, ◌<◌, ◌≤◌, ◌^◌, IsTrue, length, pos, if◌then◌else◌};
+ghost use Rattle.std.specs.Prelude.{◌≡◌, ◌<◌, ◌≤◌, ◌^◌, IsTrue, IfOk, length, pos, if◌then◌else◌};
 ghost use Rattle.std.specs.List.{list_all};
 ghost use Rattle.plain_orders.specs.Numbers.{is_digit, is_natural, number_from, whole_of, decimal_text};
 
@@ -63,4 +63,12 @@ pub fn whole_of(bytes: &[u8]) -> Option<i64>
         Some(size) if size > 0 => Some(-size),
         _ => None,
     }
+}
+
+/// The decimal text of a number as a value.
+pub fn decimal_value(alloc: Global, number: i64) -> Result<ValueBytes, AllocError>
+    ensures { IfOk result (λ value. value ≡ decimal_text number) }
+{
+    let text = format!(in alloc; "{number}")?;
+    Ok(ValueBytes::from_vec(text.into_bytes()))
 }
