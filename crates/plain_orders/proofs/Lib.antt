@@ -1,1 +1,4 @@
 pub mod NumberLemmas
+pub mod EntryLemmas
+pub mod FoldLemmas
+pub mod OrderLemmas

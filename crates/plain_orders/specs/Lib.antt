@@ -2,6 +2,7 @@ pub mod Entries
 pub mod PairMap
 pub mod Numbers
 pub mod Fold
+pub mod Begun
 pub mod Ordered
 pub mod Answers
 pub mod Own

@@ -1,9 +1,16 @@
-ghost use Rattle.std.specs.Prelude.{◌≡◌, ◌+ℤ◌, OnOk, OnErr, IfOk};
+ghost use Rattle.std.specs.Prelude.{◌≡◌, ◌+ℤ◌, [], OnOk, OnErr, IfOk};
 ghost use Rattle.std.specs.Option.{option_copied};
 ghost use Rattle.plain_orders.specs.PairMap.{value_at, put, remove_under};
-ghost use Rattle.plain_orders.specs.Fold.{nothing_folded, sum_of, sum_with, with_sum};
+ghost use Rattle.plain_orders.specs.Fold.{nothing_folded, sum_of, sum_with, with_sum, op_sum, op_after, fold_step};
+ghost use Rattle.plain_orders.specs.Answers.{entry_sum};
+ghost use Rattle.plain_orders.specs.Spans.{entry_spans, IsAlone};
 
+use crate::applied::Applied;
+use crate::entry::Entry;
+use crate::op::Op;
+use crate::spans::Spans;
 use crate::sum::Sum;
+use crate::touched::op_spans;
 use crate::whole_number::{decimal_value, whole_of};
 use std::alloc::{AllocError, Global};
 use std::collections::BTreeMap;
@@ -44,6 +51,56 @@ impl PlainStore {
         ensures { option_copied result ≡ value_at self.now.pairs key.now }
     {
         self.pairs.get(key)
+    }
+
+    /// Takes one entry more. Where memory is wanting nothing changes.
+    pub fn apply(&mut self, alloc: Global, entry: &Entry) -> Result<Applied, AllocError>
+        requires { IsAlone entry.now }
+        ensures next { OnOk result (self.new ≡ fold_step self.old entry.now) }
+        ensures err { OnErr result (self.new ≡ self.old) }
+        ensures spans { IfOk result (λ applied. applied.spans ≡ entry_spans self.old entry.now) }
+        ensures sum { IfOk result (λ applied. applied.sum ≡ entry_sum self.old.pairs entry.now) }
+    {
+        match entry {
+            Entry::Update { op, .. } => {
+                let spans = op_spans(alloc, op)?;
+                let sum = self.apply_op(alloc, op)?;
+                Ok(Applied { spans, sum })
+            }
+            _ => {
+                self.has_no_transaction();
+                Ok(Applied {
+                    spans: Spans::new(alloc),
+                    sum: Sum::Nothing,
+                })
+            }
+        }
+    }
+
+    /// No transaction is open, since no entry of one was taken.
+    fn has_no_transaction(&self)
+        ensures { self.now.begun ≡ [] }
+    {
+        let _pairs = &self.pairs;
+    }
+
+    /// Does an operation. Where memory is wanting nothing changes.
+    fn apply_op(&mut self, alloc: Global, op: &Op) -> Result<Sum, AllocError>
+        ensures sum { IfOk result (λ sum. sum ≡ op_sum self.old.pairs op.now) }
+        ensures ok { OnOk result (self.new ≡ record self.old { pairs = op_after self.old.pairs op.now }) }
+        ensures err { OnErr result (self.new ≡ self.old) }
+    {
+        match op {
+            Op::Set { key, value } => {
+                self.set(key, value.clone()?)?;
+                Ok(Sum::Nothing)
+            }
+            Op::Kill { key } => {
+                self.kill(key);
+                Ok(Sum::Nothing)
+            }
+            Op::Add { key, amount } => self.add(alloc, key, *amount),
+        }
     }
 
     /// Puts a pair in place of another with its key.
