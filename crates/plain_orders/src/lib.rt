@@ -40,5 +40,6 @@ pub use question::Question;
 pub use refused::{LinkName, ReasonName, Refused};
 pub use spans::Spans;
 pub use sum::Sum;
+pub use touched::touches;
 pub use trail::Trail;
 pub use via::Via;
