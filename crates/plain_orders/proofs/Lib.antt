@@ -3,3 +3,4 @@ pub mod EntryLemmas
 pub mod FoldLemmas
 pub mod OrderLemmas
 pub mod SpanLemmas
+pub mod BegunLemmas

@@ -21,6 +21,7 @@ mod standing;
 mod sum;
 mod touched;
 mod trail;
+mod transaction_name;
 mod via;
 mod whole_number;
 
