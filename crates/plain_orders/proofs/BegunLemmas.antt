@@ -1,14 +1,12 @@
 -- Whether a transaction is open behind an entry.
-use Rattle.std.proofs.Common.{◌≡◌, ℕ, List, [], ◌∷◌, ◌++◌, refl, ap, ap₂, sym, subst, ◌∙◌, Bool, true, false, cond, if◌then◌else◌, not, nat_eq, ◌&&◌, ◌||◌, Option, Some, None}
+use Rattle.std.proofs.Common.{◌≡◌, ℕ, List, [], ◌∷◌, refl, ap, ap₂, sym, ◌∙◌, Bool, true, false, cond, if◌then◌else◌, not, nat_eq, ◌&&◌, ◌||◌, Some}
 use Rattle.std.specs.List.{list_any, filter}
-use Rattle.std.proofs.lemmas.Bool.{eqb-true, eq-eqb, and_parts, and_from, false≢true}
-use Rattle.plain_orders.specs.declared.op.Op.{Op}
+use Rattle.std.proofs.lemmas.Bool.{eqb-true, eq-eqb, and_parts}
 use Rattle.plain_orders.specs.declared.op.Op.TheVariants.{Set, Kill, Add}
 use Rattle.plain_orders.specs.declared.entry.Entry.{Entry}
 use Rattle.plain_orders.specs.declared.entry.Entry.TheVariants.{Epoch, Opened, Closed, Update, Commit, Rollback}
-use Rattle.plain_orders.specs.PairMap.{Map}
-use Rattle.plain_orders.specs.Fold.{Undo, OldValue, OldPairs, Transaction, Folded, undo_of, is_it, is_begun, with_undo, undo_added, beginning, noted, is_other, ended, is_elsewhere, fold_step, fold_from}
-use Rattle.plain_orders.specs.Begun.{can_be_undone, is_of_one, is_named, begun_after}
+use Rattle.plain_orders.specs.Fold.{Undo, Transaction, Folded, is_it, is_begun, with_undo, undo_added, noted, is_other, ended, is_elsewhere, fold_step, fold_from}
+use Rattle.plain_orders.specs.Begun.{is_named, begun_after}
 
 module _ {X : Type 0} (p q : X → Bool) where
   -- a filter that keeps all that pass leaves whether one passes

@@ -4,3 +4,4 @@ pub mod FoldLemmas
 pub mod OrderLemmas
 pub mod SpanLemmas
 pub mod BegunLemmas
+pub mod RisingLemmas

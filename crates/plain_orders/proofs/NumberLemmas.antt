@@ -4,7 +4,7 @@ use Rattle.std.specs.Fmt.{decimal, signed_decimal}
 use Rattle.std.proofs.lemmas.Fmt.{PrependsLastDigit, decimal_from_prepends, length-decimal-le_succ}
 use Rattle.std.proofs.lemmas.List.{append-nil}
 use Rattle.plain_orders.specs.Numbers.{digits_before, natural_text, decimal_text}
-use Rattle.std.proofs.Common.{List, [], ◌∷◌, ◌++◌, length, ℤ, pos, negsuc, ap, ◌∙◌, refl, rules, ◌≡◌, ℕ, suc, ◌+◌, ◌*◌, ◌^◌, ◌<◌, ◌≤◌, arith, pow-suc, lt_of_lt_of_le}
+use Rattle.std.proofs.Common.{[], ◌∷◌, ℤ, pos, negsuc, ap, ◌∙◌, rules, ◌≡◌, ℕ, suc, ◌^◌, ◌<◌, ◌≤◌, arith, lt_of_lt_of_le}
 use Rattle.std.proofs.Math.Nat.{pow-le-pow_right}
 
 -- fewer than eighteen digits

@@ -1,5 +1,5 @@
 -- Ordered lists, cut and extended.
-use Rattle.std.proofs.Common.{◌≡◌, List, [], ◌∷◌, ◌++◌, sym, subst, append_assoc}
+use Rattle.std.proofs.Common.{◌≡◌, ◌∙◌, ap, Bool, true, ◌↔◌, List, [], ◌∷◌, ◌++◌, sym, subst, append_assoc}
 use Rattle.std.proofs.lemmas.List.{append-nil}
 use Rattle.plain_orders.specs.declared.entry.Entry.{Entry}
 use Rattle.plain_orders.specs.Ordered.{MayFollow, OrderedFrom, IsOrdered}
@@ -38,3 +38,15 @@ ordered_by P step before (x ∷ es) o p h =
 -- what holds of the empty list, and goes on from an ordered list to one with an entry more, holds of each ordered list
 pub ordered_induction : (P : List Entry → Type 0) → P [] → ((es : List Entry) (e : Entry) → IsOrdered es → P es → MayFollow es e → P (es ++ e ∷ [])) → (es : List Entry) → IsOrdered es → P es
 ordered_induction P none step es o = ordered_by P step [] es tt none o
+
+-- a test of whether an entry may follow an ordered list tells whether the list goes on ordered by it
+pub next_decides : (xs es : List Entry) (e : Entry) (b d : Bool) → IsOrdered xs → xs ≡ es → b ≡ d → ((b ≡ true) ↔ MayFollow xs e) → (d ≡ true) ↔ IsOrdered (es ++ e ∷ [])
+next_decides xs es e b d o same is test = (
+  λ t. subst (λ (l : List Entry). IsOrdered (l ++ e ∷ [])) same (ordered-push xs e o (test.0 (is ∙ t))),
+  λ m. sym is ∙ test.1 (ordered-last xs e (subst (λ (l : List Entry). IsOrdered (l ++ e ∷ [])) (sym same) m)),
+)
+
+-- and then the list with it is ordered
+pub next_ordered : (xs ys : List Entry) (e x : Entry) (b : Bool) → IsOrdered xs → b ≡ true → ((b ≡ true) ↔ MayFollow xs e) → x ≡ e → ys ≡ xs ++ x ∷ [] → IsOrdered ys
+next_ordered xs ys e x b o is test same items =
+    subst IsOrdered (sym (items ∙ ap (λ y. xs ++ y ∷ []) same)) (ordered-push xs e o (test.0 is))

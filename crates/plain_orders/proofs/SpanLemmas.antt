@@ -1,5 +1,5 @@
 -- Byte strings against the end of the span of a node and its descendants.
-use Rattle.std.proofs.Common.{◌≡◌, ℕ, List, [], ◌∷◌, ◌++◌, refl, ap, sym, ◌∙◌, Bool, true, false, length, take, drop, nat_eq, nat_lt, ◌&&◌, zero, suc, ◌<◌, get_or, drop-cons, cond, arith, ◌↔◌}
+use Rattle.std.proofs.Common.{◌≡◌, ℕ, List, [], ◌∷◌, ◌++◌, refl, ap, sym, ◌∙◌, Bool, true, false, length, drop, nat_eq, nat_lt, ◌&&◌, zero, suc, ◌<◌, get_or, drop-cons, cond, arith, ◌↔◌}
 use Rattle.std.specs.declared.cmp.Ordering.{Ordering}
 use Rattle.std.specs.declared.cmp.Ordering.TheVariants.{Less, Equal, Greater}
 use Rattle.std.specs.Ordering.{nat_cmp, ordering_then, is_lt, is_ge}
@@ -8,7 +8,7 @@ use Rattle.std.specs.List.{starts_with}
 use Rattle.std.proofs.lemmas.Bool.{eqb-true, eq-eqb, and_parts, false≢true}
 use Rattle.subscript_keys.proofs.Orders.{nat_cmp-eq}
 use Rattle.subscript_keys.specs.Span.{Meet, span_lo, span_hi}
-use Rattle.subscript_keys.proofs.SpansMeet.{Crossing, crossing-from, meet-from}
+use Rattle.subscript_keys.proofs.SpansMeet.{crossing-from, meet-from}
 use Rattle.subscript_keys.proofs.Ties.{same_numbers}
 
 -- what begins with the node goes on against the byte FF
@@ -88,6 +88,7 @@ span_behind lo hi lo' hi' h m = sym (ap is_ge (crossing-from lo hi lo' hi' m).th
 
 -- else the span of a node and its descendants meets it where it begins before the end of that span
 pub node_span_meets : (node lo hi : List ℕ) (b : Bool) → is_ge (slice_cmp nat_cmp lo hi) ≡ false → is_ge (slice_cmp nat_cmp node hi) ≡ false → b ≡ is_lt (slice_cmp nat_cmp lo (span_hi node)) → (b ≡ true) ↔ Meet (span_lo node) (span_hi node) lo hi
-node_span_meets node lo hi b some before e =
-    (λ t. meet-from node (span_hi node) lo hi (record { first = own_end node; second = less_from_ge (slice_cmp nat_cmp lo hi) some; there = less_from_ge (slice_cmp nat_cmp node hi) before; back = less_from_lt (slice_cmp nat_cmp lo (span_hi node)) (sym e ∙ t) }),
-     λ m. e ∙ ap is_lt (crossing-from node (span_hi node) lo hi m).back)
+node_span_meets node lo hi b some before e = (
+  λ t. meet-from node (span_hi node) lo hi (record { first = own_end node; second = less_from_ge (slice_cmp nat_cmp lo hi) some; there = less_from_ge (slice_cmp nat_cmp node hi) before; back = less_from_lt (slice_cmp nat_cmp lo (span_hi node)) (sym e ∙ t) }),
+  λ m. e ∙ ap is_lt (crossing-from node (span_hi node) lo hi m).back,
+)

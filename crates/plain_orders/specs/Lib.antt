@@ -8,3 +8,4 @@ pub mod Answers
 pub mod Own
 pub mod Conflict
 pub mod Spans
+pub mod Laws

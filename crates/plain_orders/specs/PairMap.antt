@@ -1,10 +1,11 @@
 -- The map of pairs: key bytes and value bytes, rising by key bytes.
 use Rattle.std.specs.Prelude.{◌≡◌, ℕ, Bool, ◌&&◌, not, List, [], ◌∷◌, Option, filter, nat_eq, nat_lt, length}
 use Rattle.std.specs.List.{starts_with}
-use Rattle.std.specs.Ordering.{nat_cmp}
+use Rattle.std.specs.Ordering.{nat_cmp, is_lt, is_gt}
 use Rattle.std.specs.declared.cmp.Ordering.{Ordering}
 use Rattle.std.specs.declared.cmp.Ordering.TheVariants.{Less}
 use Rattle.std.specs.Cmp.Lexicographic.{slice_cmp}
+use Rattle.subscript_keys.specs.declared.span.Span.{Span}
 use Rattle.std.specs.Map.{lookup, remove_entry}
 use Rattle.std.specs.BTreeMap.{insert_entry, is_at}
 
@@ -55,6 +56,14 @@ pairs_under m node = filter (is_inside node) m
 abbrev pub put_all : Map → Map → Map
 put_all m [] = m
 put_all m (p ∷ ps) = put_all (put m p.0 p.1) ps
+
+-- whether a pair is in a span: not before its lower end, and before its upper
+abbrev pub is_in : Span → List ℕ × List ℕ → Bool
+is_in span p = not (is_gt (key_cmp span.lo p.0)) && is_lt (key_cmp p.0 span.hi)
+
+-- the pairs in a span
+abbrev pub within : Map → Span → Map
+within m span = filter (is_in span) m
 
 -- a key is before the first of a map
 abbrev pub IsBeforeAll : List ℕ → Map → Type 0

@@ -1,12 +1,11 @@
 -- The spans that an entry changes: those of what it does, or of what it undoes.
-use Rattle.std.specs.Prelude.{◌≡◌, ℕ, Bool, ◌==◌, if◌then◌else◌, List, [], ◌∷◌, ◌++◌, map, Option}
+use Rattle.std.specs.Prelude.{◌≡◌, ℕ, ◌==◌, if◌then◌else◌, List, [], ◌∷◌, ◌++◌, map}
 use Rattle.subscript_keys.specs.declared.span.Span.{Span}
 use Rattle.subscript_keys.specs.Span.{IsIn, Meet, span_lo, span_hi}
 use Rattle.plain_orders.specs.declared.op.Op.{Op}
 use Rattle.plain_orders.specs.declared.op.Op.TheVariants.{Set, Kill, Add}
 use Rattle.plain_orders.specs.declared.entry.Entry.{Entry}
 use Rattle.plain_orders.specs.declared.entry.Entry.TheVariants.{Epoch, Opened, Closed, Update, Commit, Rollback}
-use Rattle.plain_orders.specs.PairMap.{Map}
 use Rattle.plain_orders.specs.Fold.{Undo, OldValue, OldPairs, Transaction, Folded, undo_in}
 
 -- a node alone: only its own key is at or behind it and before its key with 00 behind

@@ -98,10 +98,16 @@ fn is_open_after(is_open: bool, entry: &Entry, name: TransactionName) -> bool
             ..
         } => is_open || name.is(*session, *job, *txn) && *txn != 0 && can_be_undone(op),
         Entry::Commit {
-            session, job, txn, ..
+            session,
+            job,
+            txn,
+            ..
         } => is_open && !name.is(*session, *job, *txn),
         Entry::Rollback {
-            session, job, txn, ..
+            session,
+            job,
+            txn,
+            ..
         } => is_open && !name.is(*session, *job, *txn),
         _ => is_open,
     }

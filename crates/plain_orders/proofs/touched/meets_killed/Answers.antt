@@ -1,4 +1,3 @@
-use Rattle.std.proofs.Common.{true, false}
 use Rattle.std.proofs.lemmas.Bool.{false≢true}
 use Rattle.plain_orders.proofs.SpanLemmas.{empty_span, span_behind, node_span_meets}
 use Rattle.plain_orders.proofs.touched.meets_killed.Goals as goal

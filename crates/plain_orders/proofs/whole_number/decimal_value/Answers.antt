@@ -1,6 +1,5 @@
 use lib.Signed.{mag}
-use Rattle.std.proofs.Common.{◌≡◌, ◌<◌, ◌^◌, ◌∙◌, sym, rules, arith}
-use Rattle.std.proofs.lemmas.Int.{ints}
+use Rattle.std.proofs.Common.{◌<◌, ◌^◌, rules}
 use Rattle.plain_orders.proofs.NumberLemmas.{decimal_text-signed}
 use Rattle.plain_orders.proofs.whole_number.decimal_value.Goals as goal
 
