@@ -20,6 +20,8 @@ mod refused;
 mod spans;
 mod standing;
 mod sum;
+#[cfg(test)]
+mod tests;
 mod touched;
 mod trail;
 mod transaction_name;
