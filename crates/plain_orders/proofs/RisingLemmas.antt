@@ -1,5 +1,5 @@
 -- The map of pairs rises by its keys whatever the entries do.
-use Rattle.std.proofs.Common.{◌≡◌, ℕ, List, [], ◌∷◌, refl, ap, sym, ◌∙◌, subst, Bool, true, false, cond, if◌then◌else◌, Option, Some, None, nat_eq}
+use Rattle.std.proofs.Common.{◌≡◌, ℕ, List, [], ◌∷◌, refl, ap, ◌∙◌, Bool, true, false, cond, if◌then◌else◌, Option, Some, None, nat_eq}
 use Rattle.std.specs.declared.cmp.Ordering.{Ordering}
 use Rattle.std.specs.declared.cmp.Ordering.TheVariants.{Less, Equal, Greater}
 use Rattle.std.specs.Ordering.{match_ordering, ordering_reverse}
@@ -12,7 +12,7 @@ use Rattle.plain_orders.specs.declared.entry.Entry.{Entry}
 use Rattle.plain_orders.specs.declared.entry.Entry.TheVariants.{Epoch, Opened, Closed, Update, Commit, Rollback}
 use Rattle.plain_orders.specs.declared.sum.Sum.{Sum}
 use Rattle.plain_orders.specs.declared.sum.Sum.TheVariants.{Nothing, Whole, NotWhole, Range}
-use Rattle.plain_orders.specs.PairMap.{Map, key_cmp, put, remove_under, is_outside, put_all, IsBeforeAll, IsRising}
+use Rattle.plain_orders.specs.PairMap.{Map, key_cmp, put, is_outside, put_all, IsBeforeAll, IsRising}
 use Rattle.plain_orders.specs.Fold.{Undo, OldValue, OldPairs, Transaction, Folded, with_sum, op_sum, op_after, value_back, undone, all_undone, undo_in, session_undone, fold_step, fold_from, nothing_folded, fold}
 
 before_put : (q k v : List ℕ) (m : Map) → key_cmp q k ≡ Less → IsBeforeAll q m → IsBeforeAll q (put m k v)

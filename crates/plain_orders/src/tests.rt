@@ -1,4 +1,5 @@
 ghost use Rattle.std.specs.Prelude.{IfOk};
+ghost use Rattle.plain_orders.specs.Ordered.{HasKey};
 ghost use Rattle.plain_orders.specs.Spans.{IsAlone};
 
 use super::*;
@@ -107,6 +108,55 @@ fn an_update_touches_spans(rt: HostRuntime) -> Result<(), Fail> {
         };
         let entry = update(alloc, node, change)?;
         assert_eq!(rt; touches(&entry, &span), want);
+    }
+    Ok(())
+}
+
+/// An entry with no key.
+#[derive(Clone, Copy)]
+enum Step {
+    Epoch(u32),
+    Open(u64, u8),
+    Close(u64),
+    Commit(u64, u64),
+}
+
+fn entry(step: Step) -> Entry
+    ensures { HasKey result }
+{
+    match step {
+        Step::Epoch(number) => Entry::Epoch { number },
+        Step::Open(session, app) => Entry::Opened { session, app },
+        Step::Close(session) => Entry::Closed { session },
+        Step::Commit(session, w) => Entry::Commit {
+            session,
+            w,
+            job: 0,
+            txn: 1,
+        },
+    }
+}
+
+#[test]
+fn an_order_takes_what_may_follow(rt: HostRuntime) -> Result<(), Fail> {
+    let mut check = OrderCheck::new(rt.alloc());
+    let rows = [
+        (Step::Open(1, 0), false),
+        (Step::Epoch(2), false),
+        (Step::Epoch(1), true),
+        (Step::Open(2, 0), true),
+        (Step::Open(3, 0), false),
+        (Step::Open(4, 1), false),
+        (Step::Open(3, 1), true),
+        (Step::Commit(2, 1), false),
+        (Step::Close(2), true),
+        (Step::Close(2), false),
+        (Step::Open(5, 0), true),
+        (Step::Epoch(3), false),
+        (Step::Epoch(2), true),
+    ];
+    for (step, want) in rows {
+        assert_eq!(rt; check.next_of_key(&entry(step))?, want);
     }
     Ok(())
 }
