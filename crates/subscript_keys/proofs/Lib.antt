@@ -6,3 +6,5 @@ pub mod KeyOrders
 pub mod Ties
 pub mod Spans
 pub mod SpansMeet
+pub mod NumberBytes
+pub mod KeyForms
