@@ -8,3 +8,8 @@ pub mod Spans
 pub mod SpansMeet
 pub mod NumberBytes
 pub mod KeyForms
+pub mod TextParts
+pub mod PartNumbers
+pub mod DigitTurns
+pub mod PartWrites
+pub mod NumberTexts

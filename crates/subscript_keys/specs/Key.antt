@@ -85,3 +85,12 @@ HasForm (Text text) = IsNumberText text → ⊥
 abbrev pub HasEmpty : List Sub → Type 0
 HasEmpty [] = ⊥
 HasEmpty (s ∷ ss) = (s ≡ Text []) ⊎ HasEmpty ss
+
+-- bytes of digits, raised or lowered
+abbrev pub ArePlaces : List ℕ → Type 0
+ArePlaces bs = AllByRecursion (λ b. (1 ≤ b) × (b ≤ 10)) bs
+
+-- no byte of a digit comes first
+abbrev pub BeginsWithNoPlace : List ℕ → Type 0
+BeginsWithNoPlace [] = Unit {0}
+BeginsWithNoPlace (b ∷ bs) = (1 ≤ b) × (b ≤ 10) → ⊥
