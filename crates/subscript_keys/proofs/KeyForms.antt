@@ -1,5 +1,5 @@
 -- A node whose subscripts have their forms, and whose key is bytes, is a node.
-use Rattle.std.proofs.Common.{◌≡◌, ◌≢◌, ℕ, suc, ◌+◌, ◌<◌, List, [], ◌∷◌, ◌++◌, length, get_or, refl, sym, ap, subst, ◌∙◌, inl, inr, arith}
+use Rattle.std.proofs.Common.{◌≡◌, ℕ, suc, ◌<◌, List, [], ◌∷◌, ◌++◌, get_or, ap, subst, inl, inr, arith}
 use Rattle.std.specs.List.{AllByRecursion}
 use Rattle.std.proofs.lemmas.Bool.{cases_eq}
 use Rattle.subscript_keys.specs.declared.sub.Sub.{Sub}
@@ -23,16 +23,17 @@ bytes-read (c ∷ s) p = (p 0, bytes-read s (λ k. let next : get_or (c ∷ s) (
 unescaped-bytes : (t : List ℕ) → AreBytes (escaped t) → AreBytes t
 unescaped-bytes [] p = tt
 unescaped-bytes (c ∷ t) p = elim (cases_eq c 0) [
-    inl e ↦ let q : AreBytes (0 ∷ 0xFF ∷ escaped t) = subst AreBytes (escaped-zero c t e) p in (omega arith, unescaped-bytes t q.1.1)
-  | inr n ↦ let q : AreBytes (c ∷ escaped t) = subst AreBytes (escaped-more c t n) p in (q.0, unescaped-bytes t q.1) ]
+  | inl e ↦ let q : AreBytes (0 ∷ 0xFF ∷ escaped t) = subst AreBytes (escaped-zero c t e) p in (omega arith, unescaped-bytes t q.1.1)
+  | inr n ↦ let q : AreBytes (c ∷ escaped t) = subst AreBytes (escaped-more c t n) p in (q.0, unescaped-bytes t q.1)
+]
 
 text-form : (t : List ℕ) → HasForm (Text t) → (Text t ≡ Text [] → ⊥) → AreBytes (text_bytes t) → IsSub (Text t)
 unfolding text_bytes
 text-form t p full q = record {
-    some = λ e. full (ap Text e);
-    no_number = p;
-    bytes = unescaped-bytes t (bytes-parts (escaped t) (0 ∷ 1 ∷ []) q.1).0;
-  }
+  some = λ e. full (ap Text e);
+  no_number = p;
+  bytes = unescaped-bytes t (bytes-parts (escaped t) (0 ∷ 1 ∷ []) q.1).0;
+}
 
 sub-form : (s : Sub) → HasForm s → (s ≡ Text [] → ⊥) → AreBytes (sub_bytes s) → IsSub s
 sub-form (Num d) p full q = p

@@ -13,3 +13,6 @@ pub mod PartNumbers
 pub mod DigitTurns
 pub mod PartWrites
 pub mod NumberTexts
+pub mod PlaceTurns
+pub mod Shortness
+pub mod TextReads

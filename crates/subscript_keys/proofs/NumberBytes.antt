@@ -1,9 +1,8 @@
 -- What writing a number's bytes needs.
-use Rattle.std.proofs.Common.{◌≡◌, ℕ, suc, ◌+◌, ◌-◌, ◌<◌, ◌≤◌, List, length, arith, ℤ, pos, negsuc, ◌≤ℤ◌}
+use Rattle.std.proofs.Common.{◌≡◌, ℕ, ◌+◌, ◌<◌, ◌≤◌, List, arith, ℤ, pos, negsuc, ◌≤ℤ◌}
 use Rattle.std.proofs.lemmas.Int.{ints}
 use Rattle.subscript_keys.specs.declared.decimal.Decimal.{Decimal}
 use Rattle.subscript_keys.specs.Decimal.{digits, plus, minus, IsShort}
-use Rattle.subscript_keys.proofs.Fractions.{IsFraction}
 use Rattle.subscript_keys.proofs.NumberForms.{ExponentFits, exponent-fits, short-fraction}
 use Rattle.subscript_keys.proofs.Ties.{fraction-wide}
 

@@ -1,11 +1,11 @@
 -- A number's text is canonical, and no other number has it.
-use Rattle.std.proofs.Common.{◌≡◌, ◌≢◌, ◌⊎◌, ℕ, zero, suc, ◌+◌, ◌-◌, ◌*◌, ◌^◌, ◌%◌, ◌<◌, ◌≤◌, ◌==◌, Bool, true, false, List, [], ◌∷◌, ◌++◌, map, length, take, drop, replicate, get_or, refl, sym, ap, subst, ◌∙◌, inl, inr, arith, ℤ, pos, negsuc, ◌≤ℤ◌, ◌<ℤ◌, append_assoc, length-append}
+use Rattle.std.proofs.Common.{◌≡◌, ◌≢◌, ℕ, zero, suc, ◌+◌, ◌-◌, ◌*◌, ◌^◌, ◌<◌, ◌≤◌, Bool, true, false, List, [], ◌∷◌, ◌++◌, length, take, drop, replicate, get_or, refl, sym, ap, subst, ◌∙◌, inl, inr, arith, ℤ, pos, negsuc, ◌≤ℤ◌, ◌<ℤ◌, append_assoc, length-append}
 use Rattle.std.specs.Prelude.{if◌then◌else◌, unsigned_abs}
 use Rattle.std.proofs.lemmas.Int.{ints}
 use Rattle.std.proofs.lemmas.Bool.{cases_lt, eq-eqb, ne_eqb, eqb-false}
-use Rattle.std.proofs.lemmas.List.{append-nil, map-append, take_all, drop_all, take-append-drop, length-take, length-drop, length-replicate, nil_from_length}
+use Rattle.std.proofs.lemmas.List.{append-nil, map-append, take_all, drop_all, take-append-drop, length-take, length-drop, length-replicate}
 use Rattle.subscript_keys.specs.declared.decimal.Decimal.{Decimal}
-use Rattle.subscript_keys.specs.Decimal.{digits, plus, whole_digits, fraction_digits, AreDigits, AreDigitCharacters, AreCanonical, BeginsAboveZero, EndsAboveZero, BeginsWithNoDigit, IsShort, IsZero, IsDecimal, IsNumberText, decimal_text, number_text, sign_text, digit_text, fraction_text, digits_read, scaled_size}
+use Rattle.subscript_keys.specs.Decimal.{digits, plus, whole_digits, fraction_digits, AreDigits, AreCanonical, BeginsAboveZero, EndsAboveZero, BeginsWithNoDigit, IsShort, IsZero, IsDecimal, IsNumberText, decimal_text, number_text, sign_text, digit_text, fraction_text, scaled_size}
 use Rattle.subscript_keys.proofs.Fractions.{filled, IsFraction}
 use Rattle.subscript_keys.proofs.NumberForms.{short-above, short-fraction, short-size, zero-null}
 use Rattle.subscript_keys.proofs.Ties.{same-shorts, same-number}
@@ -44,13 +44,13 @@ parts-canonical (pos x) w (d ∷ ds) p limit =
       limit = limit;
     }
 parts-canonical (negsuc x) w (d ∷ ds) p limit = record {
-    whole_digits = tt;
-    fraction_digits = digits-append (replicate (suc x) 0) (d ∷ ds) (digits-zeros (suc x)) p.digits;
-    first = tt;
-    last = ends-zeros (suc x) d ds p.last;
-    some = omega (arith, length-append (replicate (suc x) 0) (d ∷ ds));
-    limit = limit;
-  }
+  whole_digits = tt;
+  fraction_digits = digits-append (replicate (suc x) 0) (d ∷ ds) (digits-zeros (suc x)) p.digits;
+  first = tt;
+  last = ends-zeros (suc x) d ds p.last;
+  some = omega (arith, length-append (replicate (suc x) 0) (d ∷ ds));
+  limit = limit;
+}
 
 pub short-canonical : (d : Decimal) → IsShort d → AreCanonical (whole_digits (digits d.digits) d.exponent) (fraction_digits (digits d.digits) d.exponent)
 short-canonical d s = parts-canonical d.exponent (plus 18 d.exponent) (digits d.digits) (short-fraction d s) s.limit
@@ -90,13 +90,14 @@ size-parts (pos x) ds limit =
     let long : length (take x ds ++ replicate (x - k) 0) ≡ x = omega (arith, length-append (take x ds) (replicate (x - k) 0), length-take x ds, length-replicate {A = ℕ} (x - k) 0) in
     let width : 18 + x ≡ 18 + length (take x ds ++ replicate (x - k) 0) = omega arith in
     elim (cases_lt x k) [
-      inl l ↦
-        let none : x - k ≡ 0 = omega arith in
-        let all : (take x ds ++ replicate (x - k) 0) ++ drop x ds ≡ ds = ap (λ n. (take x ds ++ replicate n 0) ++ drop x ds) none ∙ ap (λ t. t ++ drop x ds) (append-nil (take x ds)) ∙ take-append-drop x ds in
-        ap (λ n. filled n ds) width ∙ ap (filled (18 + length (take x ds ++ replicate (x - k) 0))) (sym all)
-    | inr g ↦
-        let all : (take x ds ++ replicate (x - k) 0) ++ drop x ds ≡ ds ++ replicate (x - k) 0 = ap (λ t. (take x ds ++ replicate (x - k) 0) ++ t) (drop_all x ds g) ∙ append-nil (take x ds ++ replicate (x - k) 0) ∙ ap (λ t. t ++ replicate (x - k) 0) (take_all x ds g) in
-        ap (λ n. filled n ds) width ∙ sym (filled-zeros (18 + length (take x ds ++ replicate (x - k) 0)) ds (x - k)) ∙ ap (filled (18 + length (take x ds ++ replicate (x - k) 0))) (sym all) ]
+      | inl l ↦
+          let none : x - k ≡ 0 = omega arith in
+          let all : (take x ds ++ replicate (x - k) 0) ++ drop x ds ≡ ds = ap (λ n. (take x ds ++ replicate n 0) ++ drop x ds) none ∙ ap (λ t. t ++ drop x ds) (append-nil (take x ds)) ∙ take-append-drop x ds in
+          ap (λ n. filled n ds) width ∙ ap (filled (18 + length (take x ds ++ replicate (x - k) 0))) (sym all)
+      | inr g ↦
+          let all : (take x ds ++ replicate (x - k) 0) ++ drop x ds ≡ ds ++ replicate (x - k) 0 = ap (λ t. (take x ds ++ replicate (x - k) 0) ++ t) (drop_all x ds g) ∙ append-nil (take x ds ++ replicate (x - k) 0) ∙ ap (λ t. t ++ replicate (x - k) 0) (take_all x ds g) in
+          ap (λ n. filled n ds) width ∙ sym (filled-zeros (18 + length (take x ds ++ replicate (x - k) 0)) ds (x - k)) ∙ ap (filled (18 + length (take x ds ++ replicate (x - k) 0))) (sym all)
+    ]
 size-parts (negsuc x) ds limit =
     let short : suc x ≤ 18 = omega (arith, length-append (replicate (suc x) 0) ds, length-replicate {A = ℕ} (suc x) 0) in
     let width : suc x + (18 - suc x) ≡ 18 + 0 = omega arith in
@@ -126,18 +127,17 @@ shorts-one-text a b p q e =
     let ca = short-canonical a p in
     let cb = short-canonical b q in
     let parts = one-text (decimal_text a) (digit_text wa ++ fraction_text fa) (digit_text wa) (fraction_text fa) a.negative b.negative wb fb
-      (short-text a p ∙ append_assoc (sign_text a.negative) (digit_text wa) (fraction_text fa)) (λ _ rest k. digits-no-sign wa fa rest ca.whole_digits k) refl (text-characters wa ca.whole_digits) (fraction-begins fa) cb.whole_digits (e ∙ short-text b q) in
+    (short-text a p ∙ append_assoc (sign_text a.negative) (digit_text wa) (fraction_text fa)) (λ _ rest k. digits-no-sign wa fa rest ca.whole_digits k) refl (text-characters wa ca.whole_digits) (fraction-begins fa) cb.whole_digits (e ∙ short-text b q) in
     let whole : wa ≡ wb = sym (read-text wa) ∙ parts.whole in
     let fraction : fa ≡ fb = one-fraction fa fb parts.rest in
     let sizes : scaled_size a ≡ scaled_size b =
-      short-size a p ∙ size-parts a.exponent (digits a.digits) p.limit
-      ∙ ap (λ w. filled (18 + length w) (w ++ fa)) whole ∙ ap (λ f. filled (18 + length wb) (wb ++ f)) fraction
-      ∙ sym (short-size b q ∙ size-parts b.exponent (digits b.digits) q.limit) in
+    short-size a p ∙ size-parts a.exponent (digits a.digits) p.limit
+    ∙ ap (λ w. filled (18 + length w) (w ++ fa)) whole ∙ ap (λ f. filled (18 + length wb) (wb ++ f)) fraction
+    ∙ sym (short-size b q ∙ size-parts b.exponent (digits b.digits) q.limit) in
     same-shorts a b p q parts.sign sizes
 
 -- one text, one number
 pub one-number : (a b : Decimal) → IsDecimal a → IsDecimal b → decimal_text a ≡ decimal_text b → a ≡ b
-
 one-number a b (inl p) (inl q) e = same-number a b (inl p) (inl q) ((zero-null a p).value ∙ sym (zero-null b q).value)
 one-number a b (inl p) (inr q) e = absurd (no-zero b.negative _ _ (short-canonical b q) (sym (short-text b q) ∙ sym e ∙ zero-text a p))
 one-number a b (inr p) (inl q) e = absurd (no-zero a.negative _ _ (short-canonical a p) (sym (short-text a p) ∙ e ∙ zero-text b q))
@@ -162,8 +162,9 @@ null-zero = record { digits = refl; exponent = refl; negative = refl }
 -- a text that is neither 0 nor of parts
 pub no-text : (text : List ℕ) (d : Decimal) → IsDecimal d → decimal_text d ≡ text → (text ≡ 48 ∷ [] → ⊥) → ((negative : Bool) (w f : List ℕ) → AreCanonical w f → text ≢ number_text negative w f) → ⊥
 no-text text d p e other none = elim (text-canonical d p) [
-    inl z ↦ other (sym e ∙ z)
-  | inr parts ↦ none parts.0 parts.1 parts.2 parts.3 (sym e ∙ parts.4) ]
+  | inl z ↦ other (sym e ∙ z)
+  | inr parts ↦ none parts.0 parts.1 parts.2 parts.3 (sym e ∙ parts.4)
+]
 
 pub text_is_canonical : (d : Decimal) → IsDecimal d → IsNumberText (decimal_text d)
 text_is_canonical d p = text-canonical d p

@@ -1,19 +1,17 @@
 -- The number that the parts of a text write, and the parts of a number's text.
-use Rattle.std.proofs.Common.{◌≡◌, ◌≢◌, ◌⊎◌, ℕ, zero, suc, ◌+◌, ◌-◌, ◌*◌, ◌^◌, ◌/◌, ◌%◌, ◌<◌, ◌≤◌, ◌==◌, Bool, true, false, List, [], ◌∷◌, ◌++◌, map, length, take, drop, replicate, get_or, refl, sym, ap, subst, ◌∙◌, inl, inr, arith, ℤ, pos, negsuc, neg_ℤ, append_assoc, length-append}
+use Rattle.std.proofs.Common.{◌≡◌, ◌≢◌, ℕ, zero, suc, ◌+◌, ◌-◌, ◌*◌, ◌^◌, ◌%◌, ◌<◌, ◌≤◌, List, [], ◌∷◌, ◌++◌, length, take, drop, replicate, get_or, refl, sym, ap, ◌∙◌, arith, pos, neg_ℤ, append_assoc, length-append}
 use Rattle.std.specs.Prelude.{if◌then◌else◌}
-use Rattle.std.specs.List.{AllByRecursion}
 use Rattle.std.specs.Int.Digits.{number_from_digits, number_from_digits_after}
-use Rattle.std.proofs.lemmas.Bool.{cases_lt, eq-eqb, ne_eqb}
+use Rattle.std.proofs.lemmas.Bool.{ne_eqb}
 use Rattle.std.proofs.lemmas.Nat.{div-mul-add, mod-mul-add, mul-le, pow-add}
-use Rattle.std.proofs.lemmas.List.{append-nil, take_all, drop_all, take_at, drop_at, take-append-drop, length-take, length-drop, length-replicate, length-map, nil_from_length}
-use Rattle.std.proofs.lemmas.Int.Digits.{number_lt, number_after_append}
+use Rattle.std.proofs.lemmas.List.{append-nil, take_all, drop_all, take_at, drop_at, length-replicate, length-map}
+use Rattle.std.proofs.lemmas.Int.Digits.{number_lt}
 use Rattle.std.proofs.Math.Nat.{pow-suc, pow-le-pow_right, one-le-pow}
 use Rattle.subscript_keys.specs.declared.decimal.Decimal.{Decimal}
-use Rattle.subscript_keys.specs.Decimal.{digits, plus, whole_digits, fraction_digits, AreDigits, AreCanonical, BeginsAboveZero, EndsAboveZero, AreDigitCharacters, IsShort, IsZero, IsDecimal, IsNumberText, decimal_text, number_text, sign_text, digit_text, fraction_text, digits_read, scaled_size}
-use Rattle.subscript_keys.proofs.Fractions.{filled, IsFraction, digits-are, digits-first, digits-step, digits-last, digits-zero, digits-number}
-use Rattle.subscript_keys.proofs.NumberForms.{short-above, short-fraction, short-size}
-use Rattle.subscript_keys.proofs.Ties.{same-shorts, same-number}
-use Rattle.subscript_keys.proofs.TextParts.{read-digits, one-text, one-fraction, text-read, read-text, text-characters}
+use Rattle.subscript_keys.specs.Decimal.{digits, whole_digits, fraction_digits, AreDigits, AreCanonical, BeginsAboveZero, EndsAboveZero, AreDigitCharacters, IsShort, decimal_text, number_text, digits_read}
+use Rattle.subscript_keys.proofs.Fractions.{digits-step, digits-zero}
+use Rattle.subscript_keys.proofs.NumberForms.{short-above}
+use Rattle.subscript_keys.proofs.TextParts.{read-digits}
 
 digits-push : (n d : ℕ) → d < 10 → 0 < n * 10 + d → digits (n * 10 + d) ≡ digits n ++ d ∷ []
 digits-push n d h k =
@@ -78,9 +76,9 @@ pub record Writes (d : Decimal) (w f : List ℕ) : Type 0 where
 
 pub written-short : (d : Decimal) (w f : List ℕ) → AreCanonical w f → Writes d w f → IsShort d
 written-short d w f c e = record {
-    last = e.last;
-    limit = omega (arith, c.limit, ap length e.whole, ap length e.fraction);
-  }
+  last = e.last;
+  limit = omega (arith, c.limit, ap length e.whole, ap length e.fraction);
+}
 
 pub written-text : (d : Decimal) (w f : List ℕ) → AreCanonical w f → Writes d w f → decimal_text d ≡ number_text d.negative w f
 unfolding decimal_text
@@ -98,8 +96,8 @@ whole-writes d w n x last e zeros =
     record {
       last = last;
       whole = ap (whole_digits (digits d.digits)) x
-        ∙ ap (λ ds. ds ++ replicate (length w - length (digits d.digits)) 0) (take_all (length w) (digits d.digits) (omega arith))
-        ∙ ap (λ k. digits d.digits ++ replicate (k - length (digits d.digits)) 0) (sym same) ∙ zeros ∙ e;
+          ∙ ap (λ ds. ds ++ replicate (length w - length (digits d.digits)) 0) (take_all (length w) (digits d.digits) (omega arith))
+          ∙ ap (λ k. digits d.digits ++ replicate (k - length (digits d.digits)) 0) (sym same) ∙ zeros ∙ e;
       fraction = ap (fraction_digits (digits d.digits)) x ∙ drop_all (length w) (digits d.digits) (omega arith);
     }
 
@@ -112,8 +110,8 @@ both-write d w f x last e =
     record {
       last = last;
       whole = ap (whole_digits (digits d.digits)) x
-        ∙ ap (λ k. take (length w) (digits d.digits) ++ replicate k 0) none
-        ∙ append-nil (take (length w) (digits d.digits)) ∙ ap (take (length w)) e ∙ take_at w f (length w) refl;
+          ∙ ap (λ k. take (length w) (digits d.digits) ++ replicate k 0) none
+          ∙ append-nil (take (length w) (digits d.digits)) ∙ ap (take (length w)) e ∙ take_at w f (length w) refl;
       fraction = ap (fraction_digits (digits d.digits)) x ∙ ap (drop (length w)) e ∙ drop_at w f (length w) refl;
     }
 

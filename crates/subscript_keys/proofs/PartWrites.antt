@@ -1,17 +1,14 @@
 -- What the three cases of a canonical text's parts write, and that a text is written by one number.
-use Rattle.std.proofs.Common.{◌≡◌, ◌≢◌, ◌⊎◌, ℕ, zero, suc, ◌+◌, ◌-◌, ◌*◌, ◌^◌, ◌%◌, ◌<◌, ◌≤◌, ◌==◌, Bool, true, false, List, [], ◌∷◌, ◌++◌, map, length, take, drop, replicate, get_or, refl, sym, ap, subst, ◌∙◌, inl, inr, arith, ℤ, pos, negsuc, neg_ℤ, append_assoc, length-append}
-use Rattle.std.specs.Prelude.{if◌then◌else◌}
+use Rattle.std.proofs.Common.{◌≡◌, ◌≢◌, ℕ, zero, suc, ◌+◌, ◌-◌, ◌%◌, ◌<◌, ◌≤◌, false, List, [], ◌∷◌, ◌++◌, length, replicate, get_or, refl, sym, ap, subst, ◌∙◌, inl, inr, arith, pos, neg_ℤ, length-append}
 use Rattle.std.specs.Int.Digits.{number_from_digits, number_from_digits_after}
-use Rattle.std.proofs.lemmas.Bool.{cases_lt, eq-eqb, ne_eqb, eqb-false}
-use Rattle.std.proofs.lemmas.List.{append-nil, take_all, drop_all, take-append-drop, length-map, length-replicate, nil_from_length}
+use Rattle.std.proofs.lemmas.Bool.{cases_lt}
+use Rattle.std.proofs.lemmas.List.{append-nil, length-map, nil_from_length}
 use Rattle.std.proofs.lemmas.Int.Digits.{number_after_append}
 use Rattle.subscript_keys.specs.declared.decimal.Decimal.{Decimal}
-use Rattle.subscript_keys.specs.Decimal.{digits, plus, whole_digits, fraction_digits, AreDigits, AreDigitCharacters, AreCanonical, BeginsAboveZero, EndsAboveZero, IsShort, IsZero, IsDecimal, IsNumberText, decimal_text, number_text, sign_text, digit_text, fraction_text, digits_read, scaled_size}
-use Rattle.subscript_keys.proofs.Fractions.{filled, IsFraction, digits-are, digits-zero}
-use Rattle.subscript_keys.proofs.NumberForms.{exponent-fits, short-above, short-fraction, short-size}
-use Rattle.subscript_keys.proofs.Ties.{same-shorts, same-number}
-use Rattle.subscript_keys.proofs.TextParts.{one-text, one-fraction, read-digits, text-read, read-text, text-characters}
-use Rattle.subscript_keys.proofs.PartNumbers.{Writes, digits-written, last-written, digits-append, digits-split, digits-zeros, whole-writes, both-write, fraction-writes, begins-first, first-append}
+use Rattle.subscript_keys.specs.Decimal.{digits, fraction_digits, AreDigits, AreCanonical, EndsAboveZero, digits_read}
+use Rattle.subscript_keys.proofs.Fractions.{digits-zero}
+use Rattle.subscript_keys.proofs.NumberForms.{exponent-fits}
+use Rattle.subscript_keys.proofs.PartNumbers.{Writes, digits-written, last-written, digits-append, whole-writes, both-write, fraction-writes, begins-first, first-append}
 
 pub record Parts (W F : List ℕ) (v : ℕ) : Type 0 where
   pub canonical : AreCanonical (digits_read W) (digits_read F)
@@ -21,11 +18,11 @@ pub record Parts (W F : List ℕ) (v : ℕ) : Type 0 where
 
 pub parts-from : (W F : List ℕ) (u v : ℕ) → AreCanonical (digits_read W) (digits_read F) → u ≡ number_from_digits_after 10 0 (digits_read W) → v ≡ number_from_digits_after 10 u (digits_read F) → Parts W F v
 parts-from W F u v c e g = record {
-    canonical = c;
-    value = g ∙ ap (λ n. number_from_digits_after 10 n (digits_read F)) e ∙ sym (number_after_append 10 0 (digits_read W) (digits_read F));
-    limit = omega (arith, c.limit, length-map W (λ x. x - 48), length-map F (λ x. x - 48));
-    some = omega (arith, c.some, length-map W (λ x. x - 48), length-map F (λ x. x - 48));
-  }
+  canonical = c;
+  value = g ∙ ap (λ n. number_from_digits_after 10 n (digits_read F)) e ∙ sym (number_after_append 10 0 (digits_read W) (digits_read F));
+  limit = omega (arith, c.limit, length-map W (λ x. x - 48), length-map F (λ x. x - 48));
+  some = omega (arith, c.some, length-map W (λ x. x - 48), length-map F (λ x. x - 48));
+}
 
 nothing-read : (F : List ℕ) → length F ≡ 0 → digits_read F ≡ []
 nothing-read F h = ap digits_read (nil_from_length F h)
@@ -44,11 +41,12 @@ whole-digits W F v p h =
 -- no digits, no number
 pub whole-above : (W F : List ℕ) (v : ℕ) → Parts W F v → length F ≡ 0 → 0 < v
 whole-above W F v p h = elim (cases_lt 0 v) [
-    inl l ↦ l
+  | inl l ↦ l
   | inr z ↦
-    let zero' : v ≡ 0 = omega arith in
-    let none : digits_read W ≡ [] = sym (whole-digits W F v p h) ∙ ap digits zero' ∙ digits-zero in
-    absurd (omega (arith, p.some, read-length W, ap length none)) ]
+      let zero' : v ≡ 0 = omega arith in
+      let none : digits_read W ≡ [] = sym (whole-digits W F v p h) ∙ ap digits zero' ∙ digits-zero in
+      absurd (omega (arith, p.some, read-length W, ap length none))
+]
 
 pub whole-case : (d : Decimal) (W F : List ℕ) (v : ℕ) → Parts W F v → length F ≡ 0 → d.exponent ≡ pos (length W) → d.digits % 10 ≢ 0 → digits d.digits ++ replicate (length (digits v) - length (digits d.digits)) 0 ≡ digits v → Writes d (digits_read W) (digits_read F)
 whole-case d W F v p h x last zeros =
@@ -76,7 +74,7 @@ both-case d W F p l k x =
     let f = digits_read F in
     let first : 0 < get_or (w ++ f) 0 0 = rw (first-append w f (omega (arith, read-length W))) (begins-first w p.canonical.first (omega (arith, read-length W))) in
     both-write d w f (x ∙ ap pos (sym (read-length W))) (last-case W F d.digits p k)
-      (ap digits p.value ∙ digits-written (w ++ f) (digits-append w f p.canonical.whole_digits p.canonical.fraction_digits) first)
+    (ap digits p.value ∙ digits-written (w ++ f) (digits-append w f p.canonical.whole_digits p.canonical.fraction_digits) first)
 
 -- how many digits the number without its point and zeros has at most
 pub fraction-shorter : (W F : List ℕ) (v : ℕ) → Parts W F v → length W ≡ 0 → 0 < length F → length (digits v) ≤ length F

@@ -1,9 +1,8 @@
 -- A number's text has one sign, one list of digits before the point and one behind it.
-use Rattle.std.proofs.Common.{◌≡◌, ◌≢◌, ◌↔◌, ◌⊎◌, ℕ, zero, suc, ◌+◌, ◌-◌, ◌<◌, ◌≤◌, Bool, true, false, not, List, [], ◌∷◌, ◌++◌, map, length, get_or, refl, sym, ap, subst, ◌∙◌, inl, inr, arith, append_assoc}
+use Rattle.std.proofs.Common.{◌≡◌, ◌↔◌, ℕ, suc, ◌+◌, ◌-◌, ◌<◌, ◌≤◌, Bool, true, false, not, List, [], ◌∷◌, ◌++◌, length, get_or, refl, sym, ap, subst, ◌∙◌, inl, inr, arith, append_assoc}
 use Rattle.std.specs.Prelude.{nat_eq}
-use Rattle.std.specs.List.{AllByRecursion}
 use Rattle.std.proofs.lemmas.Bool.{cases_eq, eq-eqb, ne_eqb, eqb-false}
-use Rattle.std.proofs.lemmas.List.{append-nil, append_cancel_left, length-map}
+use Rattle.std.proofs.lemmas.List.{append-nil, length-map}
 use Rattle.subscript_keys.specs.Decimal.{AreDigits, AreCanonical, AreDigitCharacters, BeginsWithNoDigit, BeginsAboveZero, EndsAboveZero, digits_read, digit_text, fraction_text, number_text, sign_text}
 
 pub read-digits : (cs : List ℕ) → AreDigitCharacters cs → AreDigits (digits_read cs)
@@ -37,8 +36,9 @@ ends-test [] p h = absurd (omega arith)
 ends-test (c ∷ []) p h =
     let low : 48 ≤ c = p.0.0 in
     elim (cases_eq c 48) [
-      inl e ↦ (λ t. absurd (differ (sym (ap not (eq-eqb c 48 e)) ∙ t)), λ n. absurd (n (omega arith)))
-    | inr n ↦ (λ t e. n (omega arith), λ t. ap not (ne_eqb c 48 n)) ]
+      | inl e ↦ (λ t. absurd (differ (sym (ap not (eq-eqb c 48 e)) ∙ t)), λ n. absurd (n (omega arith)))
+      | inr n ↦ (λ t e. n (omega arith), λ t. ap not (ne_eqb c 48 n))
+    ]
   where
     differ : false ≡ true → ⊥
     differ e = cc
@@ -48,15 +48,16 @@ ends-test (c ∷ d ∷ cs) p h =
 
 pub canonical_from : (w f : List ℕ) (b : Bool) → AreDigitCharacters w → AreDigitCharacters f → 0 < length w + length f → length w + length f ≤ 18 → BeginsAboveZero (digits_read w) → ((b ≡ true) ↔ EndsAboveZero (digits_read f)) → (b ≡ true) ↔ AreCanonical (digits_read w) (digits_read f)
 canonical_from w f b p q some limit first last = (
-    λ t. record {
-      whole_digits = read-digits w p;
-      fraction_digits = read-digits f q;
-      first = first;
-      last = last.0 t;
-      some = omega (arith, length-map w (λ c. c - 48), length-map f (λ c. c - 48));
-      limit = omega (arith, length-map w (λ c. c - 48), length-map f (λ c. c - 48));
-    },
-    λ c. last.1 c.last)
+  λ t. record {
+    whole_digits = read-digits w p;
+    fraction_digits = read-digits f q;
+    first = first;
+    last = last.0 t;
+    some = omega (arith, length-map w (λ c. c - 48), length-map f (λ c. c - 48));
+    limit = omega (arith, length-map w (λ c. c - 48), length-map f (λ c. c - 48));
+  },
+  λ c. last.1 c.last,
+)
 
 -- digits and then none, in one way
 pub one-split : (a b r q : List ℕ) → AreDigitCharacters a → AreDigitCharacters b → BeginsWithNoDigit r → BeginsWithNoDigit q → a ++ r ≡ b ++ q → (a ≡ b) × (r ≡ q)

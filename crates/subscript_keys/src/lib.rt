@@ -21,6 +21,8 @@ mod sub;
 mod sub_text;
 mod sub_writer;
 mod subs;
+#[cfg(test)]
+mod tests;
 mod value_bytes;
 
 pub use decimal::Decimal;

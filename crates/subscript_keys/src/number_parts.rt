@@ -111,5 +111,9 @@ pub fn number_parts(text: &[u8]) -> Option<NumberParts<'_>>
     if !are_canonical(whole, fraction) {
         return None;
     }
-    Some(NumberParts { negative, whole, fraction })
+    Some(NumberParts {
+        negative,
+        whole,
+        fraction,
+    })
 }

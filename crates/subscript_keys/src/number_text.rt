@@ -5,7 +5,7 @@ ghost use Rattle.subscript_keys.specs.Decimal.{digits, decimal_text, number_text
 
 use crate::decimal::Decimal;
 use crate::digits::Digits;
-use crate::number_parts::{number_parts, NumberParts};
+use crate::number_parts::{NumberParts, number_parts};
 
 /// The number that digits write behind those of `start`.
 fn value_after(start: u64, digits: &[u8]) -> u64
@@ -48,13 +48,25 @@ fn number_of(parts: &NumberParts) -> Decimal
     let fraction = parts.fraction.len();
     if fraction == 0 {
         let digits = without_end_zeros(digits);
-        return Decimal { negative, exponent: whole as i8, digits };
+        return Decimal {
+            negative,
+            exponent: whole as i8,
+            digits,
+        };
     }
     if whole == 0 {
         let zeros = fraction - Digits::of(digits).as_slice().len();
-        return Decimal { negative, exponent: -(zeros as i8), digits };
+        return Decimal {
+            negative,
+            exponent: -(zeros as i8),
+            digits,
+        };
     }
-    Decimal { negative, exponent: whole as i8, digits }
+    Decimal {
+        negative,
+        exponent: whole as i8,
+        digits,
+    }
 }
 
 impl Decimal {

@@ -1,6 +1,6 @@
-use Rattle.std.proofs.Common.{◌≡◌, ℕ, ◌<◌, Bool, List, [], ◌∷◌, ◌++◌, length, sym, ap, subst, ◌∙◌, arith, rules, append_assoc}
+use Rattle.std.proofs.Common.{◌≡◌, ℕ, List, ◌++◌, sym, ap, subst, ◌∙◌, rules, append_assoc}
 use Rattle.std.proofs.lemmas.Bool.{iff_false}
-use Rattle.subscript_keys.specs.Decimal.{fraction_text, number_text, sign_text, digit_text, digits_read, AreCanonical}
+use Rattle.subscript_keys.specs.Decimal.{fraction_text, sign_text, digit_text, digits_read, AreCanonical}
 use Rattle.subscript_keys.proofs.TextParts.{one-text, one-fraction, text-read}
 use Rattle.subscript_keys.proofs.number_parts.number_parts.Goals as goal
 

@@ -1,9 +1,8 @@
-use Rattle.std.proofs.Common.{◌≡◌, ℕ, ◌+◌, ◌-◌, ◌<◌, ◌≤◌, length, sym, ap, ◌∙◌, refl, arith, pos, neg_ℤ, rules}
+use Rattle.std.proofs.Common.{◌≡◌, ◌-◌, length, ap, ◌∙◌, arith}
 use Rattle.std.proofs.lemmas.Int.{ints}
-use Rattle.std.proofs.lemmas.Bool.Decides.{nat_tests}
-use Rattle.subscript_keys.specs.Decimal.{digits, digits_read}
+use Rattle.subscript_keys.specs.Decimal.{digits}
 use Rattle.subscript_keys.proofs.PartNumbers.{first-room, second-room, written-short, written-text}
-use Rattle.subscript_keys.proofs.PartWrites.{Parts, parts-from, read-length, whole-above, whole-case, fraction-case, both-case, fraction-shorter}
+use Rattle.subscript_keys.proofs.PartWrites.{parts-from, read-length, whole-above, whole-case, fraction-case, both-case, fraction-shorter}
 use Rattle.subscript_keys.proofs.number_text.number_of.Goals as goal
 
 pub value_after-requires-clause-small : goal.value_after-requires-clause-small

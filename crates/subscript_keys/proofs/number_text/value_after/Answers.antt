@@ -1,4 +1,4 @@
-use Rattle.std.proofs.Common.{sym, ap, subst, ◌∙◌, ◌≡◌, ℕ, ◌+◌, ◌*◌, ◌^◌, ◌≤◌, length, drop, arith}
+use Rattle.std.proofs.Common.{sym, ap, subst, ◌∙◌, ℕ, ◌+◌, ◌*◌, ◌^◌, ◌≤◌, length, drop, arith}
 use Rattle.std.specs.Int.Digits.{number_from_digits_after}
 use Rattle.subscript_keys.specs.Decimal.{digits_read}
 use Rattle.subscript_keys.proofs.DigitTurns.{digit-turn}

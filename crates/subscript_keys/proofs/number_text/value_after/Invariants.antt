@@ -5,7 +5,7 @@ use Rattle.subscript_keys.proofs.number_text.value_after.Given as goal
 
 abbrev pub invariant-loop-digit : goal.invariant-loop-digit
 invariant-loop-digit l = record {
-    all : number_from_digits_after 10 l.value (digits_read (drop l.digit-index l.digits)) ≡ number_from_digits_after 10 l.start (digits_read l.digits);
-    left : AreDigitCharacters (drop l.digit-index l.digits);
-    small : (l.value + 1) * 10 ^ length (drop l.digit-index l.digits) ≤ 10 ^ 18;
-  }
+  all : number_from_digits_after 10 l.value (digits_read (drop l.digit-index l.digits)) ≡ number_from_digits_after 10 l.start (digits_read l.digits);
+  left : AreDigitCharacters (drop l.digit-index l.digits);
+  small : (l.value + 1) * 10 ^ length (drop l.digit-index l.digits) ≤ 10 ^ 18;
+}

@@ -5,6 +5,6 @@ use Rattle.subscript_keys.proofs.sub_writer.put_subs.Given as goal
 
 abbrev pub invariant-loop-sub : goal.invariant-loop-sub
 invariant-loop-sub l = record {
-    all : l.to.items ++ subs_bytes (drop l.sub-index l.subs) ≡ l.initial.to.items ++ subs_bytes l.subs;
-    left : AllByRecursion HasForm (drop l.sub-index l.subs);
-  }
+  all : l.to.items ++ subs_bytes (drop l.sub-index l.subs) ≡ l.initial.to.items ++ subs_bytes l.subs;
+  left : AllByRecursion HasForm (drop l.sub-index l.subs);
+}

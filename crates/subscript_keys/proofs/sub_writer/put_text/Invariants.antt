@@ -1,4 +1,4 @@
-use Rattle.std.proofs.Common.{◌≡◌, ◌∷◌, [], ◌++◌, drop}
+use Rattle.std.proofs.Common.{◌≡◌, ◌∷◌, ◌++◌, drop}
 use Rattle.subscript_keys.specs.Key.{escaped}
 use Rattle.subscript_keys.proofs.sub_writer.put_text.Given as goal
 
