@@ -1,15 +1,12 @@
 -- Digits as whole numbers of a fixed width, filled up with zeros behind, and how these compare.
 use Rattle.std.proofs.Common.{◌≡◌, ◌≢◌, ℕ, zero, suc, ◌+◌, ◌-◌, ◌*◌, ◌^◌, ◌/◌, ◌%◌, ◌<◌, ◌≤◌, List, [], ◌∷◌, ◌++◌, length, get_or, refl, sym, ap, ◌∙◌, inl, inr, arith}
-use Rattle.std.specs.List.{AllByRecursion}
-use Rattle.std.specs.Int.Digits.{number_from_digits, number_from_digits_after, digits_of}
+use Rattle.std.specs.Int.Digits.{number_from_digits, number_from_digits_after}
 use Rattle.std.specs.Ordering.{nat_cmp, ordering_then}
 use Rattle.std.specs.Cmp.Lexicographic.{slice_cmp}
-use Rattle.std.specs.declared.cmp.Ordering.{Ordering}
-use Rattle.std.specs.declared.cmp.Ordering.TheVariants.{Less, Equal, Greater}
 use Rattle.std.proofs.lemmas.Bool.{cases_order}
 use Rattle.std.proofs.lemmas.Nat.{mul-add-lt, mul-le}
-use Rattle.std.proofs.Math.Nat.{one-le-pow, pow-suc, pow-le-pow_right, add-zero, zero-add}
-use Rattle.std.proofs.lemmas.Int.Digits.{number_digits_of, all_below_base_digits_of, first_digits_of, digits_of_step}
+use Rattle.std.proofs.Math.Nat.{one-le-pow, pow-suc, pow-le-pow_right, add-zero}
+use Rattle.std.proofs.lemmas.Int.Digits.{number_digits_of, all_below_base_digits_of, first_digits_of, digits_of_step, length-digits_of-le, length-digits_of_step}
 use Rattle.subscript_keys.specs.Decimal.{digits, AreDigits, EndsAboveZero}
 use Rattle.subscript_keys.proofs.Orders.{nat_cmp-lt, nat_cmp-gt, nat_cmp-eq, nat_cmp-same}
 
@@ -44,14 +41,16 @@ filled-cmp (suc w) (d ∷ ds) (e ∷ es) p q l m h k =
     let here : filled w ds < 10 ^ w = filled-lt w ds p.1 in
     let there : filled w es < 10 ^ w = filled-lt w es q.1 in
     elim (cases_order d e) [
-      inl same ↦
-        let below : nat_cmp (filled w ds) (filled w es) ≡ slice_cmp nat_cmp ds es = filled-cmp w ds es p.1 q.1 (rest-ends d ds l) (rest-ends e es m) (omega arith) (omega arith) in
-        let level : d * 10 ^ w ≡ e * 10 ^ w = ap (λ x. x * 10 ^ w) same in
-        nat_cmp-same (d * 10 ^ w + filled w ds) (e * 10 ^ w + filled w es) (filled w ds) (filled w es) (λ x. omega arith) (λ x. omega arith) (λ x. omega arith)
-        ∙ below ∙ sym (ap (λ o. ordering_then o (slice_cmp nat_cmp ds es)) (nat_cmp-eq d e same))
-    | inr o ↦ elim o [
-        inl less ↦ nat_cmp-lt (d * 10 ^ w + filled w ds) (e * 10 ^ w + filled w es) (omega (arith, rows d e (10 ^ w) (filled w ds) less here)) ∙ sym (ap (λ o. ordering_then o (slice_cmp nat_cmp ds es)) (nat_cmp-lt d e less))
-      | inr more ↦ nat_cmp-gt (d * 10 ^ w + filled w ds) (e * 10 ^ w + filled w es) (omega (arith, rows e d (10 ^ w) (filled w es) more there)) ∙ sym (ap (λ o. ordering_then o (slice_cmp nat_cmp ds es)) (nat_cmp-gt d e more)) ] ]
+      | inl same ↦
+          let below : nat_cmp (filled w ds) (filled w es) ≡ slice_cmp nat_cmp ds es = filled-cmp w ds es p.1 q.1 (rest-ends d ds l) (rest-ends e es m) (omega arith) (omega arith) in
+          let level : d * 10 ^ w ≡ e * 10 ^ w = ap (λ x. x * 10 ^ w) same in
+          nat_cmp-same (d * 10 ^ w + filled w ds) (e * 10 ^ w + filled w es) (filled w ds) (filled w es) (λ x. omega arith) (λ x. omega arith) (λ x. omega arith)
+          ∙ below ∙ sym (ap (λ o. ordering_then o (slice_cmp nat_cmp ds es)) (nat_cmp-eq d e same))
+      | inr o ↦ elim o [
+        | inl less ↦ nat_cmp-lt (d * 10 ^ w + filled w ds) (e * 10 ^ w + filled w es) (omega (arith, rows d e (10 ^ w) (filled w ds) less here)) ∙ sym (ap (λ o. ordering_then o (slice_cmp nat_cmp ds es)) (nat_cmp-lt d e less))
+        | inr more ↦ nat_cmp-gt (d * 10 ^ w + filled w ds) (e * 10 ^ w + filled w es) (omega (arith, rows e d (10 ^ w) (filled w es) more there)) ∙ sym (ap (λ o. ordering_then o (slice_cmp nat_cmp ds es)) (nat_cmp-gt d e more))
+      ]
+    ]
   where
     rest-ends : (d : ℕ) (ds : List ℕ) → EndsAboveZero (d ∷ ds) → EndsAboveZero ds
     rest-ends d [] p = tt
@@ -79,13 +78,15 @@ filled-wider v (suc w) ds es p q h =
 -- the width decides first, then the digits
 pub fraction-cmp : (v w : ℕ) (ds es : List ℕ) → IsFraction v ds → IsFraction w es → nat_cmp (filled v ds) (filled w es) ≡ ordering_then (nat_cmp v w) (slice_cmp nat_cmp ds es)
 fraction-cmp v w ds es p q = elim (cases_order v w) [
-    inl same ↦
+  | inl same ↦
       ap (λ x. nat_cmp (filled v ds) (filled x es)) (sym same)
       ∙ filled-cmp v ds es p.digits q.digits p.last q.last p.fits (omega (arith, q.fits))
       ∙ sym (ap (λ o. ordering_then o (slice_cmp nat_cmp ds es)) (nat_cmp-eq v w same))
   | inr o ↦ elim o [
-      inl less ↦ nat_cmp-lt _ _ (filled-wider v w ds es p q less) ∙ sym (ap (λ o. ordering_then o (slice_cmp nat_cmp ds es)) (nat_cmp-lt v w less))
-    | inr more ↦ nat_cmp-gt _ _ (filled-wider w v es ds q p more) ∙ sym (ap (λ o. ordering_then o (slice_cmp nat_cmp ds es)) (nat_cmp-gt v w more)) ] ]
+    | inl less ↦ nat_cmp-lt _ _ (filled-wider v w ds es p q less) ∙ sym (ap (λ o. ordering_then o (slice_cmp nat_cmp ds es)) (nat_cmp-lt v w less))
+    | inr more ↦ nat_cmp-gt _ _ (filled-wider w v es ds q p more) ∙ sym (ap (λ o. ordering_then o (slice_cmp nat_cmp ds es)) (nat_cmp-gt v w more))
+  ]
+]
 
 -- the digits as a number, moved up by the places that are left
 pub filled-number : (w n : ℕ) (ds : List ℕ) → length ds ≤ w → number_from_digits_after 10 n ds * 10 ^ (w - length ds) ≡ n * 10 ^ w + filled w ds
@@ -120,3 +121,15 @@ digits-number n = number_digits_of 10 n (omega arith)
 
 pub digits-last : (n : ℕ) → n % 10 ≢ 0 → EndsAboveZero (digits n)
 digits-last n h = let above : 0 < n = omega arith in rw (digits-step n above) (EndsAboveZero-push (digits (n / 10)) (n % 10) h)
+
+pub length-digits : (n k : ℕ) → n < 10 ^ k → length (digits n) ≤ k
+unfolding digits
+length-digits n k h = length-digits_of-le 10 k n (omega arith) h
+
+pub length-digits-step : (n : ℕ) → 0 < n → length (digits n) ≡ length (digits (n / 10)) + 1
+unfolding digits
+length-digits-step n h = length-digits_of_step 10 n (omega arith) h
+
+pub digits-zero : digits 0 ≡ []
+unfolding digits
+digits-zero = refl

@@ -1,12 +1,11 @@
 -- The order of keys is the order of nodes.
-use Rattle.std.proofs.Common.{◌≡◌, ℕ, ◌+◌, ◌-◌, ◌<◌, ◌≤◌, List, [], ◌∷◌, ◌++◌, refl, sym, ap, ◌∙◌, inl, inr, arith, append_assoc}
+use Rattle.std.proofs.Common.{◌≡◌, ℕ, ◌<◌, ◌≤◌, List, [], ◌∷◌, ◌++◌, refl, ap, ◌∙◌, arith, append_assoc}
 use Rattle.std.specs.List.{AllByRecursion}
 use Rattle.std.specs.Ordering.{nat_cmp, ordering_then}
 use Rattle.std.specs.Cmp.Lexicographic.{slice_cmp}
 use Rattle.std.specs.Char.{is_ascii_alphabetic, is_ascii_alphanumeric}
 use Rattle.std.specs.Prelude.{IsTrue}
-use Rattle.std.specs.declared.cmp.Ordering.{Ordering}
-use Rattle.std.specs.declared.cmp.Ordering.TheVariants.{Less, Equal, Greater}
+use Rattle.std.specs.declared.cmp.Ordering.TheVariants.{Less, Greater}
 use Rattle.std.proofs.lemmas.Bool.Decides.{nat_tests}
 use Rattle.subscript_keys.specs.declared.decimal.Decimal.{Decimal}
 use Rattle.subscript_keys.specs.declared.sub.Sub.{Sub}
@@ -14,7 +13,7 @@ use Rattle.subscript_keys.specs.declared.sub.Sub.TheVariants.{Num, Text}
 use Rattle.subscript_keys.specs.declared.node.Node.{Node}
 use Rattle.subscript_keys.specs.Key.{decimal_bytes, escaped, text_bytes, sub_bytes, subs_bytes, key_of, IsName, IsSub, IsNode}
 use Rattle.subscript_keys.specs.NodeOrder.{sub_cmp, node_cmp}
-use Rattle.subscript_keys.proofs.Orders.{nat_cmp-lt, nat_cmp-gt, then_assoc, cmp-ended, cmp-escaped}
+use Rattle.subscript_keys.proofs.Orders.{nat_cmp-lt, nat_cmp-gt, cmp-ended, cmp-escaped}
 use Rattle.subscript_keys.proofs.NumberOrders.{number-cmp, number-tag}
 
 text-cmp : (s t r q : List ℕ) → slice_cmp nat_cmp (text_bytes s ++ r) (text_bytes t ++ q) ≡ ordering_then (slice_cmp nat_cmp s t) (slice_cmp nat_cmp r q)

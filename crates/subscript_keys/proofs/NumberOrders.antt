@@ -1,9 +1,8 @@
 -- The key bytes of numbers stand as the numbers do.
-use Rattle.std.proofs.Common.{◌≡◌, ℕ, suc, ◌+◌, ◌-◌, ◌<◌, ◌≤◌, List, [], ◌∷◌, ◌++◌, map, refl, sym, ap, ◌∙◌, inl, inr, arith, ℤ, pos, negsuc, neg_ℤ, append_assoc}
+use Rattle.std.proofs.Common.{◌≡◌, ℕ, ◌+◌, ◌-◌, ◌<◌, List, [], ◌∷◌, ◌++◌, map, refl, sym, ap, ◌∙◌, inl, inr, arith, ℤ, pos, neg_ℤ, append_assoc}
 use Rattle.std.specs.Ordering.{nat_cmp, int_cmp, ordering_then}
 use Rattle.std.specs.Cmp.{int_cmp_is}
 use Rattle.std.specs.Cmp.Lexicographic.{slice_cmp}
-use Rattle.std.specs.declared.cmp.Ordering.{Ordering}
 use Rattle.std.specs.declared.cmp.Ordering.TheVariants.{Less, Equal, Greater}
 use Rattle.std.proofs.lemmas.Bool.{cases_order}
 use Rattle.std.proofs.lemmas.Int.{ints}
@@ -12,21 +11,25 @@ use Rattle.subscript_keys.specs.Decimal.{plus, minus, scaled, IsDecimal}
 use Rattle.subscript_keys.specs.Key.{negative_bytes, positive_bytes, decimal_bytes}
 use Rattle.subscript_keys.proofs.Orders.{nat_cmp-lt, nat_cmp-gt, nat_cmp-eq, nat_cmp-same, then_assoc, cmp-positive, cmp-negative}
 use Rattle.subscript_keys.proofs.Fractions.{filled, fraction-cmp}
-use Rattle.subscript_keys.proofs.NumberForms.{HasSize, IsNull, IsBelowZero, IsAboveZero, NumberForm, null, below, above, number-form}
+use Rattle.subscript_keys.proofs.NumberForms.{HasSize, NumberForm, null, below, above, number-form}
 
 int_cmp-pos : (m n : ℕ) → int_cmp (pos m) (pos n) ≡ nat_cmp m n
 int_cmp-pos m n = elim (cases_order m n) [
-    inl e ↦ sym (int_cmp_is (pos m) (pos n) Equal (ap pos e)) ∙ sym (nat_cmp-eq m n e)
+  | inl e ↦ sym (int_cmp_is (pos m) (pos n) Equal (ap pos e)) ∙ sym (nat_cmp-eq m n e)
   | inr o ↦ elim o [
-      inl l ↦ sym (int_cmp_is (pos m) (pos n) Less (omega (arith, ints))) ∙ sym (nat_cmp-lt m n l)
-    | inr g ↦ sym (int_cmp_is (pos m) (pos n) Greater (omega (arith, ints))) ∙ sym (nat_cmp-gt m n g) ] ]
+    | inl l ↦ sym (int_cmp_is (pos m) (pos n) Less (omega (arith, ints))) ∙ sym (nat_cmp-lt m n l)
+    | inr g ↦ sym (int_cmp_is (pos m) (pos n) Greater (omega (arith, ints))) ∙ sym (nat_cmp-gt m n g)
+  ]
+]
 
 int_cmp-neg : (m n : ℕ) → int_cmp (neg_ℤ (pos m)) (neg_ℤ (pos n)) ≡ nat_cmp n m
 int_cmp-neg m n = elim (cases_order n m) [
-    inl e ↦ sym (int_cmp_is (neg_ℤ (pos m)) (neg_ℤ (pos n)) Equal (ap (λ x. neg_ℤ (pos x)) (sym e))) ∙ sym (nat_cmp-eq n m e)
+  | inl e ↦ sym (int_cmp_is (neg_ℤ (pos m)) (neg_ℤ (pos n)) Equal (ap (λ x. neg_ℤ (pos x)) (sym e))) ∙ sym (nat_cmp-eq n m e)
   | inr o ↦ elim o [
-      inl l ↦ sym (int_cmp_is (neg_ℤ (pos m)) (neg_ℤ (pos n)) Less (omega (arith, ints))) ∙ sym (nat_cmp-lt n m l)
-    | inr g ↦ sym (int_cmp_is (neg_ℤ (pos m)) (neg_ℤ (pos n)) Greater (omega (arith, ints))) ∙ sym (nat_cmp-gt n m g) ] ]
+    | inl l ↦ sym (int_cmp_is (neg_ℤ (pos m)) (neg_ℤ (pos n)) Less (omega (arith, ints))) ∙ sym (nat_cmp-lt n m l)
+    | inr g ↦ sym (int_cmp_is (neg_ℤ (pos m)) (neg_ℤ (pos n)) Greater (omega (arith, ints))) ∙ sym (nat_cmp-gt n m g)
+  ]
+]
 
 int_cmp-neg-pos : (m n : ℕ) → 0 < m → int_cmp (neg_ℤ (pos m)) (pos n) ≡ Less
 int_cmp-neg-pos m n h = sym (int_cmp_is (neg_ℤ (pos m)) (pos n) Less (omega (arith, ints)))
@@ -46,9 +49,9 @@ positives a b v w ds es r q p s =
     let right : plus 64 b.exponent ≡ w + 46 = s.above in
     let exponents : nat_cmp (plus 64 a.exponent) (plus 64 b.exponent) ≡ nat_cmp v w = nat_cmp-same (plus 64 a.exponent) (plus 64 b.exponent) v w (λ h. omega arith) (λ h. omega arith) (λ h. omega arith) in
     let places : slice_cmp nat_cmp ((map (λ d. d + 1) ds ++ 0 ∷ []) ++ r) ((map (λ d. d + 1) es ++ 0 ∷ []) ++ q) ≡ ordering_then (slice_cmp nat_cmp ds es) (slice_cmp nat_cmp r q) =
-      ap (λ x. slice_cmp nat_cmp x ((map (λ d. d + 1) es ++ 0 ∷ []) ++ q)) (append_assoc (map (λ d. d + 1) ds) (0 ∷ []) r)
-      ∙ ap (λ x. slice_cmp nat_cmp (map (λ d. d + 1) ds ++ 0 ∷ r) x) (append_assoc (map (λ d. d + 1) es) (0 ∷ []) q)
-      ∙ cmp-positive ds es r q in
+    ap (λ x. slice_cmp nat_cmp x ((map (λ d. d + 1) es ++ 0 ∷ []) ++ q)) (append_assoc (map (λ d. d + 1) ds) (0 ∷ []) r)
+    ∙ ap (λ x. slice_cmp nat_cmp (map (λ d. d + 1) ds ++ 0 ∷ r) x) (append_assoc (map (λ d. d + 1) es) (0 ∷ []) q)
+    ∙ cmp-positive ds es r q in
     ap (λ o. ordering_then o (slice_cmp nat_cmp ((map (λ d. d + 1) ds ++ 0 ∷ []) ++ r) ((map (λ d. d + 1) es ++ 0 ∷ []) ++ q))) exponents
     ∙ ap (ordering_then (nat_cmp v w)) places
     ∙ sym (then_assoc (nat_cmp v w) (slice_cmp nat_cmp ds es) (slice_cmp nat_cmp r q))
@@ -61,9 +64,9 @@ negatives a b v w ds es r q p s =
     let right : minus 64 b.exponent + w ≡ 82 = s.below in
     let exponents : nat_cmp (minus 64 a.exponent) (minus 64 b.exponent) ≡ nat_cmp w v = nat_cmp-same (minus 64 a.exponent) (minus 64 b.exponent) w v (λ h. omega arith) (λ h. omega arith) (λ h. omega arith) in
     let places : slice_cmp nat_cmp ((map (λ d. 10 - d) ds ++ 11 ∷ []) ++ r) ((map (λ d. 10 - d) es ++ 11 ∷ []) ++ q) ≡ ordering_then (slice_cmp nat_cmp es ds) (slice_cmp nat_cmp r q) =
-      ap (λ x. slice_cmp nat_cmp x ((map (λ d. 10 - d) es ++ 11 ∷ []) ++ q)) (append_assoc (map (λ d. 10 - d) ds) (11 ∷ []) r)
-      ∙ ap (λ x. slice_cmp nat_cmp (map (λ d. 10 - d) ds ++ 11 ∷ r) x) (append_assoc (map (λ d. 10 - d) es) (11 ∷ []) q)
-      ∙ cmp-negative ds es r q p.fraction.digits s.fraction.digits in
+    ap (λ x. slice_cmp nat_cmp x ((map (λ d. 10 - d) es ++ 11 ∷ []) ++ q)) (append_assoc (map (λ d. 10 - d) ds) (11 ∷ []) r)
+    ∙ ap (λ x. slice_cmp nat_cmp (map (λ d. 10 - d) ds ++ 11 ∷ r) x) (append_assoc (map (λ d. 10 - d) es) (11 ∷ []) q)
+    ∙ cmp-negative ds es r q p.fraction.digits s.fraction.digits in
     ap (λ o. ordering_then o (slice_cmp nat_cmp ((map (λ d. 10 - d) ds ++ 11 ∷ []) ++ r) ((map (λ d. 10 - d) es ++ 11 ∷ []) ++ q))) exponents
     ∙ ap (ordering_then (nat_cmp w v)) places
     ∙ sym (then_assoc (nat_cmp w v) (slice_cmp nat_cmp es ds) (slice_cmp nat_cmp r q))
@@ -88,6 +91,7 @@ number-cmp a b r q p s = form-cmp a b r q (number-form a p) (number-form b s)
 pub number-tag : (d : Decimal) → IsDecimal d → (tag : ℕ) × (rest : List ℕ) × (decimal_bytes d ≡ tag ∷ rest) × (tag < 0x40)
 unfolding positive_bytes negative_bytes
 number-tag d p = elim (number-form d p) [
-    null m ↦ (0x20, [], m.bytes, omega arith)
+  | null m ↦ (0x20, [], m.bytes, omega arith)
   | below w ds m ↦ (0x10, _, m.bytes, omega arith)
-  | above w ds m ↦ (0x30, _, m.bytes, omega arith) ]
+  | above w ds m ↦ (0x30, _, m.bytes, omega arith)
+]

@@ -1,14 +1,13 @@
 -- Comparisons of lists of bytes from the left, and what ends them.
-use Rattle.std.proofs.Common.{◌≡◌, ◌≢◌, ℕ, ◌+◌, ◌-◌, ◌<◌, ◌≤◌, ◌==◌, Bool, true, false, cond, List, [], ◌∷◌, ◌++◌, map, length, refl, sym, ap, ◌∙◌, inl, inr, arith}
+use Rattle.std.proofs.Common.{◌≡◌, ◌≢◌, ℕ, ◌+◌, ◌-◌, ◌<◌, List, [], ◌∷◌, ◌++◌, map, refl, sym, ap, ◌∙◌, inl, inr, arith}
 use Rattle.std.specs.Prelude.{if◌then◌else◌}
 use Rattle.std.specs.List.{AllByRecursion}
-use Rattle.std.specs.Ordering.{nat_cmp, ordering_then, MatchOrdering}
+use Rattle.std.specs.Ordering.{nat_cmp, ordering_then}
 use Rattle.std.specs.Cmp.{nat_cmp_is}
 use Rattle.std.specs.Cmp.Lexicographic.{slice_cmp}
 use Rattle.std.specs.declared.cmp.Ordering.{Ordering}
 use Rattle.std.specs.declared.cmp.Ordering.TheVariants.{Less, Equal, Greater}
 use Rattle.std.proofs.lemmas.Bool.{cases_order, cases_eq, eq-eqb, ne_eqb}
-use Rattle.std.proofs.lemmas.Bool.Decides.{nat_tests}
 use Rattle.subscript_keys.specs.Key.{escaped}
 
 pub nat_cmp-lt : (x y : ℕ) → x < y → nat_cmp x y ≡ Less
@@ -24,10 +23,12 @@ nat_cmp-eq x y h = sym (nat_cmp_is x y Equal h)
 pub nat_cmp-same : (x y v w : ℕ) → (x < y → v < w) → (x ≡ y → v ≡ w) → (y < x → w < v) → nat_cmp x y ≡ nat_cmp v w
 nat_cmp-same x y v w less equal greater =
     elim (cases_order x y) [
-      inl e ↦ nat_cmp-eq x y e ∙ sym (nat_cmp-eq v w (equal e))
-    | inr o ↦ elim o [
-        inl l ↦ nat_cmp-lt x y l ∙ sym (nat_cmp-lt v w (less l))
-      | inr g ↦ nat_cmp-gt x y g ∙ sym (nat_cmp-gt v w (greater g)) ] ]
+      | inl e ↦ nat_cmp-eq x y e ∙ sym (nat_cmp-eq v w (equal e))
+      | inr o ↦ elim o [
+        | inl l ↦ nat_cmp-lt x y l ∙ sym (nat_cmp-lt v w (less l))
+        | inr g ↦ nat_cmp-gt x y g ∙ sym (nat_cmp-gt v w (greater g))
+      ]
+    ]
 
 pub then_assoc : (a b c : Ordering) → ordering_then (ordering_then a b) c ≡ ordering_then a (ordering_then b c)
 then_assoc Less b c = refl
@@ -76,18 +77,23 @@ escaped-more c cs e = ap (λ b. if b then 0 ∷ 0xFF ∷ escaped cs else c ∷ e
 pub cmp-escaped : (s t r q : List ℕ) → slice_cmp nat_cmp (escaped s ++ 0 ∷ 1 ∷ r) (escaped t ++ 0 ∷ 1 ∷ q) ≡ ordering_then (slice_cmp nat_cmp s t) (slice_cmp nat_cmp r q)
 cmp-escaped [] [] r q = refl
 cmp-escaped [] (d ∷ t) r q = elim (cases_eq d 0) [
-    inl e ↦ ap (λ b. slice_cmp nat_cmp (0 ∷ 1 ∷ r) (b ++ 0 ∷ 1 ∷ q)) (escaped-zero d t e)
-  | inr n ↦ ap (λ b. slice_cmp nat_cmp (0 ∷ 1 ∷ r) (b ++ 0 ∷ 1 ∷ q)) (escaped-more d t n) ∙ ap (λ o. ordering_then o (slice_cmp nat_cmp (1 ∷ r) (escaped t ++ 0 ∷ 1 ∷ q))) (nat_cmp-lt 0 d (omega arith)) ]
+  | inl e ↦ ap (λ b. slice_cmp nat_cmp (0 ∷ 1 ∷ r) (b ++ 0 ∷ 1 ∷ q)) (escaped-zero d t e)
+  | inr n ↦ ap (λ b. slice_cmp nat_cmp (0 ∷ 1 ∷ r) (b ++ 0 ∷ 1 ∷ q)) (escaped-more d t n) ∙ ap (λ o. ordering_then o (slice_cmp nat_cmp (1 ∷ r) (escaped t ++ 0 ∷ 1 ∷ q))) (nat_cmp-lt 0 d (omega arith))
+]
 cmp-escaped (c ∷ s) [] r q = elim (cases_eq c 0) [
-    inl e ↦ ap (λ b. slice_cmp nat_cmp (b ++ 0 ∷ 1 ∷ r) (0 ∷ 1 ∷ q)) (escaped-zero c s e)
-  | inr n ↦ ap (λ b. slice_cmp nat_cmp (b ++ 0 ∷ 1 ∷ r) (0 ∷ 1 ∷ q)) (escaped-more c s n) ∙ ap (λ o. ordering_then o (slice_cmp nat_cmp (escaped s ++ 0 ∷ 1 ∷ r) (1 ∷ q))) (nat_cmp-gt c 0 (omega arith)) ]
+  | inl e ↦ ap (λ b. slice_cmp nat_cmp (b ++ 0 ∷ 1 ∷ r) (0 ∷ 1 ∷ q)) (escaped-zero c s e)
+  | inr n ↦ ap (λ b. slice_cmp nat_cmp (b ++ 0 ∷ 1 ∷ r) (0 ∷ 1 ∷ q)) (escaped-more c s n) ∙ ap (λ o. ordering_then o (slice_cmp nat_cmp (escaped s ++ 0 ∷ 1 ∷ r) (1 ∷ q))) (nat_cmp-gt c 0 (omega arith))
+]
 cmp-escaped (c ∷ s) (d ∷ t) r q =
     let more : slice_cmp nat_cmp (escaped s ++ 0 ∷ 1 ∷ r) (escaped t ++ 0 ∷ 1 ∷ q) ≡ ordering_then (slice_cmp nat_cmp s t) (slice_cmp nat_cmp r q) = cmp-escaped s t r q in
     let joined : ordering_then (nat_cmp c d) (slice_cmp nat_cmp (escaped s ++ 0 ∷ 1 ∷ r) (escaped t ++ 0 ∷ 1 ∷ q)) ≡ ordering_then (slice_cmp nat_cmp (c ∷ s) (d ∷ t)) (slice_cmp nat_cmp r q) = ap (ordering_then (nat_cmp c d)) more ∙ sym (then_assoc (nat_cmp c d) (slice_cmp nat_cmp s t) (slice_cmp nat_cmp r q)) in
     elim (cases_eq c 0) [
-      inl e ↦ elim (cases_eq d 0) [
-          inl f ↦ ap (λ b. slice_cmp nat_cmp (b ++ 0 ∷ 1 ∷ r) (escaped (d ∷ t) ++ 0 ∷ 1 ∷ q)) (escaped-zero c s e) ∙ ap (λ b. slice_cmp nat_cmp ((0 ∷ 0xFF ∷ escaped s) ++ 0 ∷ 1 ∷ r) (b ++ 0 ∷ 1 ∷ q)) (escaped-zero d t f) ∙ ap (λ o. ordering_then o (slice_cmp nat_cmp (escaped s ++ 0 ∷ 1 ∷ r) (escaped t ++ 0 ∷ 1 ∷ q))) (sym (nat_cmp-eq c d (omega arith))) ∙ joined
-        | inr m ↦ ap (λ b. slice_cmp nat_cmp (b ++ 0 ∷ 1 ∷ r) (escaped (d ∷ t) ++ 0 ∷ 1 ∷ q)) (escaped-zero c s e) ∙ ap (λ b. slice_cmp nat_cmp ((0 ∷ 0xFF ∷ escaped s) ++ 0 ∷ 1 ∷ r) (b ++ 0 ∷ 1 ∷ q)) (escaped-more d t m) ∙ ap (λ o. ordering_then o (slice_cmp nat_cmp ((0xFF ∷ escaped s) ++ 0 ∷ 1 ∷ r) (escaped t ++ 0 ∷ 1 ∷ q))) (nat_cmp-lt 0 d (omega arith)) ∙ sym (ap (λ o. ordering_then (ordering_then o (slice_cmp nat_cmp s t)) (slice_cmp nat_cmp r q)) (nat_cmp-lt c d (omega arith))) ]
-    | inr n ↦ elim (cases_eq d 0) [
-          inl f ↦ ap (λ b. slice_cmp nat_cmp (b ++ 0 ∷ 1 ∷ r) (escaped (d ∷ t) ++ 0 ∷ 1 ∷ q)) (escaped-more c s n) ∙ ap (λ b. slice_cmp nat_cmp ((c ∷ escaped s) ++ 0 ∷ 1 ∷ r) (b ++ 0 ∷ 1 ∷ q)) (escaped-zero d t f) ∙ ap (λ o. ordering_then o (slice_cmp nat_cmp (escaped s ++ 0 ∷ 1 ∷ r) ((0xFF ∷ escaped t) ++ 0 ∷ 1 ∷ q))) (nat_cmp-gt c 0 (omega arith)) ∙ sym (ap (λ o. ordering_then (ordering_then o (slice_cmp nat_cmp s t)) (slice_cmp nat_cmp r q)) (nat_cmp-gt c d (omega arith)))
-        | inr m ↦ ap (λ b. slice_cmp nat_cmp (b ++ 0 ∷ 1 ∷ r) (escaped (d ∷ t) ++ 0 ∷ 1 ∷ q)) (escaped-more c s n) ∙ ap (λ b. slice_cmp nat_cmp ((c ∷ escaped s) ++ 0 ∷ 1 ∷ r) (b ++ 0 ∷ 1 ∷ q)) (escaped-more d t m) ∙ joined ] ]
+      | inl e ↦ elim (cases_eq d 0) [
+        | inl f ↦ ap (λ b. slice_cmp nat_cmp (b ++ 0 ∷ 1 ∷ r) (escaped (d ∷ t) ++ 0 ∷ 1 ∷ q)) (escaped-zero c s e) ∙ ap (λ b. slice_cmp nat_cmp ((0 ∷ 0xFF ∷ escaped s) ++ 0 ∷ 1 ∷ r) (b ++ 0 ∷ 1 ∷ q)) (escaped-zero d t f) ∙ ap (λ o. ordering_then o (slice_cmp nat_cmp (escaped s ++ 0 ∷ 1 ∷ r) (escaped t ++ 0 ∷ 1 ∷ q))) (sym (nat_cmp-eq c d (omega arith))) ∙ joined
+        | inr m ↦ ap (λ b. slice_cmp nat_cmp (b ++ 0 ∷ 1 ∷ r) (escaped (d ∷ t) ++ 0 ∷ 1 ∷ q)) (escaped-zero c s e) ∙ ap (λ b. slice_cmp nat_cmp ((0 ∷ 0xFF ∷ escaped s) ++ 0 ∷ 1 ∷ r) (b ++ 0 ∷ 1 ∷ q)) (escaped-more d t m) ∙ ap (λ o. ordering_then o (slice_cmp nat_cmp ((0xFF ∷ escaped s) ++ 0 ∷ 1 ∷ r) (escaped t ++ 0 ∷ 1 ∷ q))) (nat_cmp-lt 0 d (omega arith)) ∙ sym (ap (λ o. ordering_then (ordering_then o (slice_cmp nat_cmp s t)) (slice_cmp nat_cmp r q)) (nat_cmp-lt c d (omega arith)))
+      ]
+      | inr n ↦ elim (cases_eq d 0) [
+        | inl f ↦ ap (λ b. slice_cmp nat_cmp (b ++ 0 ∷ 1 ∷ r) (escaped (d ∷ t) ++ 0 ∷ 1 ∷ q)) (escaped-more c s n) ∙ ap (λ b. slice_cmp nat_cmp ((c ∷ escaped s) ++ 0 ∷ 1 ∷ r) (b ++ 0 ∷ 1 ∷ q)) (escaped-zero d t f) ∙ ap (λ o. ordering_then o (slice_cmp nat_cmp (escaped s ++ 0 ∷ 1 ∷ r) ((0xFF ∷ escaped t) ++ 0 ∷ 1 ∷ q))) (nat_cmp-gt c 0 (omega arith)) ∙ sym (ap (λ o. ordering_then (ordering_then o (slice_cmp nat_cmp s t)) (slice_cmp nat_cmp r q)) (nat_cmp-gt c d (omega arith)))
+        | inr m ↦ ap (λ b. slice_cmp nat_cmp (b ++ 0 ∷ 1 ∷ r) (escaped (d ∷ t) ++ 0 ∷ 1 ∷ q)) (escaped-more c s n) ∙ ap (λ b. slice_cmp nat_cmp ((c ∷ escaped s) ++ 0 ∷ 1 ∷ r) (b ++ 0 ∷ 1 ∷ q)) (escaped-more d t m) ∙ joined
+      ]
+    ]

@@ -1,10 +1,9 @@
 -- The span under a node holds the node and its descendants.
-use Rattle.std.proofs.Common.{◌≡◌, ◌≢◌, ◌↔◌, ℕ, ◌+◌, ◌-◌, ◌<◌, ◌≤◌, List, [], ◌∷◌, ◌++◌, refl, sym, ap, subst, ◌∙◌, inl, inr, arith, append_assoc}
+use Rattle.std.proofs.Common.{◌≡◌, ◌≢◌, ◌↔◌, ℕ, List, [], ◌∷◌, ◌++◌, refl, sym, ap, subst, ◌∙◌, inl, inr, arith, append_assoc}
 use Rattle.std.specs.List.{AllByRecursion}
 use Rattle.std.specs.Ordering.{nat_cmp, ordering_then}
 use Rattle.std.specs.Cmp.Lexicographic.{slice_cmp}
-use Rattle.std.specs.declared.cmp.Ordering.{Ordering}
-use Rattle.std.specs.declared.cmp.Ordering.TheVariants.{Less, Equal, Greater}
+use Rattle.std.specs.declared.cmp.Ordering.TheVariants.{Less, Greater}
 use Rattle.std.proofs.lemmas.Bool.{cases_order}
 use Rattle.subscript_keys.specs.declared.sub.Sub.{Sub}
 use Rattle.subscript_keys.specs.declared.node.Node.{Node}
@@ -20,14 +19,16 @@ fronts : (s t : List ℕ) → slice_cmp nat_cmp s t ≢ Greater → slice_cmp na
 fronts [] t h k = (t, refl)
 fronts (c ∷ s) [] h k = absurd (h refl)
 fronts (c ∷ s) (d ∷ t) h k = elim (cases_order c d) [
-    inl same ↦
+  | inl same ↦
       let rest = fronts s t (λ g. h (ap (λ o. ordering_then o (slice_cmp nat_cmp s t)) (nat_cmp-eq c d same) ∙ g)) (sym (ap (λ o. ordering_then o (slice_cmp nat_cmp t (s ++ 0xFF ∷ []))) (nat_cmp-eq d c (sym same))) ∙ k) in
       let others : t ≡ s ++ rest.0 = rest.1 in
       let first : d ≡ c = sym same in
       (rest.0, cc)
   | inr o ↦ elim o [
-      inl less ↦ let above : Greater ≡ Less = sym (ap (λ o. ordering_then o (slice_cmp nat_cmp t (s ++ 0xFF ∷ []))) (nat_cmp-gt d c less)) ∙ k in cc
-    | inr more ↦ absurd (h (ap (λ o. ordering_then o (slice_cmp nat_cmp s t)) (nat_cmp-gt c d more))) ] ]
+    | inl less ↦ let above : Greater ≡ Less = sym (ap (λ o. ordering_then o (slice_cmp nat_cmp t (s ++ 0xFF ∷ []))) (nat_cmp-gt d c less)) ∙ k in cc
+    | inr more ↦ absurd (h (ap (λ o. ordering_then o (slice_cmp nat_cmp s t)) (nat_cmp-gt c d more)))
+  ]
+]
 
 longer : (s u : List ℕ) → slice_cmp nat_cmp s (s ++ u) ≡ Greater → ⊥
 longer [] [] e = cc
@@ -58,8 +59,8 @@ unfolding key_of
 held a b p q w =
     let more = w.0 in
     let key : key_of b ≡ key_of a ++ subs_bytes more =
-      ap (λ n. n ++ 0 ∷ subs_bytes b.subs) w.1 ∙ ap (λ ss. a.name ++ 0 ∷ subs_bytes ss) w.2
-      ∙ ap (λ x. a.name ++ 0 ∷ x) (subs_bytes-append a.subs more) ∙ sym (append_assoc a.name (0 ∷ subs_bytes a.subs) (subs_bytes more)) in
+    ap (λ n. n ++ 0 ∷ subs_bytes b.subs) w.1 ∙ ap (λ ss. a.name ++ 0 ∷ subs_bytes ss) w.2
+    ∙ ap (λ x. a.name ++ 0 ∷ x) (subs_bytes-append a.subs more) ∙ sym (append_assoc a.name (0 ∷ subs_bytes a.subs) (subs_bytes more)) in
     let subs : AllByRecursion IsSub more = AllByRecursion-behind a.subs more (subst (AllByRecursion IsSub) w.2 q.subs) in
     record {
       from = λ g. longer (key_of a) (subs_bytes more) (sym (ap (slice_cmp nat_cmp (key_of a)) key) ∙ g);

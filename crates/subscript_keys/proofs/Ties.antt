@@ -1,8 +1,8 @@
 -- Equal bytes come from one number, one subscript, one node.
-use Rattle.std.proofs.Common.{◌≡◌, ◌≢◌, ◌⊎◌, ℕ, suc, ◌+◌, ◌-◌, ◌*◌, ◌<◌, ◌≤◌, Bool, true, false, List, [], ◌∷◌, ◌++◌, length, get_or, refl, sym, ap, subst, ◌∙◌, inl, inr, arith, ℤ, pos, negsuc, neg_ℤ, append_assoc}
+use Rattle.std.proofs.Common.{◌≡◌, ℕ, ◌<◌, Bool, true, false, List, [], ◌∷◌, ◌++◌, refl, sym, ap, ◌∙◌, inl, inr, arith, ℤ, pos, negsuc, neg_ℤ, append_assoc}
 use Rattle.std.specs.Prelude.{if◌then◌else◌}
 use Rattle.std.specs.List.{AllByRecursion}
-use Rattle.std.specs.Ordering.{nat_cmp, int_cmp, ordering_then}
+use Rattle.std.specs.Ordering.{nat_cmp, ordering_then}
 use Rattle.std.specs.Cmp.{ranked, int_ranked}
 use Rattle.std.specs.Cmp.Lexicographic.{slice_cmp}
 use Rattle.std.specs.declared.cmp.Ordering.{Ordering}
@@ -14,12 +14,12 @@ use Rattle.subscript_keys.specs.declared.decimal.Decimal.{Decimal}
 use Rattle.subscript_keys.specs.declared.sub.Sub.{Sub}
 use Rattle.subscript_keys.specs.declared.sub.Sub.TheVariants.{Num, Text}
 use Rattle.subscript_keys.specs.declared.node.Node.{Node}
-use Rattle.subscript_keys.specs.Decimal.{digits, plus, minus, IsZero, IsShort, IsDecimal, scaled, scaled_size}
+use Rattle.subscript_keys.specs.Decimal.{digits, plus, IsShort, IsDecimal, scaled, scaled_size}
 use Rattle.subscript_keys.specs.Key.{sub_bytes, subs_bytes, key_of, IsName, IsSub, IsNode}
-use Rattle.subscript_keys.specs.NodeOrder.{sub_cmp, node_cmp}
+use Rattle.subscript_keys.specs.NodeOrder.{sub_cmp}
 use Rattle.subscript_keys.proofs.Orders.{nat_cmp-eq, cmp-ended}
 use Rattle.subscript_keys.proofs.Fractions.{filled, IsFraction, fraction-cmp, digits-number}
-use Rattle.subscript_keys.proofs.NumberForms.{IsNull, short-fraction, short-size, filled-above, zero-null}
+use Rattle.subscript_keys.proofs.NumberForms.{short-fraction, short-size, filled-above, zero-null}
 use Rattle.subscript_keys.proofs.KeyOrders.{sub-cmp, sub-tag, name-above}
 
 -- both parts of a comparison that finds nothing
@@ -57,7 +57,7 @@ same-exponent (pos x) (negsuc y) e h = absurd (omega arith)
 same-exponent (negsuc x) (pos y) e h = absurd (omega arith)
 same-exponent (negsuc x) (negsuc y) e h = let same : x ≡ y = omega arith in ap negsuc same
 
-fraction-wide : (w : ℕ) (ds : List ℕ) → IsFraction w ds → 0 < w
+pub fraction-wide : (w : ℕ) (ds : List ℕ) → IsFraction w ds → 0 < w
 fraction-wide w [] p = absurd (omega (arith, p.first))
 fraction-wide w (d ∷ ds) p = omega (arith, p.fits)
 
@@ -71,7 +71,7 @@ same-shorts a b p q sign size =
     let parts = then-equal (nat_cmp v w) (slice_cmp nat_cmp (digits a.digits) (digits b.digits)) (sym (fraction-cmp v w (digits a.digits) (digits b.digits) fa fb) ∙ nat_cmp-eq _ _ sizes) in
     let places : digits a.digits ≡ digits b.digits = same_lists (digits a.digits) (digits b.digits) parts.1 in
     same-decimal a b sign (same-exponent a.exponent b.exponent (same_numbers v w parts.0) (fraction-wide v (digits a.digits) fa))
-      (sym (digits-number a.digits) ∙ ap (number_from_digits 10) places ∙ digits-number b.digits)
+    (sym (digits-number a.digits) ∙ ap (number_from_digits 10) places ∙ digits-number b.digits)
 
 pub short-size-above : (d : Decimal) → IsShort d → 0 < scaled_size d
 short-size-above d s = rw (short-size d s) (filled-above (plus 18 d.exponent) (digits d.digits) (short-fraction d s))

@@ -14,5 +14,4 @@ pub fn keys_stand_for_nodes()
     ensures one { (a b : Node) → IsNode a → IsNode b → key_of a ≡ key_of b → a ≡ b }
     ensures under { (a b : Node) → IsNode a → IsNode b →
         (IsIn (span_lo (key_of a)) (span_hi (key_of a)) (key_of b) ↔ IsAtOrBelow a b) }
-{
-}
+{}

@@ -1,0 +1,5 @@
+pub mod LineLemmas
+pub mod PutLemmas
+pub mod ReadLemmas
+pub mod ScriptLemmas
+pub mod StatusLemmas

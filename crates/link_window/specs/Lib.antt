@@ -1,0 +1,3 @@
+pub mod Link
+pub mod Numbering
+pub mod WindowState
