@@ -3,31 +3,51 @@
 #![tactic(auto)]
 
 mod act;
+mod applied;
 mod causes;
 mod entries;
 mod entry;
 mod item;
 mod job_apps;
+mod laws;
 mod layout;
+mod limits;
 mod mode;
 mod name_list;
 mod op;
+mod order_check;
+mod plain_store;
 mod question;
 mod refused;
+mod spans;
+mod standing;
+mod sum;
+#[cfg(test)]
+mod tests;
+mod touched;
 mod trail;
+mod transaction_name;
 mod via;
+mod whole_number;
 
 pub use act::Act;
+pub use applied::Applied;
 pub use causes::{Loss, PairEnd, ShutCause};
 pub use entries::Entries;
 pub use entry::Entry;
 pub use item::Item;
 pub use job_apps::JobApps;
+pub use laws::{fold_goes_on, last_sum, map_rises, order_goes_on};
 pub use layout::{Layout, Names, Times};
 pub use mode::Mode;
 pub use name_list::NameList;
 pub use op::Op;
+pub use order_check::OrderCheck;
+pub use plain_store::PlainStore;
 pub use question::Question;
 pub use refused::{LinkName, ReasonName, Refused};
+pub use spans::Spans;
+pub use sum::Sum;
+pub use touched::touches;
 pub use trail::Trail;
 pub use via::Via;

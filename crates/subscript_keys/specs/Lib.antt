@@ -1,0 +1,4 @@
+pub mod Decimal
+pub mod Key
+pub mod Span
+pub mod NodeOrder

@@ -1,0 +1,185 @@
+ghost use Rattle.std.specs.Prelude.{IfOk};
+ghost use Rattle.subscript_keys.specs.Key.{HasForm};
+
+use crate::{Decimal, KeyBytes, KeyError, Name, Node, Span, Sub, SubText, Subs, encode};
+use std::alloc::{AllocError, Global};
+
+/// Numbers of one digit and of two, and of eighteen, in rising order.
+const RISING: [&[u8]; 44] = [
+    b".000000000000000001",
+    b".00000000000000001",
+    b".000000000000000012",
+    b".0000000000000001",
+    b".000000000000001",
+    b".00000000000001",
+    b".0000000000001",
+    b".000000000001",
+    b".00000000001",
+    b".0000000001",
+    b".000000001",
+    b".00000001",
+    b".0000001",
+    b".000001",
+    b".00001",
+    b".0001",
+    b".001",
+    b".01",
+    b".1",
+    b".123456789012345678",
+    b".5",
+    b"1",
+    b"1.00000000000000001",
+    b"2",
+    b"9.9",
+    b"10",
+    b"100",
+    b"1000",
+    b"10000",
+    b"100000",
+    b"1000000",
+    b"10000000",
+    b"100000000",
+    b"1000000000",
+    b"10000000000",
+    b"100000000000",
+    b"1000000000000",
+    b"10000000000000",
+    b"100000000000000",
+    b"1000000000000000",
+    b"10000000000000000",
+    b"100000000000000000",
+    b"120000000000000000",
+    b"999999999999999999",
+];
+
+/// What is a number where its text is one, and text else.
+fn sub_of(alloc: Global, text: &[u8]) -> Result<Sub, AllocError>
+    ensures { IfOk result HasForm }
+{
+    match Decimal::read(text) {
+        Some(number) => Ok(Sub::Num(number)),
+        None => Ok(Sub::Text(SubText::from_vec(Vec::from_slice(alloc, text)?))),
+    }
+}
+
+/// The key of the node ^x with this subscript.
+fn key_of_sub(alloc: Global, text: &[u8]) -> Result<KeyBytes, KeyError> {
+    let sub = sub_of(alloc, text).map_err(KeyError::Memory)?;
+    let name = Vec::from_slice(alloc, b"x").map_err(KeyError::Memory)?;
+    let mut subs = Subs::new(alloc);
+    subs.push(sub).map_err(KeyError::Memory)?;
+    let node = Node {
+        name: Name::from_vec(name),
+        subs,
+    };
+    encode(alloc, &node)
+}
+
+#[test]
+fn keys_have_the_bytes_of_the_format(rt: HostRuntime) {
+    let table: [(&[u8], &[u8]); 9] = [
+        (b"-1.5", &[0x78, 0x00, 0x10, 0x3F, 0x09, 0x05, 0x0B]),
+        (b"-.5", &[0x78, 0x00, 0x10, 0x40, 0x05, 0x0B]),
+        (b"0", &[0x78, 0x00, 0x20]),
+        (b".5", &[0x78, 0x00, 0x30, 0x40, 0x06, 0x00]),
+        (b"10", &[0x78, 0x00, 0x30, 0x42, 0x02, 0x00]),
+        (b"02", &[0x78, 0x00, 0x40, 0x30, 0x32, 0x00, 0x01]),
+        (
+            b"a\x00\xFF",
+            &[0x78, 0x00, 0x40, 0x61, 0x00, 0xFF, 0xFF, 0x00, 0x01],
+        ),
+        (b"-0", &[0x78, 0x00, 0x40, 0x2D, 0x30, 0x00, 0x01]),
+        (b"1.", &[0x78, 0x00, 0x40, 0x31, 0x2E, 0x00, 0x01]),
+    ];
+    for (text, want) in table {
+        let key = key_of_sub(rt.alloc(), text).expect(&rt, "memory");
+        assert_eq!(rt; key.as_slice(), want, "{text:?}");
+    }
+}
+
+#[test]
+fn subscripts_past_the_limits_are_refused(rt: HostRuntime) {
+    let empty = key_of_sub(rt.alloc(), b"");
+    assert!(rt;
+        matches!(empty, Err(KeyError::EmptySubscript)),
+        "the empty subscript"
+    );
+    let longest = vec![in rt.alloc(); b'a'; 495].expect(&rt, "memory");
+    let key = key_of_sub(rt.alloc(), &longest).expect(&rt, "a key of 500 bytes");
+    assert_eq!(rt; key.as_slice().len(), 500, "the longest key");
+    let longer = vec![in rt.alloc(); b'a'; 496].expect(&rt, "memory");
+    let refused = key_of_sub(rt.alloc(), &longer);
+    assert!(rt;
+        matches!(refused, Err(KeyError::KeyTooLong)),
+        "a key of 501 bytes"
+    );
+}
+
+#[test]
+fn numbers_stand_by_value_and_before_texts(rt: HostRuntime) {
+    for pair in RISING.windows(2) {
+        if let [less, more] = pair {
+            let below = key_of_sub(rt.alloc(), less).expect(&rt, "memory");
+            let above = key_of_sub(rt.alloc(), more).expect(&rt, "memory");
+            assert!(rt; below < above, "{less:?} before {more:?}");
+            assert!(rt;
+                below.as_slice().get(2) == Some(&0x30),
+                "{less:?} is a number"
+            );
+        }
+    }
+    let mixed: [&[u8]; 10] = [
+        b"-10", b"-1.5", b"-.5", b"0", b".5", b"2", b"10", b"02", b"A", b"a",
+    ];
+    for pair in mixed.windows(2) {
+        if let [less, more] = pair {
+            let below = key_of_sub(rt.alloc(), less).expect(&rt, "memory");
+            let above = key_of_sub(rt.alloc(), more).expect(&rt, "memory");
+            assert!(rt; below < above, "{less:?} before {more:?}");
+        }
+    }
+}
+
+#[test]
+fn texts_of_numbers_are_read_and_written(rt: HostRuntime) {
+    for text in RISING {
+        let number = Decimal::read(text).expect(&rt, "a canonical number");
+        let mut written = Vec::new(rt.alloc());
+        number.write(&mut written).expect(&rt, "memory");
+        assert_eq!(rt; written.as_slice(), text, "the text again");
+    }
+    let others: [&[u8]; 12] = [
+        b"",
+        b"-",
+        b".",
+        b"-0",
+        b"00",
+        b"01",
+        b"0.5",
+        b"1.",
+        b"1.50",
+        b"1..2",
+        b"1e5",
+        b"1234567890123456789",
+    ];
+    for text in others {
+        assert!(rt;
+            Decimal::read(text).is_none(),
+            "{text:?} is no canonical number"
+        );
+    }
+}
+
+#[test]
+fn the_span_under_a_node_ends_behind_its_descendants(rt: HostRuntime) {
+    let one = key_of_sub(rt.alloc(), b"1").expect(&rt, "memory");
+    let two = key_of_sub(rt.alloc(), b"2").expect(&rt, "memory");
+    let span = Span::under(rt.alloc(), &one).expect(&rt, "memory");
+    assert!(rt; span.contains(&one), "the node itself");
+    assert!(rt; !span.contains(&two), "the next node");
+    let next = Span::under(rt.alloc(), &two).expect(&rt, "memory");
+    assert!(rt;
+        span.meets(&span) && !span.meets(&next),
+        "spans of two nodes"
+    );
+}
