@@ -1,0 +1,9 @@
+pub mod Plain
+pub mod Items
+pub mod OrderRows
+pub mod EndRows
+pub mod JobRows
+pub mod LockRows
+pub mod Step
+pub mod Run
+pub mod Recording
