@@ -1,1 +1,3 @@
 pub mod RunLemmas
+mod FirstRun
+mod Frame

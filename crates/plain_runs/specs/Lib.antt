@@ -7,3 +7,5 @@ pub mod LockRows
 pub mod Step
 pub mod Run
 pub mod Recording
+pub mod FirstRun
+pub mod Laws

@@ -3,6 +3,7 @@
 //! `Recorder` writes a trail that is a run. No clause says that any program follows it.
 #![tactic(auto)]
 
+pub mod laws;
 mod recorder;
 
 pub use recorder::Recorder;

@@ -1,0 +1,45 @@
+-- The trail of the worked first run.
+use Rattle.std.proofs.Common.{◌≡◌, ◌≢◌, ℕ, zero, suc, ◌≤◌, ◌<◌, ◌+◌, List, [], ◌∷◌, refl, Bool, true, false, arith, Option, Some, None}
+use Rattle.plain_orders.specs.declared.op.Op.TheVariants.{Set}
+use Rattle.plain_orders.specs.declared.item.Item.TheVariants.{Op}
+use Rattle.plain_orders.specs.declared.entry.Entry.TheVariants.{Opened as OpenedEntry, Update}
+use Rattle.plain_orders.specs.declared.act.Act.{Act}
+use Rattle.plain_orders.specs.declared.act.Act.TheVariants.{Opened, Enter, Synced, Met, Issue, Read}
+use Rattle.plain_orders.specs.declared.via.Via.TheVariants.{Fetched}
+use Rattle.plain_orders.specs.declared.question.Question.TheVariants.{Get}
+use Rattle.subscript_keys.specs.Key.{IsKey, key_of}
+use Rattle.plain_orders.specs.Ordered.{KeyMay}
+use Rattle.plain_runs.specs.Run.{IsRun}
+use Rattle.plain_runs.specs.FirstRun.{first_layout, first_run}
+
+-- ^x is a node
+pub x_key : IsKey (120 ∷ 0 ∷ [])
+unfolding key_of
+x_key = (record { name = 120 ∷ []; subs = [] }, record { name = (refl, tt, omega arith); subs = tt }, refl)
+
+pub x_may : KeyMay (120 ∷ 0 ∷ [])
+x_may = record { is_key = x_key; within = omega arith }
+
+pub first_run_is_run : IsRun first_layout first_run
+first_run_is_run = (
+  record { fresh = refl; ordered = tt; low = omega arith },
+  (
+    record { opened = refl; place = refl; alone = refl; up = refl },
+    (
+      record { opened = refl; no_less = omega arith; within = omega arith },
+      (
+        (refl, record { place = refl; synced = omega arith; entered = refl; behind = refl; fresh = refl; none = refl }),
+        (
+          (record { known = omega arith; alive = refl; free = refl }, record { there = refl; unbroken = refl; next = refl; its = record { key_may = x_may; within = omega arith } }),
+          (
+            record { is_live = refl; told = refl; next = refl; issued = refl },
+            (
+              record { opened = refl; no_less = omega arith; within = omega arith },
+              ((record { known = omega arith; alive = refl; free = refl }, record { there = refl; no_less = omega arith; within = omega arith; answer = record { result = refl; by = refl } }), tt),
+            ),
+          ),
+        ),
+      ),
+    ),
+  ),
+)

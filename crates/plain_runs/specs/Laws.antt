@@ -1,0 +1,100 @@
+-- Laws over every run of the plain machine.
+use Rattle.std.specs.Prelude.{◌≡◌, ◌≢◌, ℕ, Bool, true, false, ◌+◌, ◌<◌, ◌≤◌, List, [], ◌∷◌, ◌++◌, length, take, Option, Some, None}
+use Rattle.plain_orders.specs.declared.act.Act.{Act}
+use Rattle.plain_orders.specs.declared.act.Act.TheVariants.{Opened, Enter, Synced, Shut, Release, Met, Told, Back, Crash, Issue, Read, Grant, Granted, GiveUp, Quit, Free, Counted, NotWhole, Range, Committed, RolledBack, Reached, Level, Done, Refused, Broke, Mended, Tick, Lose, Died}
+use Rattle.plain_orders.specs.declared.refused.Refused.{Refused as Refusal}
+use Rattle.plain_orders.specs.declared.refused.Refused.TheVariants.{NoTransaction, TooDeep, RollbackOnly, LockTimeout, Network}
+use Rattle.plain_orders.specs.declared.layout.Layout.{Layout}
+use Rattle.plain_runs.specs.Plain.{Plain, Server}
+use Rattle.plain_runs.specs.Step.{MayCome, after}
+use Rattle.plain_runs.specs.Run.{IsRun, state_after}
+
+-- A run goes on with an act that may come, and then the state is what the act makes of it.
+abbrev pub Extended : Type 0
+Extended =
+    (layout : Layout) (acts : List Act) (a : Act) → IsRun layout acts → MayCome layout (state_after layout acts) a
+    → IsRun layout (acts ++ a ∷ []) × (state_after layout (acts ++ a ∷ []) ≡ after layout (state_after layout acts) a)
+
+-- the data server that a refusal names
+abbrev pub server_of_refusal : Refusal → Option ℕ
+server_of_refusal NoTransaction = None
+server_of_refusal TooDeep = None
+server_of_refusal RollbackOnly = None
+server_of_refusal LockTimeout = None
+server_of_refusal (Network server state reason) = Some server
+
+-- the data server that an act names
+abbrev pub server_of : Act → Option ℕ
+server_of (Opened d entries) = Some d
+server_of (Enter d entry) = Some d
+server_of (Synced d n) = Some d
+server_of (Shut d session cause) = Some d
+server_of (Release d session) = Some d
+server_of (Met app d session) = Some d
+server_of (Told app d session epoch kept) = Some d
+server_of (Back d) = Some d
+server_of (Crash d kept) = Some d
+server_of (Issue job line d w item) = Some d
+server_of (Read job line d at via question) = Some d
+server_of (Grant d session job mode key at) = Some d
+server_of (Granted job line d at) = Some d
+server_of (GiveUp job line d mode key) = Some d
+server_of (Quit job line d mode key) = Some d
+server_of (Free d session job mode key) = Some d
+server_of (Counted job line d at sum) = Some d
+server_of (NotWhole job line d at) = Some d
+server_of (Range job line d at) = Some d
+server_of (Committed job line d at) = Some d
+server_of (RolledBack job line d at) = Some d
+server_of (Reached job line d at) = Some d
+server_of (Level job line level) = None
+server_of (Done job line) = None
+server_of (Refused job line refusal) = server_of_refusal refusal
+server_of (Broke app d end time) = Some d
+server_of (Mended app d) = Some d
+server_of (Tick time) = None
+server_of (Lose app d loss) = Some d
+server_of (Died app) = None
+
+-- An act leaves each server that it doesn't name.
+abbrev pub Framed : Type 0
+Framed = (layout : Layout) (p : Plain) (a : Act) (d : ℕ) → server_of a ≢ Some d → (after layout p a).server_at d ≡ p.server_at d
+
+-- an act by which what a job has seen may fall
+abbrev pub may_fall : Act → Bool
+may_fall (Opened d entries) = false
+may_fall (Enter d entry) = false
+may_fall (Synced d n) = false
+may_fall (Shut d session cause) = false
+may_fall (Release d session) = false
+may_fall (Met app d session) = true
+may_fall (Told app d session epoch kept) = true
+may_fall (Back d) = false
+may_fall (Crash d kept) = false
+may_fall (Issue job line d w item) = false
+may_fall (Read job line d at via question) = false
+may_fall (Grant d session job mode key at) = false
+may_fall (Granted job line d at) = false
+may_fall (GiveUp job line d mode key) = false
+may_fall (Quit job line d mode key) = false
+may_fall (Free d session job mode key) = false
+may_fall (Counted job line d at sum) = false
+may_fall (NotWhole job line d at) = false
+may_fall (Range job line d at) = false
+may_fall (Committed job line d at) = false
+may_fall (RolledBack job line d at) = false
+may_fall (Reached job line d at) = false
+may_fall (Level job line level) = false
+may_fall (Done job line) = false
+may_fall (Refused job line refusal) = false
+may_fall (Broke app d end time) = false
+may_fall (Mended app d) = false
+may_fall (Tick time) = false
+may_fall (Lose app d loss) = false
+may_fall (Died app) = false
+
+-- What a job has seen of a server never falls, but where its application server is told of a new epoch or meets a new session.
+abbrev pub SeenNeverFalls : Type 0
+SeenNeverFalls =
+    (layout : Layout) (p : Plain) (a : Act) (d j : ℕ) → MayCome layout p a → may_fall a ≡ false
+    → ((p.server_at d).known_at j).seen ≤ (((after layout p a).server_at d).known_at j).seen
