@@ -1,5 +1,5 @@
 -- The trail of the worked first run.
-use Rattle.std.proofs.Common.{◌≡◌, ◌≢◌, ℕ, zero, suc, ◌≤◌, ◌<◌, ◌+◌, List, [], ◌∷◌, refl, Bool, true, false, arith, Option, Some, None}
+use Rattle.std.proofs.Common.{◌≡◌, ◌≢◌, ℕ, zero, suc, ◌≤◌, ◌<◌, ◌+◌, List, [], ◌∷◌, ◌++◌, refl, Bool, true, false, arith, Option, Some, None}
 use Rattle.plain_orders.specs.declared.op.Op.TheVariants.{Set}
 use Rattle.plain_orders.specs.declared.item.Item.TheVariants.{Op}
 use Rattle.plain_orders.specs.declared.entry.Entry.TheVariants.{Opened as OpenedEntry, Update}
@@ -43,3 +43,12 @@ first_run_is_run = (
     ),
   ),
 )
+
+-- no node has an empty key
+pub no_empty_key : IsKey [] → ⊥
+unfolding key_of
+no_empty_key k = go k.0.name _ k.2
+  where
+    go : (name rest : List ℕ) → name ++ 0 ∷ rest ≡ [] → ⊥
+    go [] rest e = absurd (cc (e))
+    go (b ∷ bs) rest e = absurd (cc (e))

@@ -1,3 +1,5 @@
 pub mod RunLemmas
 mod FirstRun
 mod Frame
+mod FrontRuns
+mod OrderCases

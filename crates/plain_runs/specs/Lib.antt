@@ -9,3 +9,5 @@ pub mod Run
 pub mod Recording
 pub mod FirstRun
 pub mod Laws
+pub mod Fronts
+pub mod OrderExamples

@@ -1,0 +1,68 @@
+-- Examples of acts that are accepted, and of acts that are refused since one condition fails.
+use Rattle.std.specs.Prelude.{ℕ, pos, List, [], ◌∷◌, ◌++◌, Some, None}
+use Rattle.plain_orders.specs.declared.act.Act.{Act}
+use Rattle.plain_orders.specs.declared.act.Act.TheVariants.{Opened, Enter, Synced, Shut, Release, Met, Told, Back, Crash, Issue, Read, Grant, Granted, GiveUp, Quit, Free, Counted, NotWhole, Range, Committed, RolledBack, Reached, Level, Done, Refused as RefusedAct, Broke, Mended, Tick, Lose, Died}
+use Rattle.plain_orders.specs.declared.op.Op.TheVariants.{Set, Kill, Add}
+use Rattle.plain_orders.specs.declared.item.Item.TheVariants.{Op, Commit as CommitItem, Rollback as RollbackItem}
+use Rattle.plain_orders.specs.declared.entry.Entry.TheVariants.{Epoch, Opened as OpenEntry, Closed, Update, Commit, Rollback}
+use Rattle.plain_orders.specs.declared.mode.Mode.TheVariants.{Exclusive, Shared}
+use Rattle.plain_orders.specs.declared.via.Via.TheVariants.{Own, Cached, Fetched}
+use Rattle.plain_orders.specs.declared.question.Question.TheVariants.{Get, Data, Next}
+use Rattle.plain_orders.specs.declared.causes.ShutCause.TheVariants.{Trouble as ByTrouble, Replaced, Round as ByRound}
+use Rattle.plain_orders.specs.declared.causes.PairEnd.TheVariants.{App as AppEnd, Server as ServerEnd}
+use Rattle.plain_orders.specs.declared.causes.Loss.TheVariants.{Reset as ByReset, Expired as ByExpired, NoWay as ByNoWay}
+use Rattle.plain_orders.specs.declared.refused.Refused.TheVariants.{NoTransaction, TooDeep, RollbackOnly, LockTimeout, Network}
+use Rattle.plain_orders.specs.declared.refused.ReasonName.TheVariants.{Reset, NoWay}
+use Rattle.plain_orders.specs.declared.refused.LinkName.TheVariants.{NotConnected, Normal, Recovery}
+use Rattle.plain_orders.specs.declared.layout.Layout.{Layout}
+use Rattle.subscript_keys.specs.declared.sub.Sub.TheVariants.{Text}
+use Rattle.plain_runs.specs.Fronts.{small, Accepted, Refuses, long_key, long_value, crashed, entered, issued, issued_closed, issued_cut, issued_more, issued_told, kept, met, nothing, opened, saved, told, told_closed}
+
+-- opened
+abbrev pub OpenedExamples : Type 0
+OpenedExamples =
+    Accepted nothing (Opened 0 [])
+    × Refuses opened (Opened 0 [])
+    × Refuses nothing (Opened 0 (Epoch 2 ∷ []))
+
+-- enter
+abbrev pub EnterExamples : Type 0
+EnterExamples =
+    Accepted opened (Enter 0 (OpenEntry 2 0))
+    × Refuses nothing (Enter 0 (OpenEntry 1 0))
+    × Refuses opened (Enter 0 (OpenEntry 3 0))
+    × Refuses entered (Enter 0 (OpenEntry 3 0))
+    × Refuses crashed (Enter 0 (OpenEntry 5 1))
+    × Refuses opened (Enter 0 (Epoch 2))
+    × Refuses entered (Enter 0 (Closed 2))
+    × Accepted issued (Enter 0 (Update 2 1 0 0 (Set (120 ∷ 0 ∷ []) (53 ∷ []))))
+    × Refuses issued_closed (Enter 0 (Update 2 1 0 0 (Set (120 ∷ 0 ∷ []) (53 ∷ []))))
+    × Refuses issued_cut (Enter 0 (Update 2 1 0 0 (Set (120 ∷ 0 ∷ []) (53 ∷ []))))
+    × Refuses issued_more (Enter 0 (Update 2 2 0 0 (Set (120 ∷ 0 ∷ []) (53 ∷ []))))
+    × Refuses met (Enter 0 (Update 2 1 0 0 (Set (120 ∷ 0 ∷ []) (53 ∷ []))))
+    × Refuses issued (Enter 0 (Update 2 1 2 0 (Set (120 ∷ 0 ∷ []) (53 ∷ []))))
+
+-- synced
+abbrev pub SyncedExamples : Type 0
+SyncedExamples =
+    Accepted entered (Synced 0 2)
+    × Refuses nothing (Synced 0 0)
+    × Refuses saved (Synced 0 1)
+    × Refuses saved (Synced 0 3)
+
+-- crash
+abbrev pub CrashExamples : Type 0
+CrashExamples =
+    Accepted kept (Crash 0 3)
+    × Refuses nothing (Crash 0 0)
+    × Refuses kept (Crash 0 2)
+    × Refuses kept (Crash 0 4)
+
+-- back
+abbrev pub BackExamples : Type 0
+BackExamples =
+    Accepted told (Back 0)
+    × Refuses kept (Back 0)
+    × Refuses crashed (Back 0)
+    × Refuses issued_told (Back 0)
+    × Refuses told_closed (Back 0)
