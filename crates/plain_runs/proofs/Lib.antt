@@ -3,3 +3,6 @@ mod FirstRun
 mod Frame
 mod FrontRuns
 mod OrderCases
+mod EndCases
+mod LockCases
+mod JobCases

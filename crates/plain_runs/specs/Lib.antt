@@ -11,3 +11,6 @@ pub mod FirstRun
 pub mod Laws
 pub mod Fronts
 pub mod OrderExamples
+pub mod EndExamples
+pub mod LockExamples
+pub mod JobExamples
