@@ -1,5 +1,6 @@
 -- The trails that the examples begin with are runs.
-use Rattle.std.proofs.Common.{◌≡◌, ◌≢◌, ℕ, zero, suc, ◌≤◌, ◌<◌, ◌+◌, List, [], ◌∷◌, ◌++◌, refl, ap, Bool, true, false, arith, Option, Some, None}
+use Rattle.std.proofs.lemmas.Bool.{ne_eqb}
+use Rattle.std.proofs.Common.{eqb, ◌≡◌, ◌≢◌, ℕ, zero, suc, ◌≤◌, ◌<◌, ◌+◌, List, [], ◌∷◌, ◌++◌, refl, ap, Bool, true, false, arith, Option, Some, None}
 use Rattle.std.specs.Prelude.{pos}
 use Rattle.plain_orders.specs.declared.act.Act.{Act}
 use Rattle.plain_orders.specs.declared.act.Act.TheVariants.{Opened, Enter, Synced, Shut, Release, Met, Told, Back, Crash, Issue, Read, Grant, Granted, GiveUp, Quit, Free, Counted, NotWhole, Range, Committed, RolledBack, Reached, Level, Done, Refused as RefusedAct, Broke, Mended, Tick, Lose, Died}
@@ -19,7 +20,7 @@ use Rattle.plain_orders.specs.declared.layout.Layout.{Layout}
 use Rattle.subscript_keys.specs.declared.sub.Sub.TheVariants.{Text}
 use Rattle.plain_runs.specs.Plain.{start}
 use Rattle.plain_runs.specs.Run.{IsRun}
-use Rattle.plain_runs.specs.Fronts.{small, nines_text, nothing, opened, entered, saved, met, issued, applied, kept, crashed, recovering, almost_due, told, told_closed, issued_more, issued_closed, issued_cut, issued_told, cut, cut_saved, closed, closed_saved, replaced, replaced_broke, replaced_late, replaced_saved, replaced_lost, late, later, server_broke, server_late, server_early, app_broke, app_late, app_early, saved_dead, met_dead, crashed_dead, broke_dead, closed_dead, found, granted, answered, given, quitted, issued_quit, both, both_held, added, added_in, added_kept, letter, letter_in, letter_added, letter_added_in, letter_kept, nines, nines_in, nines_added, nines_added_in, nines_kept, level_one, updated, updated_in, commit_issued, commit_in, commit_kept, commit_cut, commit_cut_saved, rollback_issued, rollback_in, rollback_kept, updated_broke, updated_late, updated_lost, used_closed, used_saved, used_lost, used_again, used_again_saved, barred, no_way}
+use Rattle.plain_runs.specs.Fronts.{small, nines_text, nothing, opened, entered, saved, met, issued, applied, kept, crashed, recovering, almost_due, told, told_closed, issued_more, issued_closed, issued_cut, issued_told, cut, cut_saved, closed, closed_saved, replaced, replaced_broke, replaced_late, replaced_saved, replaced_lost, late, later, server_broke, server_late, server_early, app_broke, app_late, app_early, saved_dead, met_dead, crashed_dead, broke_dead, closed_dead, found, granted, answered, given, quitted, issued_quit, both, both_held, added, added_in, added_kept, letter, letter_in, letter_added, letter_added_in, letter_kept, nines, nines_in, nines_added, nines_added_in, nines_kept, level_one, updated, updated_in, commit_issued, commit_in, commit_kept, commit_cut, commit_cut_saved, rollback_issued, rollback_in, rollback_kept, updated_broke, updated_late, updated_lost, used_closed, used_saved, used_lost, used_again, used_again_saved, barred, used_no_way, no_way}
 use Rattle.plain_runs.proofs.RunLemmas.{run_more}
 use Rattle.plain_runs.proofs.FirstRun.{x_may}
 
@@ -262,6 +263,9 @@ used_again_saved_runs = run_more small start used_again (Synced 0 4) used_again_
 
 pub barred_runs : IsRun small barred
 barred_runs = run_more small start used_again_saved (Met 0 0 4) used_again_saved_runs ((refl, record { place = refl; synced = omega arith; entered = refl; behind = refl; fresh = refl; none = refl }))
+
+pub used_no_way_runs : IsRun small used_no_way
+used_no_way_runs = run_more small start used_lost (Lose 0 0 (ByNoWay 0 1)) used_lost_runs ((refl, record { none = refl; failed = omega arith }))
 
 pub no_way_runs : IsRun small no_way
 no_way_runs = run_more small start saved (Lose 0 0 (ByNoWay 0 1)) saved_runs ((refl, record { none = refl; failed = omega arith }))

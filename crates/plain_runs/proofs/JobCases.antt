@@ -1,5 +1,6 @@
 -- Examples of acts that are accepted, and of acts that are refused since one condition fails.
-use Rattle.std.proofs.Common.{◌≡◌, ◌≢◌, ℕ, zero, suc, ◌≤◌, ◌<◌, ◌+◌, List, [], ◌∷◌, ◌++◌, refl, ap, Bool, true, false, arith, Option, Some, None}
+use Rattle.std.proofs.lemmas.Bool.{ne_eqb}
+use Rattle.std.proofs.Common.{eqb, ◌≡◌, ◌≢◌, ℕ, zero, suc, ◌≤◌, ◌<◌, ◌+◌, List, [], ◌∷◌, ◌++◌, refl, ap, Bool, true, false, arith, Option, Some, None}
 use Rattle.std.specs.Prelude.{pos}
 use Rattle.plain_orders.specs.declared.act.Act.{Act}
 use Rattle.plain_orders.specs.declared.act.Act.TheVariants.{Opened, Enter, Synced, Shut, Release, Met, Told, Back, Crash, Issue, Read, Grant, Granted, GiveUp, Quit, Free, Counted, NotWhole, Range, Committed, RolledBack, Reached, Level, Done, Refused as RefusedAct, Broke, Mended, Tick, Lose, Died}
@@ -18,18 +19,15 @@ use Rattle.plain_orders.specs.declared.refused.LinkName.TheVariants.{NotConnecte
 use Rattle.plain_orders.specs.declared.layout.Layout.{Layout}
 use Rattle.subscript_keys.specs.declared.sub.Sub.TheVariants.{Text}
 use Rattle.plain_runs.specs.Plain.{start}
-use Rattle.plain_runs.specs.Fronts.{small, Accepted, Refuses, long_key, long_value, added, added_in, added_kept, app_broke, applied, barred, commit_cut_saved, commit_in, commit_issued, commit_kept, cut_saved, issued, kept, letter_kept, level_one, met, met_dead, nines_kept, no_way, nothing, quitted, rollback_kept, saved, updated, updated_in, updated_lost}
-use Rattle.plain_runs.proofs.FrontRuns.{added_runs, added_in_runs, added_kept_runs, app_broke_runs, applied_runs, barred_runs, commit_cut_saved_runs, commit_in_runs, commit_issued_runs, commit_kept_runs, cut_saved_runs, issued_runs, kept_runs, letter_kept_runs, level_one_runs, met_runs, met_dead_runs, nines_kept_runs, no_way_runs, nothing_runs, quitted_runs, rollback_kept_runs, saved_runs, updated_runs, updated_in_runs, updated_lost_runs}
+use Rattle.plain_runs.specs.Fronts.{small, Accepted, Refuses, long_key, long_value, added_in, added_kept, app_broke, applied, barred, commit_cut_saved, commit_in, commit_issued, commit_kept, cut_saved, issued, kept, letter_kept, level_one, met, met_dead, nines_kept, no_way, nothing, quitted, rollback_kept, saved, updated, updated_in, updated_lost, used_no_way}
+use Rattle.plain_runs.proofs.FrontRuns.{added_in_runs, added_kept_runs, app_broke_runs, applied_runs, barred_runs, commit_cut_saved_runs, commit_in_runs, commit_issued_runs, commit_kept_runs, cut_saved_runs, issued_runs, kept_runs, letter_kept_runs, level_one_runs, met_runs, met_dead_runs, nines_kept_runs, no_way_runs, nothing_runs, quitted_runs, rollback_kept_runs, saved_runs, updated_runs, updated_in_runs, updated_lost_runs, used_no_way_runs}
 use Rattle.plain_runs.proofs.RunLemmas.{run_more}
 use Rattle.plain_runs.proofs.FirstRun.{x_may, no_empty_key}
-use Rattle.plain_runs.specs.JobExamples.{IssueExamples, ReadExamples, CountedExamples, CommittedExamples, ReachedExamples, LevelExamples, DoneExamples, RefusedExamples}
+use Rattle.plain_runs.specs.JobExamples.{IssueExamples, ReadExamples, CountedExamples, CommittedExamples, ReachedExamples, BarredExamples, LevelExamples, DoneExamples, RefusedExamples}
 
 pub issue_examples : IssueExamples
 issue_examples =
     (run_more small start met (Issue 0 5 0 1 (Op (Set (120 ∷ 0 ∷ []) (53 ∷ [])))) met_runs ((record { known = omega arith; alive = refl; free = refl }, record { there = refl; unbroken = refl; next = refl; its = record { key_may = x_may; within = omega arith } })),
-    (met_runs, λ may. omega (arith, may.0.known)),
-    (met_dead_runs, λ may. absurd (cc (may.0.alive))),
-    (barred_runs, λ may. absurd (cc (may.0.free))),
     (saved_runs, λ may. absurd (cc (may.1.there))),
     (app_broke_runs, λ may. absurd (cc (may.1.unbroken))),
     (met_runs, λ may. omega (arith, may.1.next)),
@@ -50,7 +48,6 @@ pub read_examples : ReadExamples
 read_examples =
     (run_more small start kept (Read 0 6 0 3 Fetched (Get (120 ∷ 0 ∷ []) (Some (53 ∷ [])))) kept_runs ((record { known = omega arith; alive = refl; free = refl }, record { there = refl; no_less = omega arith; within = omega arith; answer = record { result = refl; by = refl } })),
     run_more small start issued (Read 0 6 0 2 Own (Get (120 ∷ 0 ∷ []) (Some (53 ∷ [])))) issued_runs ((record { known = omega arith; alive = refl; free = refl }, record { there = refl; no_less = omega arith; within = omega arith; answer = record { result = refl; by = refl } })),
-    (barred_runs, λ may. absurd (cc (may.0.free))),
     (saved_runs, λ may. absurd (cc (may.1.there))),
     (kept_runs, λ may. omega (arith, may.1.no_less)),
     (kept_runs, λ may. omega (arith, may.1.within)),
@@ -68,13 +65,11 @@ read_examples =
 pub counted_examples : CountedExamples
 counted_examples =
     (run_more small start added_kept (Counted 0 5 0 3 (pos 1)) added_kept_runs ((record { known = omega arith; alive = refl; free = refl }, record { stands = record { there = refl; synced = omega arith; its = refl; in_told = refl; in_order = refl }; is_sum = refl })),
-    (barred_runs, λ may. absurd (cc (may.0.free))),
     (saved_runs, λ may. absurd (cc (may.1.stands.there))),
     (added_in_runs, λ may. omega (arith, may.1.stands.synced)),
     (added_kept_runs, λ may. absurd (cc (may.1.stands.its))),
     (added_kept_runs, λ may. absurd (cc (may.1.stands.its))),
     (kept_runs, λ may. absurd (cc (may.1.stands.its))),
-    (added_runs, λ may. absurd (cc (may.1.stands.in_told))),
     (added_kept_runs, λ may. absurd (cc (may.1.is_sum))),
     run_more small start letter_kept (NotWhole 0 5 0 4) letter_kept_runs ((record { known = omega arith; alive = refl; free = refl }, record { stands = record { there = refl; synced = omega arith; its = refl; in_told = refl; in_order = refl }; is_sum = refl })),
     (added_kept_runs, λ may. absurd (cc (may.1.is_sum))),
@@ -99,9 +94,46 @@ reached_examples =
     (kept_runs, λ may. absurd (cc (may.1.in_told))),
     (cut_saved_runs, λ may. absurd (cc (may.1.in_order))))
 
+pub barred_examples : BarredExamples
+barred_examples =
+    ((met_runs, λ may. omega (arith, may.0.known)),
+    (met_dead_runs, λ may. absurd (cc (may.0.alive))),
+    (barred_runs, λ may. absurd (cc (may.0.free))),
+    (met_runs, λ may. omega (arith, may.0.known)),
+    (met_dead_runs, λ may. absurd (cc (may.0.alive))),
+    (barred_runs, λ may. absurd (cc (may.0.free))),
+    (met_runs, λ may. omega (arith, may.0.known)),
+    (met_dead_runs, λ may. absurd (cc (may.0.alive))),
+    (barred_runs, λ may. absurd (cc (may.0.free))),
+    (met_runs, λ may. omega (arith, may.0.known)),
+    (met_dead_runs, λ may. absurd (cc (may.0.alive))),
+    (barred_runs, λ may. absurd (cc (may.0.free))),
+    (met_runs, λ may. omega (arith, may.0.known)),
+    (met_dead_runs, λ may. absurd (cc (may.0.alive))),
+    (barred_runs, λ may. absurd (cc (may.0.free))),
+    (met_runs, λ may. omega (arith, may.0.known)),
+    (met_dead_runs, λ may. absurd (cc (may.0.alive))),
+    (barred_runs, λ may. absurd (cc (may.0.free))),
+    (met_runs, λ may. omega (arith, may.0.known)),
+    (met_dead_runs, λ may. absurd (cc (may.0.alive))),
+    (barred_runs, λ may. absurd (cc (may.0.free))),
+    (met_runs, λ may. omega (arith, may.0.known)),
+    (met_dead_runs, λ may. absurd (cc (may.0.alive))),
+    (barred_runs, λ may. absurd (cc (may.0.free))),
+    (met_runs, λ may. omega (arith, may.0.known)),
+    (met_dead_runs, λ may. absurd (cc (may.0.alive))),
+    (barred_runs, λ may. absurd (cc (may.0.free))),
+    (met_runs, λ may. omega (arith, may.0.known)),
+    (met_dead_runs, λ may. absurd (cc (may.0.alive))),
+    (barred_runs, λ may. absurd (cc (may.0.free))),
+    (met_runs, λ may. omega (arith, may.0.known)),
+    (met_dead_runs, λ may. absurd (cc (may.0.alive))),
+    (barred_runs, λ may. absurd (cc (may.0.free))))
+
 pub level_examples : LevelExamples
 level_examples =
-    (run_more small start nothing (Level 0 4 1) nothing_runs ((record { known = omega arith; alive = refl }, record { near = refl; ended = λ e. absurd (omega arith) })),
+    (run_more small start commit_issued (Level 0 6 0) commit_issued_runs ((record { known = omega arith; alive = refl }, record { near = refl; ended = λ e. elim [ zero ↦ refl | suc d ↦ let none : eqb (suc d) 0 ≡ false = ne_eqb (suc d) 0 (λ e. omega arith) in rw none refl ] })),
+    run_more small start nothing (Level 0 4 1) nothing_runs ((record { known = omega arith; alive = refl }, record { near = refl; ended = λ e. absurd (omega arith) })),
     (nothing_runs, λ may. omega (arith, may.0.known)),
     (met_dead_runs, λ may. absurd (cc (may.0.alive))),
     (nothing_runs, λ may. absurd (cc (may.1.near))),
@@ -126,4 +158,6 @@ refused_examples =
     run_more small start no_way (RefusedAct 0 6 (Network 0 NotConnected NoWay)) no_way_runs ((record { known = omega arith; alive = refl }, record { news = refl; bar = refl; its_state = refl })),
     (met_runs, λ may. absurd (cc (may.1.news))),
     (no_way_runs, λ may. absurd (cc (may.1.its_state))),
-    (barred_runs, λ may. omega (arith, may.0.known)))
+    (used_no_way_runs, λ may. absurd (cc (may.1.bar))),
+    (nothing_runs, λ may. omega (arith, may.0.known)),
+    (met_dead_runs, λ may. absurd (cc (may.0.alive))))

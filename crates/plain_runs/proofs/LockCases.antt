@@ -1,5 +1,6 @@
 -- Examples of acts that are accepted, and of acts that are refused since one condition fails.
-use Rattle.std.proofs.Common.{◌≡◌, ◌≢◌, ℕ, zero, suc, ◌≤◌, ◌<◌, ◌+◌, List, [], ◌∷◌, ◌++◌, refl, ap, Bool, true, false, arith, Option, Some, None}
+use Rattle.std.proofs.lemmas.Bool.{ne_eqb}
+use Rattle.std.proofs.Common.{eqb, ◌≡◌, ◌≢◌, ℕ, zero, suc, ◌≤◌, ◌<◌, ◌+◌, List, [], ◌∷◌, ◌++◌, refl, ap, Bool, true, false, arith, Option, Some, None}
 use Rattle.std.specs.Prelude.{pos}
 use Rattle.plain_orders.specs.declared.act.Act.{Act}
 use Rattle.plain_orders.specs.declared.act.Act.TheVariants.{Opened, Enter, Synced, Shut, Release, Met, Told, Back, Crash, Issue, Read, Grant, Granted, GiveUp, Quit, Free, Counted, NotWhole, Range, Committed, RolledBack, Reached, Level, Done, Refused as RefusedAct, Broke, Mended, Tick, Lose, Died}
@@ -18,8 +19,8 @@ use Rattle.plain_orders.specs.declared.refused.LinkName.TheVariants.{NotConnecte
 use Rattle.plain_orders.specs.declared.layout.Layout.{Layout}
 use Rattle.subscript_keys.specs.declared.sub.Sub.TheVariants.{Text}
 use Rattle.plain_runs.specs.Plain.{start}
-use Rattle.plain_runs.specs.Fronts.{small, Accepted, Refuses, long_key, long_value, answered, barred, both_held, closed, closed_saved, crashed, given, granted, issued_quit, met, quitted, saved}
-use Rattle.plain_runs.proofs.FrontRuns.{answered_runs, barred_runs, both_held_runs, closed_runs, closed_saved_runs, crashed_runs, given_runs, granted_runs, issued_quit_runs, met_runs, quitted_runs, saved_runs}
+use Rattle.plain_runs.specs.Fronts.{small, Accepted, Refuses, long_key, long_value, answered, both_held, closed, closed_saved, crashed, given, granted, issued_quit, met, quitted, saved}
+use Rattle.plain_runs.proofs.FrontRuns.{answered_runs, both_held_runs, closed_runs, closed_saved_runs, crashed_runs, given_runs, granted_runs, issued_quit_runs, met_runs, quitted_runs, saved_runs}
 use Rattle.plain_runs.proofs.RunLemmas.{run_more}
 use Rattle.plain_runs.proofs.FirstRun.{x_may, no_empty_key}
 use Rattle.plain_runs.specs.LockExamples.{ReleaseExamples, GrantExamples, GrantedExamples, GiveUpExamples, QuitExamples, FreeExamples}
@@ -43,7 +44,6 @@ grant_examples =
 pub granted_examples : GrantedExamples
 granted_examples =
     (run_more small start granted (Granted 0 5 0 2) granted_runs ((record { known = omega arith; alive = refl; free = refl }, record { session = refl; sent = refl; synced = omega arith })),
-    (granted_runs, λ may. omega (arith, may.0.known)),
     (saved_runs, λ may. absurd (cc (may.1.session))),
     (met_runs, λ may. absurd (cc (may.1.sent))),
     (both_held_runs, λ may. omega (arith, may.1.synced)))
@@ -59,8 +59,7 @@ pub quit_examples : QuitExamples
 quit_examples =
     (run_more small start met (Quit 0 5 0 Exclusive (120 ∷ 0 ∷ [])) met_runs ((record { known = omega arith; alive = refl; free = refl }, record { session = refl })),
     run_more small start granted (Quit 0 5 0 Exclusive (120 ∷ 0 ∷ [])) granted_runs ((record { known = omega arith; alive = refl; free = refl }, record { session = refl })),
-    (saved_runs, λ may. absurd (cc (may.1.session))),
-    (barred_runs, λ may. absurd (cc (may.0.free))))
+    (saved_runs, λ may. absurd (cc (may.1.session))))
 
 pub free_examples : FreeExamples
 free_examples =

@@ -362,6 +362,10 @@ used_again_saved = used_again ++ Synced 0 4 ∷ []
 abbrev pub barred : List Act
 barred = used_again_saved ++ Met 0 0 4 ∷ []
 
+-- a job is barred by a loss and has another one
+abbrev pub used_no_way : List Act
+used_no_way = used_lost ++ Lose 0 0 (ByNoWay 0 1) ∷ []
+
 -- a connect failed
 abbrev pub no_way : List Act
 no_way = saved ++ Lose 0 0 (ByNoWay 0 1) ∷ []

@@ -16,15 +16,12 @@ use Rattle.plain_orders.specs.declared.refused.ReasonName.TheVariants.{Reset, No
 use Rattle.plain_orders.specs.declared.refused.LinkName.TheVariants.{NotConnected, Normal, Recovery}
 use Rattle.plain_orders.specs.declared.layout.Layout.{Layout}
 use Rattle.subscript_keys.specs.declared.sub.Sub.TheVariants.{Text}
-use Rattle.plain_runs.specs.Fronts.{small, Accepted, Refuses, long_key, long_value, added, added_in, added_kept, app_broke, applied, barred, commit_cut_saved, commit_in, commit_issued, commit_kept, cut_saved, issued, kept, letter_kept, level_one, met, met_dead, nines_kept, no_way, nothing, quitted, rollback_kept, saved, updated, updated_in, updated_lost}
+use Rattle.plain_runs.specs.Fronts.{small, Accepted, Refuses, long_key, long_value, added_in, added_kept, app_broke, applied, barred, commit_cut_saved, commit_in, commit_issued, commit_kept, cut_saved, issued, kept, letter_kept, level_one, met, met_dead, nines_kept, no_way, nothing, quitted, rollback_kept, saved, updated, updated_in, updated_lost, used_no_way}
 
 -- issue
 abbrev pub IssueExamples : Type 0
 IssueExamples =
     Accepted met (Issue 0 5 0 1 (Op (Set (120 ∷ 0 ∷ []) (53 ∷ []))))
-    × Refuses met (Issue 3 5 0 1 (Op (Set (120 ∷ 0 ∷ []) (53 ∷ []))))
-    × Refuses met_dead (Issue 0 5 0 1 (Op (Set (120 ∷ 0 ∷ []) (53 ∷ []))))
-    × Refuses barred (Issue 0 5 0 1 (Op (Set (120 ∷ 0 ∷ []) (53 ∷ []))))
     × Refuses saved (Issue 0 5 0 1 (Op (Set (120 ∷ 0 ∷ []) (53 ∷ []))))
     × Refuses app_broke (Issue 0 5 0 1 (Op (Set (120 ∷ 0 ∷ []) (53 ∷ []))))
     × Refuses met (Issue 0 5 0 2 (Op (Set (120 ∷ 0 ∷ []) (53 ∷ []))))
@@ -46,7 +43,6 @@ abbrev pub ReadExamples : Type 0
 ReadExamples =
     Accepted kept (Read 0 6 0 3 Fetched (Get (120 ∷ 0 ∷ []) (Some (53 ∷ []))))
     × Accepted issued (Read 0 6 0 2 Own (Get (120 ∷ 0 ∷ []) (Some (53 ∷ []))))
-    × Refuses barred (Read 0 6 0 4 Fetched (Get (120 ∷ 0 ∷ []) None))
     × Refuses saved (Read 0 6 0 2 Fetched (Get (120 ∷ 0 ∷ []) None))
     × Refuses kept (Read 0 6 0 1 Own (Get (120 ∷ 0 ∷ []) (Some (53 ∷ []))))
     × Refuses kept (Read 0 6 0 4 Fetched (Get (120 ∷ 0 ∷ []) (Some (53 ∷ []))))
@@ -65,13 +61,11 @@ ReadExamples =
 abbrev pub CountedExamples : Type 0
 CountedExamples =
     Accepted added_kept (Counted 0 5 0 3 (pos 1))
-    × Refuses barred (Counted 0 5 0 3 (pos 1))
     × Refuses saved (Counted 0 5 0 3 (pos 1))
     × Refuses added_in (Counted 0 5 0 3 (pos 1))
     × Refuses added_kept (Counted 0 6 0 3 (pos 1))
     × Refuses added_kept (Counted 2 5 0 3 (pos 1))
     × Refuses kept (Counted 0 5 0 3 (pos 1))
-    × Refuses added (Counted 0 5 0 2 (pos 1))
     × Refuses added_kept (Counted 0 5 0 3 (pos 2))
     × Accepted letter_kept (NotWhole 0 5 0 4)
     × Refuses added_kept (NotWhole 0 5 0 3)
@@ -98,10 +92,48 @@ ReachedExamples =
     × Refuses kept (Reached 0 6 0 2)
     × Refuses cut_saved (Reached 0 6 0 3)
 
+-- acts of jobs that are not there, whose application server died, or that are barred
+abbrev pub BarredExamples : Type 0
+BarredExamples =
+    Refuses met (Issue 3 6 0 1 (Op (Set (120 ∷ 0 ∷ []) (53 ∷ []))))
+    × Refuses met_dead (Issue 0 6 0 1 (Op (Set (120 ∷ 0 ∷ []) (53 ∷ []))))
+    × Refuses barred (Issue 0 6 0 1 (Op (Set (120 ∷ 0 ∷ []) (53 ∷ []))))
+    × Refuses met (Read 3 6 0 2 Fetched (Get (120 ∷ 0 ∷ []) None))
+    × Refuses met_dead (Read 0 6 0 2 Fetched (Get (120 ∷ 0 ∷ []) None))
+    × Refuses barred (Read 0 6 0 2 Fetched (Get (120 ∷ 0 ∷ []) None))
+    × Refuses met (Granted 3 6 0 2)
+    × Refuses met_dead (Granted 0 6 0 2)
+    × Refuses barred (Granted 0 6 0 2)
+    × Refuses met (GiveUp 3 6 0 Exclusive (120 ∷ 0 ∷ []))
+    × Refuses met_dead (GiveUp 0 6 0 Exclusive (120 ∷ 0 ∷ []))
+    × Refuses barred (GiveUp 0 6 0 Exclusive (120 ∷ 0 ∷ []))
+    × Refuses met (Quit 3 6 0 Exclusive (120 ∷ 0 ∷ []))
+    × Refuses met_dead (Quit 0 6 0 Exclusive (120 ∷ 0 ∷ []))
+    × Refuses barred (Quit 0 6 0 Exclusive (120 ∷ 0 ∷ []))
+    × Refuses met (Counted 3 6 0 2 (pos 1))
+    × Refuses met_dead (Counted 0 6 0 2 (pos 1))
+    × Refuses barred (Counted 0 6 0 2 (pos 1))
+    × Refuses met (NotWhole 3 6 0 2)
+    × Refuses met_dead (NotWhole 0 6 0 2)
+    × Refuses barred (NotWhole 0 6 0 2)
+    × Refuses met (Range 3 6 0 2)
+    × Refuses met_dead (Range 0 6 0 2)
+    × Refuses barred (Range 0 6 0 2)
+    × Refuses met (Committed 3 6 0 2)
+    × Refuses met_dead (Committed 0 6 0 2)
+    × Refuses barred (Committed 0 6 0 2)
+    × Refuses met (RolledBack 3 6 0 2)
+    × Refuses met_dead (RolledBack 0 6 0 2)
+    × Refuses barred (RolledBack 0 6 0 2)
+    × Refuses met (Reached 3 6 0 2)
+    × Refuses met_dead (Reached 0 6 0 2)
+    × Refuses barred (Reached 0 6 0 2)
+
 -- level
 abbrev pub LevelExamples : Type 0
 LevelExamples =
-    Accepted nothing (Level 0 4 1)
+    Accepted commit_issued (Level 0 6 0)
+    × Accepted nothing (Level 0 4 1)
     × Refuses nothing (Level 3 4 1)
     × Refuses met_dead (Level 0 4 1)
     × Refuses nothing (Level 0 4 2)
@@ -128,4 +160,6 @@ RefusedExamples =
     × Accepted no_way (RefusedAct 0 6 (Network 0 NotConnected NoWay))
     × Refuses met (RefusedAct 0 6 (Network 0 Recovery Reset))
     × Refuses no_way (RefusedAct 0 6 (Network 0 Normal NoWay))
-    × Refuses barred (RefusedAct 3 6 NoTransaction)
+    × Refuses used_no_way (RefusedAct 0 6 (Network 0 NotConnected NoWay))
+    × Refuses nothing (RefusedAct 3 6 NoTransaction)
+    × Refuses met_dead (RefusedAct 0 6 NoTransaction)

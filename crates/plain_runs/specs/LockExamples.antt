@@ -16,7 +16,7 @@ use Rattle.plain_orders.specs.declared.refused.ReasonName.TheVariants.{Reset, No
 use Rattle.plain_orders.specs.declared.refused.LinkName.TheVariants.{NotConnected, Normal, Recovery}
 use Rattle.plain_orders.specs.declared.layout.Layout.{Layout}
 use Rattle.subscript_keys.specs.declared.sub.Sub.TheVariants.{Text}
-use Rattle.plain_runs.specs.Fronts.{small, Accepted, Refuses, long_key, long_value, answered, barred, both_held, closed, closed_saved, crashed, given, granted, issued_quit, met, quitted, saved}
+use Rattle.plain_runs.specs.Fronts.{small, Accepted, Refuses, long_key, long_value, answered, both_held, closed, closed_saved, crashed, given, granted, issued_quit, met, quitted, saved}
 
 -- release
 abbrev pub ReleaseExamples : Type 0
@@ -40,7 +40,6 @@ GrantExamples =
 abbrev pub GrantedExamples : Type 0
 GrantedExamples =
     Accepted granted (Granted 0 5 0 2)
-    × Refuses granted (Granted 3 5 0 2)
     × Refuses saved (Granted 0 5 0 2)
     × Refuses met (Granted 0 5 0 2)
     × Refuses both_held (Granted 0 5 0 3)
@@ -59,7 +58,6 @@ QuitExamples =
     Accepted met (Quit 0 5 0 Exclusive (120 ∷ 0 ∷ []))
     × Accepted granted (Quit 0 5 0 Exclusive (120 ∷ 0 ∷ []))
     × Refuses saved (Quit 0 5 0 Exclusive (120 ∷ 0 ∷ []))
-    × Refuses barred (Quit 0 5 0 Exclusive (120 ∷ 0 ∷ []))
 
 -- free
 abbrev pub FreeExamples : Type 0

@@ -1,7 +1,7 @@
 ghost use Rattle.plain_runs.specs.OrderExamples.{BackExamples, CrashExamples, EnterExamples, OpenedExamples, SyncedExamples};
 ghost use Rattle.plain_runs.specs.EndExamples.{BrokeExamples, FreeActExamples, LoseExamples, MendedExamples, MetExamples, ShutExamples, ToldExamples};
 ghost use Rattle.plain_runs.specs.LockExamples.{FreeExamples, GiveUpExamples, GrantExamples, GrantedExamples, QuitExamples, ReleaseExamples};
-ghost use Rattle.plain_runs.specs.JobExamples.{CommittedExamples, CountedExamples, DoneExamples, IssueExamples, LevelExamples, ReachedExamples, ReadExamples, RefusedExamples};
+ghost use Rattle.plain_runs.specs.JobExamples.{BarredExamples, CommittedExamples, CountedExamples, DoneExamples, IssueExamples, LevelExamples, ReachedExamples, ReadExamples, RefusedExamples};
 
 /// Examples of opened.
 pub fn opened_examples()
@@ -116,6 +116,11 @@ pub fn committed_examples()
 /// Examples of reached.
 pub fn reached_examples()
     ensures { ReachedExamples }
+{}
+
+/// Examples of acts of jobs that are not there, whose application server died, or that are barred.
+pub fn barred_examples()
+    ensures { BarredExamples }
 {}
 
 /// Examples of level.
