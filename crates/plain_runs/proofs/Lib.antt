@@ -6,3 +6,6 @@ mod OrderCases
 mod EndCases
 mod LockCases
 mod JobCases
+pub mod Numbers
+pub mod Orders
+pub mod OrderLaws

@@ -27,6 +27,15 @@ is_item_at s n (Update session w job txn op) = session == s && w == n
 is_item_at s n (Commit session w job txn) = session == s && w == n
 is_item_at s n (Rollback session w job txn) = session == s && w == n
 
+-- the entry is an item of this session
+abbrev pub is_item_of : ℕ → Entry → Bool
+is_item_of s (Epoch number) = false
+is_item_of s (Opened session app) = false
+is_item_of s (Closed session) = false
+is_item_of s (Update session w job txn op) = session == s
+is_item_of s (Commit session w job txn) = session == s
+is_item_of s (Rollback session w job txn) = session == s
+
 -- the item of this session with this running number stands in the list
 abbrev pub has_item : List Entry → ℕ → ℕ → Bool
 has_item es s n = list_any (is_item_at s n) es
@@ -44,6 +53,11 @@ w_of (Closed session) = 0
 w_of (Update session w job txn op) = w
 w_of (Commit session w job txn) = w
 w_of (Rollback session w job txn) = w
+
+-- the running numbers of a session's items, in the order of the list
+abbrev pub numbers : List Entry → ℕ → List ℕ
+numbers [] s = []
+numbers (e ∷ es) s = if is_item_of s e then w_of e ∷ numbers es s else numbers es s
 
 abbrev pub is_change_op : Operation → Bool
 is_change_op (Set key value) = true

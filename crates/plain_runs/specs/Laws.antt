@@ -1,11 +1,15 @@
 -- Laws over every run of the plain machine.
-use Rattle.std.specs.Prelude.{◌≡◌, ◌≢◌, ℕ, Bool, true, false, ◌+◌, ◌<◌, ◌≤◌, List, [], ◌∷◌, ◌++◌, length, take, Option, Some, None}
+use Rattle.std.specs.Prelude.{◌≡◌, ◌≢◌, ℕ, zero, suc, Bool, true, false, ◌+◌, ◌<◌, ◌≤◌, List, [], ◌∷◌, ◌++◌, length, take, Option, Some, None}
 use Rattle.plain_orders.specs.declared.act.Act.{Act}
 use Rattle.plain_orders.specs.declared.act.Act.TheVariants.{Opened, Enter, Synced, Shut, Release, Met, Told, Back, Crash, Issue, Read, Grant, Granted, GiveUp, Quit, Free, Counted, NotWhole, Range, Committed, RolledBack, Reached, Level, Done, Refused, Broke, Mended, Tick, Lose, Died}
 use Rattle.plain_orders.specs.declared.refused.Refused.{Refused as Refusal}
 use Rattle.plain_orders.specs.declared.refused.Refused.TheVariants.{NoTransaction, TooDeep, RollbackOnly, LockTimeout, Network}
 use Rattle.plain_orders.specs.declared.layout.Layout.{Layout}
-use Rattle.plain_runs.specs.Plain.{Plain, Server}
+use Rattle.plain_orders.specs.declared.entry.Entry.{Entry}
+use Rattle.plain_orders.specs.declared.entry.Entry.TheVariants.{Epoch}
+use Rattle.plain_orders.specs.Entries.{last_epoch}
+use Rattle.plain_runs.specs.Plain.{Plain, Server, current, order_at}
+use Rattle.plain_runs.specs.Items.{numbers}
 use Rattle.plain_runs.specs.Step.{MayCome, after}
 use Rattle.plain_runs.specs.Run.{IsRun, state_after}
 
@@ -98,3 +102,39 @@ abbrev pub SeenNeverFalls : Type 0
 SeenNeverFalls =
     (layout : Layout) (p : Plain) (a : Act) (d j : ℕ) → MayCome layout p a → may_fall a ≡ false
     → ((p.server_at d).known_at j).seen ≤ (((after layout p a).server_at d).known_at j).seen
+
+-- a server after a trail
+abbrev pub server_after : Layout → List Act → ℕ → Server
+server_after layout acts d = (state_after layout acts).server_at d
+
+-- a later order: the first entries of the one before, the next Epoch, and more
+pub record IsNextOrder (es fs : List Entry) : Type 0 where
+  pub kept : ℕ
+  pub more : List Entry
+  pub within : kept ≤ length es
+  pub later : fs ≡ take kept es ++ Epoch (last_epoch (take kept es) + 1) ∷ more
+
+-- Each order but the first keeps a front of the one before, and goes on with the next Epoch.
+abbrev pub NeighboursAgree : Type 0
+NeighboursAgree =
+    (layout : Layout) (acts : List Act) (d k : ℕ) → IsRun layout acts → k < current (server_after layout acts d)
+    → IsNextOrder (order_at (server_after layout acts d) k) (order_at (server_after layout acts d) (k + 1))
+
+-- What was synced stands at its position in each order from then on.
+abbrev pub SyncedStays : Type 0
+SyncedStays =
+    (layout : Layout) (before later : List Act) (d k : ℕ) → IsRun layout (before ++ later)
+    → current (server_after layout before d) ≤ k → k ≤ current (server_after layout (before ++ later) d)
+    → take (server_after layout before d).synced (order_at (server_after layout (before ++ later) d) k)
+    ≡ take (server_after layout before d).synced (server_after layout before d).order
+
+-- the n numbers behind k, from k + 1
+abbrev pub count_up : ℕ → ℕ → List ℕ
+count_up k zero = []
+count_up k (suc n) = (k + 1) ∷ count_up (k + 1) n
+
+-- In each order the items of a session stand in the order of their running numbers, from 1, each once.
+abbrev pub ItemsInOrder : Type 0
+ItemsInOrder =
+    (layout : Layout) (acts : List Act) (d k session : ℕ) → IsRun layout acts
+    → numbers (order_at (server_after layout acts d) k) session ≡ count_up 0 (length (numbers (order_at (server_after layout acts d) k) session))

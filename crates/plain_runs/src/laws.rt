@@ -1,5 +1,5 @@
 ghost use Rattle.plain_runs.specs.FirstRun.{FirstRunIsRun};
-ghost use Rattle.plain_runs.specs.Laws.{Extended, Framed, SeenNeverFalls};
+ghost use Rattle.plain_runs.specs.Laws.{Extended, Framed, ItemsInOrder, NeighboursAgree, SeenNeverFalls, SyncedStays};
 
 /// The trail of the worked first run is a run.
 pub fn first_run_is_run()
@@ -19,4 +19,19 @@ pub fn an_act_leaves_the_other_servers()
 /// What a job has seen never falls, but where its application server is told of an epoch or meets a session.
 pub fn what_is_seen_never_falls()
     ensures { SeenNeverFalls }
+{}
+
+/// Each order but the first keeps a front of the one before.
+pub fn neighbouring_orders_agree()
+    ensures { NeighboursAgree }
+{}
+
+/// What was synced stands at its position in each order from then on.
+pub fn what_is_synced_stays()
+    ensures { SyncedStays }
+{}
+
+/// A session's items stand in the order of their running numbers, each once.
+pub fn items_stand_in_order()
+    ensures { ItemsInOrder }
 {}
