@@ -9,3 +9,4 @@ mod JobCases
 pub mod Numbers
 pub mod Orders
 pub mod OrderLaws
+mod Clashes

@@ -1,5 +1,5 @@
 -- Laws over every run of the plain machine.
-use Rattle.std.specs.Prelude.{◌≡◌, ◌≢◌, ℕ, zero, suc, Bool, true, false, ◌+◌, ◌<◌, ◌≤◌, List, [], ◌∷◌, ◌++◌, length, take, Option, Some, None}
+use Rattle.std.specs.Prelude.{◌≡◌, ◌≢◌, ℕ, zero, suc, Bool, true, false, ◌+◌, ◌<◌, ◌≤◌, List, [], ◌∷◌, ◌++◌, length, take, Option, Some, None, slice_get, is_some, ◌||◌, ◌⊎◌, IsSomeAnd}
 use Rattle.plain_orders.specs.declared.act.Act.{Act}
 use Rattle.plain_orders.specs.declared.act.Act.TheVariants.{Opened, Enter, Synced, Shut, Release, Met, Told, Back, Crash, Issue, Read, Grant, Granted, GiveUp, Quit, Free, Counted, NotWhole, Range, Committed, RolledBack, Reached, Level, Done, Refused, Broke, Mended, Tick, Lose, Died}
 use Rattle.plain_orders.specs.declared.refused.Refused.{Refused as Refusal}
@@ -8,8 +8,11 @@ use Rattle.plain_orders.specs.declared.layout.Layout.{Layout}
 use Rattle.plain_orders.specs.declared.entry.Entry.{Entry}
 use Rattle.plain_orders.specs.declared.entry.Entry.TheVariants.{Epoch}
 use Rattle.plain_orders.specs.Entries.{last_epoch}
-use Rattle.plain_runs.specs.Plain.{Plain, Server, current, order_at}
-use Rattle.plain_runs.specs.Items.{numbers}
+use Rattle.plain_orders.specs.Entries.{closed_by}
+use Rattle.plain_orders.specs.Conflict.{is_conflict}
+use Rattle.plain_runs.specs.Plain.{Plain, Server, Hold, Given, current, order_at, issued_in}
+use Rattle.plain_runs.specs.Items.{numbers, all_stand}
+use Rattle.plain_runs.specs.OrderRows.{binds}
 use Rattle.plain_runs.specs.Step.{MayCome, after}
 use Rattle.plain_runs.specs.Run.{IsRun, state_after}
 
@@ -138,3 +141,32 @@ abbrev pub ItemsInOrder : Type 0
 ItemsInOrder =
     (layout : Layout) (acts : List Act) (d k session : ℕ) → IsRun layout acts
     → numbers (order_at (server_after layout acts d) k) session ≡ count_up 0 (length (numbers (order_at (server_after layout acts d) k) session))
+
+-- the hold at a place of the list; a hold keeps its place
+abbrev pub IsHold : Server → ℕ → Hold → Type 0
+IsHold s i h = slice_get s.holds i ≡ Some h
+
+-- No two holds in force of different holders conflict.
+abbrev pub NoConflict : Type 0
+NoConflict =
+    (layout : Layout) (acts : List Act) (d i j : ℕ) (h k : Hold) → IsRun layout acts
+    → IsHold (server_after layout acts d) i h → IsHold (server_after layout acts d) j k → i ≢ j
+    → binds h ≡ true → binds k ≡ true → ((h.session ≡ k.session) × (h.job ≡ k.job) → ⊥)
+    → is_conflict h.mode h.key k.mode k.key ≡ false
+
+-- answered or given up
+abbrev pub touched : Hold → Bool
+touched h = h.answered || is_some h.given
+
+-- A Close of the hold's session stands in the order, or it was given up and all that its job issued in its session before stands there.
+abbrev pub IsHandedOver : Server → Hold → Type 0
+IsHandedOver s h =
+    (closed_by s.order h.session (length s.order) ≡ true)
+    ⊎ IsSomeAnd h.given (λ (g : Given). all_stand s.order h.session h.job 0 (take g.before (issued_in s h.session)) ≡ true)
+
+-- While no round is due, each hold that was answered or given up, and is gone or no longer in force, is handed over.
+abbrev pub Settled : Type 0
+Settled =
+    (layout : Layout) (acts : List Act) (d i : ℕ) (h : Hold) → IsRun layout acts → IsHold (server_after layout acts d) i h
+    → (server_after layout acts d).due ≡ None → touched h ≡ true → binds h ≡ false
+    → IsHandedOver (server_after layout acts d) h

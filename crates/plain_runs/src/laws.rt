@@ -1,5 +1,5 @@
 ghost use Rattle.plain_runs.specs.FirstRun.{FirstRunIsRun};
-ghost use Rattle.plain_runs.specs.Laws.{Extended, Framed, ItemsInOrder, NeighboursAgree, SeenNeverFalls, SyncedStays};
+ghost use Rattle.plain_runs.specs.Laws.{Extended, Framed, ItemsInOrder, NeighboursAgree, NoConflict, SeenNeverFalls, SyncedStays};
 
 /// The trail of the worked first run is a run.
 pub fn first_run_is_run()
@@ -34,4 +34,9 @@ pub fn what_is_synced_stays()
 /// A session's items stand in the order of their running numbers, each once.
 pub fn items_stand_in_order()
     ensures { ItemsInOrder }
+{}
+
+/// No two holds in force of different holders conflict.
+pub fn no_two_holds_conflict()
+    ensures { NoConflict }
 {}
