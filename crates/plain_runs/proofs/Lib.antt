@@ -10,3 +10,5 @@ pub mod Numbers
 pub mod Orders
 pub mod OrderLaws
 mod Clashes
+mod Lists
+mod HoldRows

@@ -168,18 +168,19 @@ quits s app job mode key =
 abbrev pub quits_at : Job → ℕ → Job
 quits_at x line = record x { quit_lines = x.quit_lines ++ line ∷ [] }
 
-abbrev pub is_turn : Option Given → Option Given → Bool
-is_turn None o = false
-is_turn (Some g) None = false
-is_turn (Some g) (Some o) = g.turn == o.turn
+-- both are there, and are the same
+abbrev pub is_same_given : Option Given → Option Given → Bool
+is_same_given None o = false
+is_same_given (Some g) None = false
+is_same_given (Some g) (Some o) = g.turn == o.turn && g.before == o.before
 
 abbrev pub freed_hold : Option Given → ℕ → ℕ → Mode → List ℕ → Hold → Hold
-freed_hold first session job mode key h = record h { gone = h.gone || is_turn (given_hold session job mode key h) first }
+freed_hold first session job mode key h = record h { gone = h.gone || is_same_given (given_hold session job mode key h) first }
 
--- the one whose turn is the first goes
+-- the one that was given up first goes
 abbrev pub frees : Server → ℕ → ℕ → Mode → List ℕ → Server
 frees s session job mode key =
     record s {
       holds = map (freed_hold (first_given s session job mode key) session job mode key) s.holds;
-      quits = filter (λ q. not (is_turn (given_quit session job mode key q) (first_given s session job mode key))) s.quits;
+      quits = filter (λ q. not (is_same_given (given_quit session job mode key q) (first_given s session job mode key))) s.quits;
     }
