@@ -12,3 +12,6 @@ pub mod OrderLaws
 mod Clashes
 mod Lists
 mod HoldRows
+mod LockRows
+mod Pairs
+mod LockLaws

@@ -66,7 +66,7 @@ refused_steps p j RollbackOnly e = orders_same (p.server_at e)
 refused_steps p j LockTimeout e = orders_same (p.server_at e)
 refused_steps p j (Network d state reason) e = at_put OrderSteps p.server_at d _ orders_same (orders_same (p.server_at d)) e
 
-row_steps : (l : Layout) (p : Plain) (a : Act) → MayCome l p a → (e : ℕ) → OrderSteps (p.server_at e) ((after l p a).server_at e)
+pub row_steps : (l : Layout) (p : Plain) (a : Act) → MayCome l p a → (e : ℕ) → OrderSteps (p.server_at e) ((after l p a).server_at e)
 row_steps l p (Opened d entries) may e = at_put OrderSteps p.server_at d _ orders_same (opened_steps p.clock l.times.round (p.server_at d) entries may) e
 row_steps l p (Enter d x) may e = at_put OrderSteps p.server_at d _ orders_same (enter_steps (p.server_at d) x may) e
 row_steps l p (Synced d n) may e = at_put OrderSteps p.server_at d _ orders_same (saved_steps (p.server_at d) n may) e

@@ -133,12 +133,16 @@ LoseRow layout p s app (ByNoWay before after) = LoseNoWayMay s app before after
 abbrev pub shut : Server → ℕ → Server
 shut s session = with_entry s (app_in s.order session) (Closed session)
 
+-- the session as it is when it is met
+abbrev pub new_session : Server → ℕ → ℕ → Session
+new_session s app session = record { app = app; issued = []; told = (entered_in s session).in_order }
+
 abbrev pub met_by : Layout → Server → ℕ → ℕ → Server
 met_by layout s app session =
     with_jobs_of layout
     (record s {
       pair_at = put s.pair_at app (record { session = Some session; broke = None });
-      session_at = put s.session_at session (Some (record { app = app; issued = []; told = (entered_in s session).in_order }));
+      session_at = put s.session_at session (Some (new_session s app session));
     })
     app (λ k. record k { seen = session; acted = false })
 

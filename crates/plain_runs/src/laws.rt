@@ -1,5 +1,5 @@
 ghost use Rattle.plain_runs.specs.FirstRun.{FirstRunIsRun};
-ghost use Rattle.plain_runs.specs.Laws.{Extended, Framed, ItemsInOrder, NeighboursAgree, NoConflict, SeenNeverFalls, SyncedStays};
+ghost use Rattle.plain_runs.specs.Laws.{Extended, Framed, ItemsInOrder, NeighboursAgree, NoConflict, SeenNeverFalls, Settled, SyncedStays};
 
 /// The trail of the worked first run is a run.
 pub fn first_run_is_run()
@@ -39,4 +39,9 @@ pub fn items_stand_in_order()
 /// No two holds in force of different holders conflict.
 pub fn no_two_holds_conflict()
     ensures { NoConflict }
+{}
+
+/// While no round is due, each hold that was answered or given up and no longer binds is handed over.
+pub fn what_no_longer_binds_is_handed_over()
+    ensures { Settled }
 {}
