@@ -1,4 +1,12 @@
 -- Examples of acts that are accepted, and of acts that are refused since one condition fails.
+use Rattle.std.proofs.Common.{◌∙◌, ◌==◌, ◌||◌}
+use Rattle.std.proofs.lemmas.Bool.{eq-eqb}
+use Rattle.plain_runs.specs.Plain.{Plain}
+use Rattle.plain_runs.specs.Run.{RunFrom}
+use Rattle.plain_runs.specs.Step.{after}
+use Rattle.plain_runs.specs.JobRows.{is_near}
+use Rattle.plain_runs.specs.Fronts.{levels}
+use Rattle.plain_runs.specs.JobExamples.{TooDeepExamples}
 use Rattle.std.proofs.lemmas.Bool.{ne_eqb}
 use Rattle.std.proofs.Common.{eqb, ◌≡◌, ◌≢◌, ℕ, zero, suc, ◌≤◌, ◌<◌, ◌+◌, List, [], ◌∷◌, ◌++◌, refl, ap, Bool, true, false, arith, Option, Some, None}
 use Rattle.std.specs.Prelude.{pos}
@@ -161,3 +169,15 @@ refused_examples =
     (used_no_way_runs, λ may. absurd (cc (may.1.bar))),
     (nothing_runs, λ may. omega (arith, may.0.known)),
     (met_dead_runs, λ may. absurd (cc (may.0.alive))))
+
+-- levels above levels are a run
+climbs : (p : Plain) (m n : ℕ) → p.died_at 0 ≡ false → (p.job_at 0).level ≡ m → RunFrom small p (levels m n)
+climbs p m zero alive at = tt
+climbs p m (suc n) alive at =
+    ((record { known = omega arith; alive = alive }, record { near = near; ended = λ e. absurd (omega (arith, e)) }), climbs (after small p (Level 0 4 (m + 1))) (m + 1) n alive refl)
+  where
+    near : is_near (p.job_at 0).level (m + 1) ≡ true
+    near = ap (λ k. (m + 1 == k + 1 || m + 1 + 1 == k) || m + 1 == 0) at ∙ ap (λ (b : Bool). (b || m + 1 + 1 == m) || m + 1 == 0) (eq-eqb (m + 1) (m + 1) refl)
+
+pub too_deep_examples : TooDeepExamples
+too_deep_examples = run_more small start (levels 0 255) (RefusedAct 0 4 TooDeep) (climbs start 0 255 refl refl) (record { known = omega arith; alive = refl }, refl)

@@ -1,4 +1,5 @@
 -- Examples of acts that are accepted, and of acts that are refused since one condition fails.
+use Rattle.plain_runs.specs.OrderExamples.{EpochLimitExamples}
 use Rattle.std.proofs.lemmas.Bool.{ne_eqb}
 use Rattle.std.proofs.Common.{eqb, ◌≡◌, ◌≢◌, ℕ, zero, suc, ◌≤◌, ◌<◌, ◌+◌, List, [], ◌∷◌, ◌++◌, refl, ap, Bool, true, false, arith, Option, Some, None}
 use Rattle.std.specs.Prelude.{pos}
@@ -68,3 +69,6 @@ back_examples =
     (crashed_runs, λ may. absurd (cc (may.told))),
     (issued_told_runs, λ may. absurd (cc (may.counted))),
     (told_closed_runs, λ may. absurd (cc (may.closes))))
+
+pub epoch_limit_examples : EpochLimitExamples
+epoch_limit_examples = ((λ entries high. (nothing_runs, λ may. omega (arith, may.low))), (λ p kept high may. omega (arith, may.low)))

@@ -1,5 +1,5 @@
 -- Short trails that the examples begin with.
-use Rattle.std.specs.Prelude.{ℕ, pos, List, [], ◌∷◌, ◌++◌, Some, None, replicate}
+use Rattle.std.specs.Prelude.{ℕ, zero, suc, ◌+◌, pos, List, [], ◌∷◌, ◌++◌, Some, None, replicate}
 use Rattle.plain_orders.specs.declared.act.Act.{Act}
 use Rattle.plain_orders.specs.declared.act.Act.TheVariants.{Opened, Enter, Synced, Shut, Release, Met, Told, Back, Crash, Issue, Read, Grant, Granted, GiveUp, Quit, Free, Counted, NotWhole, Range, Committed, RolledBack, Reached, Level, Done, Refused as RefusedAct, Broke, Mended, Tick, Lose, Died}
 use Rattle.plain_orders.specs.declared.op.Op.TheVariants.{Set, Kill, Add}
@@ -369,3 +369,8 @@ used_no_way = used_lost ++ Lose 0 0 (ByNoWay 0 1) ∷ []
 -- a connect failed
 abbrev pub no_way : List Act
 no_way = saved ++ Lose 0 0 (ByNoWay 0 1) ∷ []
+
+-- so many transaction levels of job 0, above a level
+abbrev pub levels : ℕ → ℕ → List Act
+levels m zero = []
+levels m (suc n) = Level 0 4 (m + 1) ∷ levels (m + 1) n

@@ -1,5 +1,6 @@
 -- Examples of acts that are accepted, and of acts that are refused since one condition fails.
 use Rattle.std.specs.Prelude.{ℕ, pos, List, [], ◌∷◌, ◌++◌, Some, None}
+use Rattle.plain_runs.specs.Fronts.{levels}
 use Rattle.plain_orders.specs.declared.act.Act.{Act}
 use Rattle.plain_orders.specs.declared.act.Act.TheVariants.{Opened, Enter, Synced, Shut, Release, Met, Told, Back, Crash, Issue, Read, Grant, Granted, GiveUp, Quit, Free, Counted, NotWhole, Range, Committed, RolledBack, Reached, Level, Done, Refused as RefusedAct, Broke, Mended, Tick, Lose, Died}
 use Rattle.plain_orders.specs.declared.op.Op.TheVariants.{Set, Kill, Add}
@@ -163,3 +164,7 @@ RefusedExamples =
     × Refuses used_no_way (RefusedAct 0 6 (Network 0 NotConnected NoWay))
     × Refuses nothing (RefusedAct 3 6 NoTransaction)
     × Refuses met_dead (RefusedAct 0 6 NoTransaction)
+
+-- a transaction 255 levels deep goes no deeper
+abbrev pub TooDeepExamples : Type 0
+TooDeepExamples = Accepted (levels 0 255) (RefusedAct 0 4 TooDeep)

@@ -1,5 +1,10 @@
 -- Examples of acts that are accepted, and of acts that are refused since one condition fails.
 use Rattle.std.specs.Prelude.{ℕ, pos, List, [], ◌∷◌, ◌++◌, Some, None}
+use Rattle.std.specs.Prelude.{◌<◌, ◌^◌, take}
+use Rattle.plain_orders.specs.declared.entry.Entry.{Entry}
+use Rattle.plain_orders.specs.Entries.{last_epoch}
+use Rattle.plain_runs.specs.Plain.{Plain}
+use Rattle.plain_runs.specs.Step.{MayCome}
 use Rattle.plain_orders.specs.declared.act.Act.{Act}
 use Rattle.plain_orders.specs.declared.act.Act.TheVariants.{Opened, Enter, Synced, Shut, Release, Met, Told, Back, Crash, Issue, Read, Grant, Granted, GiveUp, Quit, Free, Counted, NotWhole, Range, Committed, RolledBack, Reached, Level, Done, Refused as RefusedAct, Broke, Mended, Tick, Lose, Died}
 use Rattle.plain_orders.specs.declared.op.Op.TheVariants.{Set, Kill, Add}
@@ -66,3 +71,9 @@ BackExamples =
     × Refuses crashed (Back 0)
     × Refuses issued_told (Back 0)
     × Refuses told_closed (Back 0)
+
+-- no server opens or starts again with an Epoch above 2^31
+abbrev pub EpochLimitExamples : Type 0
+EpochLimitExamples =
+    ((entries : List Entry) → 2 ^ 31 < last_epoch entries → Refuses nothing (Opened 0 entries))
+    × ((p : Plain) (kept : ℕ) → 2 ^ 31 < last_epoch (take kept (p.server_at 0).order) → MayCome small p (Crash 0 kept) → ⊥)

@@ -1,7 +1,7 @@
-ghost use Rattle.plain_runs.specs.OrderExamples.{BackExamples, CrashExamples, EnterExamples, OpenedExamples, SyncedExamples};
+ghost use Rattle.plain_runs.specs.OrderExamples.{BackExamples, CrashExamples, EnterExamples, EpochLimitExamples, OpenedExamples, SyncedExamples};
 ghost use Rattle.plain_runs.specs.EndExamples.{BrokeExamples, FreeActExamples, LoseExamples, MendedExamples, MetExamples, ShutExamples, ToldExamples};
 ghost use Rattle.plain_runs.specs.LockExamples.{FreeExamples, GiveUpExamples, GrantExamples, GrantedExamples, QuitExamples, ReleaseExamples};
-ghost use Rattle.plain_runs.specs.JobExamples.{BarredExamples, CommittedExamples, CountedExamples, DoneExamples, IssueExamples, LevelExamples, ReachedExamples, ReadExamples, RefusedExamples};
+ghost use Rattle.plain_runs.specs.JobExamples.{BarredExamples, CommittedExamples, CountedExamples, DoneExamples, IssueExamples, LevelExamples, ReachedExamples, ReadExamples, RefusedExamples, TooDeepExamples};
 
 /// Examples of opened.
 pub fn opened_examples()
@@ -26,6 +26,11 @@ pub fn crash_examples()
 /// Examples of back.
 pub fn back_examples()
     ensures { BackExamples }
+{}
+
+/// Examples of the limit on Epochs.
+pub fn epoch_limit_examples()
+    ensures { EpochLimitExamples }
 {}
 
 /// Examples of shut.
@@ -136,4 +141,9 @@ pub fn done_examples()
 /// Examples of refused.
 pub fn refused_examples()
     ensures { RefusedExamples }
+{}
+
+/// Examples of a transaction that is too deep.
+pub fn too_deep_examples()
+    ensures { TooDeepExamples }
 {}

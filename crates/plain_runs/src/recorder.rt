@@ -72,3 +72,40 @@ impl Recorder {
         (layout, trail)
     }
 }
+
+#[cfg(test)]
+mod tests {
+    use super::Recorder;
+    use plain_orders::{Act, JobApps, Layout, Times};
+    use std::alloc::AllocError;
+
+    #[test]
+    fn acts_are_written_down_in_order(rt: HostRuntime) -> Result<(), AllocError> {
+        let alloc = rt.alloc();
+        let times = Times {
+            retry: 5,
+            trouble: 60,
+            recover: 1200,
+            round: 60,
+        };
+        let layout = Layout {
+            servers: 1,
+            apps: 1,
+            job_apps: JobApps::new(alloc),
+            times,
+        };
+        let mut recorder = Recorder::new(alloc, layout);
+        let noted = recorder.note(Act::Tick { time: 7 });
+        assert!(rt; noted.is_ok());
+        let first = match recorder.acts() {
+            [Act::Tick { time }] => Some(*time),
+            _ => None,
+        };
+        assert!(rt; first == Some(7));
+        assert!(rt; recorder.layout().times == times);
+        let (layout, trail) = recorder.into_parts();
+        assert!(rt; layout.servers == 1);
+        assert!(rt; trail.as_slice().len() == 1);
+        Ok(())
+    }
+}
