@@ -1,5 +1,5 @@
 -- No two holds in force of different holders conflict.
-use Rattle.std.proofs.Common.{◌≡◌, ◌≢◌, ℕ, zero, suc, ◌≤◌, ◌<◌, ◌+◌, List, [], ◌∷◌, ◌++◌, length, take, refl, subst, sym, ap, ◌∙◌, Bool, true, false, cond, eqb, if◌then◌else◌, arith, Option, Some, None, slice_get, map, ◌&&◌, ◌||◌, ◌==◌, not, ◌⊎◌, inl, inr}
+use Rattle.std.proofs.Common.{◌≡◌, ℕ, zero, suc, ◌≤◌, ◌<◌, List, [], ◌∷◌, ◌++◌, take, refl, subst, sym, ap, ◌∙◌, Bool, true, false, cond, if◌then◌else◌, arith, Some, slice_get, map, ◌&&◌, ◌||◌, ◌==◌, not, ◌⊎◌, inl, inr}
 use Rattle.std.specs.List.{list_any}
 use Rattle.std.proofs.lemmas.Bool.{eqb-true, and_parts, or_parts, cases_lt}
 use Rattle.plain_orders.specs.declared.mode.Mode.{Mode}
@@ -16,18 +16,16 @@ use Rattle.plain_orders.specs.declared.causes.Loss.{Loss}
 use Rattle.plain_orders.specs.declared.causes.Loss.TheVariants.{Reset as ByReset, Expired as ByExpired, NoWay as ByNoWay}
 use Rattle.plain_orders.specs.declared.causes.PairEnd.{PairEnd}
 use Rattle.plain_orders.specs.declared.causes.PairEnd.TheVariants.{App as AppEnd, Server as ServerEnd}
-use Rattle.plain_orders.specs.declared.causes.ShutCause.{ShutCause}
-use Rattle.plain_orders.specs.declared.causes.ShutCause.TheVariants.{Trouble as ByTrouble, Replaced, Round as ByRound}
 use Rattle.plain_orders.specs.declared.layout.Layout.{Layout}
 use Rattle.plain_orders.specs.Entries.{live}
 use Rattle.plain_runs.specs.Plain.{Plain, Server, Hold, Given, start}
 use Rattle.plain_runs.specs.OrderRows.{entered, hold_after_crash, hold_after_back, binds}
 use Rattle.plain_runs.specs.EndRows.{broke, lost}
 use Rattle.plain_runs.specs.JobRows.{refused}
-use Rattle.plain_runs.specs.LockRows.{GrantMay, opposes, is_of, change_first, change_last, answered_hold, released_hold, given_up, freed_hold}
+use Rattle.plain_runs.specs.LockRows.{opposes, is_of, change_first, change_last, answered_hold, released_hold, given_up, freed_hold}
 use Rattle.plain_runs.specs.Step.{MayCome, after}
-use Rattle.plain_runs.specs.Run.{IsRun, RunFrom, after_all}
-use Rattle.plain_runs.specs.Laws.{IsHold, NoConflict, server_after}
+use Rattle.plain_runs.specs.Run.{RunFrom, after_all}
+use Rattle.plain_runs.specs.Laws.{NoConflict, server_after}
 use Rattle.plain_runs.proofs.RunLemmas.{at_put}
 use Rattle.plain_runs.proofs.Orders.{Each}
 
@@ -60,8 +58,8 @@ same_conflict : (h k h' k' : Hold) → IsFaded h' h → IsFaded k' k → is_conf
 same_conflict h k h' k' f g e =
     subst (λ (m : Mode). is_conflict h.mode h.key m k.key ≡ true) g.mode
     (subst (λ (x : List ℕ). is_conflict h.mode h.key k'.mode x ≡ true) g.key
-     (subst (λ (m : Mode). is_conflict m h.key k'.mode k'.key ≡ true) f.mode
-      (subst (λ (x : List ℕ). is_conflict h'.mode x k'.mode k'.key ≡ true) f.key e)))
+    (subst (λ (m : Mode). is_conflict m h.key k'.mode k'.key ≡ true) f.mode
+    (subst (λ (x : List ℕ). is_conflict h'.mode x k'.mode k'.key ≡ true) f.key e)))
 
 faded_clash : (h h' k k' : Hold) → IsFaded h' h → IsFaded k' k → Clash h' k' → Clash h k
 faded_clash h h' k k' f g c = record {

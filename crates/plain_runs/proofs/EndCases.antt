@@ -1,97 +1,89 @@
 -- Examples of acts that are accepted, and of acts that are refused since one condition fails.
-use Rattle.std.proofs.lemmas.Bool.{ne_eqb}
-use Rattle.std.proofs.Common.{eqb, ◌≡◌, ◌≢◌, ℕ, zero, suc, ◌≤◌, ◌<◌, ◌+◌, List, [], ◌∷◌, ◌++◌, refl, ap, Bool, true, false, arith, Option, Some, None}
-use Rattle.std.specs.Prelude.{pos}
-use Rattle.plain_orders.specs.declared.act.Act.{Act}
-use Rattle.plain_orders.specs.declared.act.Act.TheVariants.{Opened, Enter, Synced, Shut, Release, Met, Told, Back, Crash, Issue, Read, Grant, Granted, GiveUp, Quit, Free, Counted, NotWhole, Range, Committed, RolledBack, Reached, Level, Done, Refused as RefusedAct, Broke, Mended, Tick, Lose, Died}
-use Rattle.plain_orders.specs.declared.op.Op.TheVariants.{Set, Kill, Add}
-use Rattle.plain_orders.specs.declared.item.Item.TheVariants.{Op, Commit as CommitItem, Rollback as RollbackItem}
-use Rattle.plain_orders.specs.declared.entry.Entry.TheVariants.{Epoch, Opened as OpenEntry, Closed, Update, Commit, Rollback}
-use Rattle.plain_orders.specs.declared.mode.Mode.TheVariants.{Exclusive, Shared}
-use Rattle.plain_orders.specs.declared.via.Via.TheVariants.{Own, Cached, Fetched}
-use Rattle.plain_orders.specs.declared.question.Question.TheVariants.{Get, Data, Next}
+use Rattle.std.proofs.Common.{refl, arith}
+use Rattle.plain_orders.specs.declared.act.Act.TheVariants.{Shut, Met, Told, Broke, Mended, Tick, Lose, Died}
 use Rattle.plain_orders.specs.declared.causes.ShutCause.TheVariants.{Trouble as ByTrouble, Replaced, Round as ByRound}
 use Rattle.plain_orders.specs.declared.causes.PairEnd.TheVariants.{App as AppEnd, Server as ServerEnd}
 use Rattle.plain_orders.specs.declared.causes.Loss.TheVariants.{Reset as ByReset, Expired as ByExpired, NoWay as ByNoWay}
-use Rattle.plain_orders.specs.declared.refused.Refused.TheVariants.{NoTransaction, TooDeep, RollbackOnly, LockTimeout, Network}
-use Rattle.plain_orders.specs.declared.refused.ReasonName.TheVariants.{Reset, NoWay}
-use Rattle.plain_orders.specs.declared.refused.LinkName.TheVariants.{NotConnected, Normal, Recovery}
-use Rattle.plain_orders.specs.declared.layout.Layout.{Layout}
-use Rattle.subscript_keys.specs.declared.sub.Sub.TheVariants.{Text}
 use Rattle.plain_runs.specs.Plain.{start}
-use Rattle.plain_runs.specs.Fronts.{small, Accepted, Refuses, long_key, long_value, almost_due, app_broke, app_early, app_late, broke_dead, closed, closed_dead, closed_saved, crashed, crashed_dead, entered, found, kept, late, later, met, met_dead, nothing, opened, recovering, replaced_late, replaced_lost, replaced_saved, saved, saved_dead, server_early, server_late}
+use Rattle.plain_runs.specs.Fronts.{small, app_broke, app_late, closed_saved, crashed, met, nothing, recovering, saved, server_late}
 use Rattle.plain_runs.proofs.FrontRuns.{almost_due_runs, app_broke_runs, app_early_runs, app_late_runs, broke_dead_runs, closed_runs, closed_dead_runs, closed_saved_runs, crashed_runs, crashed_dead_runs, entered_runs, found_runs, kept_runs, late_runs, later_runs, met_runs, met_dead_runs, nothing_runs, opened_runs, recovering_runs, replaced_late_runs, replaced_lost_runs, replaced_saved_runs, saved_runs, saved_dead_runs, server_early_runs, server_late_runs}
 use Rattle.plain_runs.proofs.RunLemmas.{run_more}
-use Rattle.plain_runs.proofs.FirstRun.{x_may, no_empty_key}
 use Rattle.plain_runs.specs.EndExamples.{ShutExamples, MetExamples, ToldExamples, BrokeExamples, MendedExamples, LoseExamples, FreeActExamples}
 
 pub shut_examples : ShutExamples
-shut_examples =
-    (run_more small start server_late (Shut 0 2 (ByTrouble 60)) server_late_runs (record { is_live = refl; now = refl; broken = refl; over = omega arith }),
-    (replaced_late_runs, λ may. absurd (cc (may.is_live))),
-    (server_late_runs, λ may. omega (arith, may.now)),
-    (late_runs, λ may. absurd (cc (may.broken))),
-    (server_early_runs, λ may. omega (arith, may.over)),
-    run_more small start met (Shut 0 2 Replaced) met_runs (record { is_live = refl }),
-    (opened_runs, λ may. absurd (cc (may.is_live))),
-    run_more small start recovering (Shut 0 2 (ByRound 60)) recovering_runs (record { is_live = refl; now = refl; recovering = refl; over = omega arith }),
-    (recovering_runs, λ may. absurd (cc (may.is_live))),
-    (recovering_runs, λ may. omega (arith, may.now)),
-    (late_runs, λ may. absurd (cc (may.recovering))),
-    (almost_due_runs, λ may. omega (arith, may.over)))
+shut_examples = (
+  run_more small start server_late (Shut 0 2 (ByTrouble 60)) server_late_runs (record { is_live = refl; now = refl; broken = refl; over = omega arith }),
+  (replaced_late_runs, λ may. absurd (cc (may.is_live))),
+  (server_late_runs, λ may. omega (arith, may.now)),
+  (late_runs, λ may. absurd (cc (may.broken))),
+  (server_early_runs, λ may. omega (arith, may.over)),
+  run_more small start met (Shut 0 2 Replaced) met_runs (record { is_live = refl }),
+  (opened_runs, λ may. absurd (cc (may.is_live))),
+  run_more small start recovering (Shut 0 2 (ByRound 60)) recovering_runs (record { is_live = refl; now = refl; recovering = refl; over = omega arith }),
+  (recovering_runs, λ may. absurd (cc (may.is_live))),
+  (recovering_runs, λ may. omega (arith, may.now)),
+  (late_runs, λ may. absurd (cc (may.recovering))),
+  (almost_due_runs, λ may. omega (arith, may.over)),
+)
 
 pub met_examples : MetExamples
-met_examples =
-    (run_more small start saved (Met 0 0 2) saved_runs ((refl, record { place = refl; synced = omega arith; entered = refl; behind = refl; fresh = refl; none = refl })),
-    (saved_dead_runs, λ may. absurd (cc (may.0))),
-    (saved_runs, λ may. absurd (cc (may.1.place))),
-    (entered_runs, λ may. omega (arith, may.1.synced)),
-    (found_runs, λ may. absurd (cc (may.1.entered))),
-    (replaced_lost_runs, λ may. absurd (cc (may.1.behind))),
-    (met_runs, λ may. absurd (cc (may.1.fresh))),
-    (replaced_saved_runs, λ may. absurd (cc (may.1.none))))
+met_examples = (
+  run_more small start saved (Met 0 0 2) saved_runs ((refl, record { place = refl; synced = omega arith; entered = refl; behind = refl; fresh = refl; none = refl })),
+  (saved_dead_runs, λ may. absurd (cc (may.0))),
+  (saved_runs, λ may. absurd (cc (may.1.place))),
+  (entered_runs, λ may. omega (arith, may.1.synced)),
+  (found_runs, λ may. absurd (cc (may.1.entered))),
+  (replaced_lost_runs, λ may. absurd (cc (may.1.behind))),
+  (met_runs, λ may. absurd (cc (may.1.fresh))),
+  (replaced_saved_runs, λ may. absurd (cc (may.1.none))),
+)
 
 pub told_examples : ToldExamples
-told_examples =
-    (run_more small start crashed (Told 0 0 2 2 3) crashed_runs ((refl, record { its = refl; later = omega arith; place = refl })),
-    (crashed_dead_runs, λ may. absurd (cc (may.0))),
-    (crashed_runs, λ may. absurd (cc (may.1.its))),
-    (kept_runs, λ may. omega (arith, may.1.later)),
-    (crashed_runs, λ may. absurd (cc (may.1.place))))
+told_examples = (
+  run_more small start crashed (Told 0 0 2 2 3) crashed_runs ((refl, record { its = refl; later = omega arith; place = refl })),
+  (crashed_dead_runs, λ may. absurd (cc (may.0))),
+  (crashed_runs, λ may. absurd (cc (may.1.its))),
+  (kept_runs, λ may. omega (arith, may.1.later)),
+  (crashed_runs, λ may. absurd (cc (may.1.place))),
+)
 
 pub broke_examples : BrokeExamples
-broke_examples =
-    (run_more small start met (Broke 0 0 AppEnd 0) met_runs (record { alive = refl; now = refl; there = refl; fresh = refl }),
-    (met_dead_runs, λ may. absurd (cc (may.alive))),
-    (met_runs, λ may. omega (arith, may.now)),
-    (saved_runs, λ may. absurd (cc (may.there))),
-    (app_broke_runs, λ may. absurd (cc (may.fresh))),
-    run_more small start met (Broke 0 0 ServerEnd 0) met_runs (record { now = refl; has_live = refl }),
-    (met_runs, λ may. omega (arith, may.now)),
-    (opened_runs, λ may. absurd (cc (may.has_live))))
+broke_examples = (
+  run_more small start met (Broke 0 0 AppEnd 0) met_runs (record { alive = refl; now = refl; there = refl; fresh = refl }),
+  (met_dead_runs, λ may. absurd (cc (may.alive))),
+  (met_runs, λ may. omega (arith, may.now)),
+  (saved_runs, λ may. absurd (cc (may.there))),
+  (app_broke_runs, λ may. absurd (cc (may.fresh))),
+  run_more small start met (Broke 0 0 ServerEnd 0) met_runs (record { now = refl; has_live = refl }),
+  (met_runs, λ may. omega (arith, may.now)),
+  (opened_runs, λ may. absurd (cc (may.has_live))),
+)
 
 pub mended_examples : MendedExamples
-mended_examples =
-    (run_more small start app_broke (Mended 0 0) app_broke_runs (record { alive = refl; broken = refl }),
-    (broke_dead_runs, λ may. absurd (cc (may.alive))),
-    (met_runs, λ may. absurd (cc (may.broken))))
+mended_examples = (
+  run_more small start app_broke (Mended 0 0) app_broke_runs (record { alive = refl; broken = refl }),
+  (broke_dead_runs, λ may. absurd (cc (may.alive))),
+  (met_runs, λ may. absurd (cc (may.broken))),
+)
 
 pub lose_examples : LoseExamples
-lose_examples =
-    (run_more small start closed_saved (Lose 0 0 (ByReset 3)) closed_saved_runs ((refl, record { there = refl; synced = omega arith; closed = refl })),
-    (closed_dead_runs, λ may. absurd (cc (may.0))),
-    (replaced_lost_runs, λ may. absurd (cc (may.1.there))),
-    (closed_runs, λ may. omega (arith, may.1.synced)),
-    (closed_saved_runs, λ may. absurd (cc (may.1.closed))),
-    run_more small start app_late (Lose 0 0 (ByExpired 100)) app_late_runs ((refl, record { now = refl; broken = refl; over = omega arith })),
-    (app_late_runs, λ may. omega (arith, may.1.now)),
-    (later_runs, λ may. absurd (cc (may.1.broken))),
-    (app_early_runs, λ may. omega (arith, may.1.over)),
-    run_more small start saved (Lose 0 0 (ByNoWay 0 1)) saved_runs ((refl, record { none = refl; failed = omega arith })),
-    (met_runs, λ may. absurd (cc (may.1.none))),
-    (saved_runs, λ may. omega (arith, may.1.failed)))
+lose_examples = (
+  run_more small start closed_saved (Lose 0 0 (ByReset 3)) closed_saved_runs ((refl, record { there = refl; synced = omega arith; closed = refl })),
+  (closed_dead_runs, λ may. absurd (cc (may.0))),
+  (replaced_lost_runs, λ may. absurd (cc (may.1.there))),
+  (closed_runs, λ may. omega (arith, may.1.synced)),
+  (closed_saved_runs, λ may. absurd (cc (may.1.closed))),
+  run_more small start app_late (Lose 0 0 (ByExpired 100)) app_late_runs ((refl, record { now = refl; broken = refl; over = omega arith })),
+  (app_late_runs, λ may. omega (arith, may.1.now)),
+  (later_runs, λ may. absurd (cc (may.1.broken))),
+  (app_early_runs, λ may. omega (arith, may.1.over)),
+  run_more small start saved (Lose 0 0 (ByNoWay 0 1)) saved_runs ((refl, record { none = refl; failed = omega arith })),
+  (met_runs, λ may. absurd (cc (may.1.none))),
+  (saved_runs, λ may. omega (arith, may.1.failed)),
+)
 
 pub free_act_examples : FreeActExamples
-free_act_examples =
-    (run_more small start nothing (Tick 5) nothing_runs tt,
-    run_more small start nothing (Died 0) nothing_runs tt)
+free_act_examples = (
+  run_more small start nothing (Tick 5) nothing_runs tt,
+  run_more small start nothing (Died 0) nothing_runs tt,
+)

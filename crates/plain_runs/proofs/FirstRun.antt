@@ -1,12 +1,5 @@
 -- The trail of the worked first run.
-use Rattle.std.proofs.Common.{◌≡◌, ◌≢◌, ℕ, zero, suc, ◌≤◌, ◌<◌, ◌+◌, List, [], ◌∷◌, ◌++◌, refl, Bool, true, false, arith, Option, Some, None}
-use Rattle.plain_orders.specs.declared.op.Op.TheVariants.{Set}
-use Rattle.plain_orders.specs.declared.item.Item.TheVariants.{Op}
-use Rattle.plain_orders.specs.declared.entry.Entry.TheVariants.{Opened as OpenedEntry, Update}
-use Rattle.plain_orders.specs.declared.act.Act.{Act}
-use Rattle.plain_orders.specs.declared.act.Act.TheVariants.{Opened, Enter, Synced, Met, Issue, Read}
-use Rattle.plain_orders.specs.declared.via.Via.TheVariants.{Fetched}
-use Rattle.plain_orders.specs.declared.question.Question.TheVariants.{Get}
+use Rattle.std.proofs.Common.{◌≡◌, ℕ, List, [], ◌∷◌, ◌++◌, refl, arith}
 use Rattle.subscript_keys.specs.Key.{IsKey, key_of}
 use Rattle.plain_orders.specs.Ordered.{KeyMay}
 use Rattle.plain_runs.specs.Run.{IsRun}

@@ -1,11 +1,10 @@
 -- Laws of one step: the servers that it leaves, and what jobs have seen.
-use Rattle.std.proofs.Common.{◌≡◌, ◌≢◌, ℕ, ◌≤◌, ◌<◌, ◌+◌, max, List, [], ◌∷◌, ◌++◌, refl, ap, subst, sym, Bool, true, false, arith, eqb, ◌==◌, if◌then◌else◌, Option, Some, None}
+use Rattle.std.proofs.Common.{◌≡◌, ◌≢◌, ℕ, ◌≤◌, refl, ap, subst, sym, Bool, true, false, arith, eqb, if◌then◌else◌, Some}
 use Rattle.std.proofs.lemmas.Bool.{eqb-true, ne_eqb}
 use Rattle.plain_orders.specs.declared.act.Act.{Act}
 use Rattle.plain_orders.specs.declared.act.Act.TheVariants.{Opened, Enter, Synced, Shut, Release, Met, Told, Back, Crash, Issue, Read, Grant, Granted, GiveUp, Quit, Free, Counted, NotWhole, Range, Committed, RolledBack, Reached, Level, Done, Refused, Broke, Mended, Tick, Lose, Died}
 use Rattle.plain_orders.specs.declared.refused.Refused.{Refused as Refusal}
 use Rattle.plain_orders.specs.declared.refused.Refused.TheVariants.{NoTransaction, TooDeep, RollbackOnly, LockTimeout, Network}
-use Rattle.plain_orders.specs.declared.refused.ReasonName.{ReasonName}
 use Rattle.plain_orders.specs.declared.refused.ReasonName.TheVariants.{Reset, Expired}
 use Rattle.plain_orders.specs.declared.causes.Loss.{Loss}
 use Rattle.plain_orders.specs.declared.causes.Loss.TheVariants.{Reset as ByReset, Expired as ByExpired, NoWay as ByNoWay}
@@ -14,12 +13,11 @@ use Rattle.plain_orders.specs.declared.causes.PairEnd.TheVariants.{App as AppEnd
 use Rattle.plain_orders.specs.declared.entry.Entry.{Entry}
 use Rattle.plain_orders.specs.declared.entry.Entry.TheVariants.{Epoch, Opened as OpenedEntry, Closed, Update, Commit, Rollback}
 use Rattle.plain_orders.specs.declared.layout.Layout.{Layout}
-use Rattle.plain_runs.specs.Plain.{Plain, Server, Known, put, app_of, runs_on, start}
+use Rattle.plain_runs.specs.Plain.{Plain, Server, Known, put, runs_on, start}
 use Rattle.plain_runs.specs.OrderRows.{entered}
 use Rattle.plain_runs.specs.EndRows.{broke, lost, knows_loss, knows_noway}
 use Rattle.plain_runs.specs.JobRows.{refused}
 use Rattle.plain_runs.specs.Step.{MayCome, after}
-use Rattle.plain_runs.specs.Run.{IsRun, state_after}
 use Rattle.plain_runs.specs.Laws.{Extended, Framed, SeenNeverFalls, server_of, may_fall}
 use Rattle.plain_runs.proofs.RunLemmas.{run_more, after_all-more, at_put}
 

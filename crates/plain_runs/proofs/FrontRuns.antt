@@ -1,23 +1,14 @@
 -- The trails that the examples begin with are runs.
-use Rattle.std.proofs.lemmas.Bool.{ne_eqb}
-use Rattle.std.proofs.Common.{eqb, ◌≡◌, ◌≢◌, ℕ, zero, suc, ◌≤◌, ◌<◌, ◌+◌, List, [], ◌∷◌, ◌++◌, refl, ap, Bool, true, false, arith, Option, Some, None}
+use Rattle.std.proofs.Common.{[], ◌∷◌, refl, arith}
 use Rattle.std.specs.Prelude.{pos}
-use Rattle.plain_orders.specs.declared.act.Act.{Act}
-use Rattle.plain_orders.specs.declared.act.Act.TheVariants.{Opened, Enter, Synced, Shut, Release, Met, Told, Back, Crash, Issue, Read, Grant, Granted, GiveUp, Quit, Free, Counted, NotWhole, Range, Committed, RolledBack, Reached, Level, Done, Refused as RefusedAct, Broke, Mended, Tick, Lose, Died}
-use Rattle.plain_orders.specs.declared.op.Op.TheVariants.{Set, Kill, Add}
+use Rattle.plain_orders.specs.declared.act.Act.TheVariants.{Opened, Enter, Synced, Shut, Met, Told, Crash, Issue, Grant, Granted, GiveUp, Quit, Level, Broke, Tick, Lose, Died}
+use Rattle.plain_orders.specs.declared.op.Op.TheVariants.{Set, Add}
 use Rattle.plain_orders.specs.declared.item.Item.TheVariants.{Op, Commit as CommitItem, Rollback as RollbackItem}
-use Rattle.plain_orders.specs.declared.entry.Entry.TheVariants.{Epoch, Opened as OpenEntry, Closed, Update, Commit, Rollback}
-use Rattle.plain_orders.specs.declared.mode.Mode.TheVariants.{Exclusive, Shared}
-use Rattle.plain_orders.specs.declared.via.Via.TheVariants.{Own, Cached, Fetched}
-use Rattle.plain_orders.specs.declared.question.Question.TheVariants.{Get, Data, Next}
-use Rattle.plain_orders.specs.declared.causes.ShutCause.TheVariants.{Trouble as ByTrouble, Replaced, Round as ByRound}
+use Rattle.plain_orders.specs.declared.entry.Entry.TheVariants.{Epoch, Opened as OpenEntry, Update, Commit, Rollback}
+use Rattle.plain_orders.specs.declared.mode.Mode.TheVariants.{Exclusive}
+use Rattle.plain_orders.specs.declared.causes.ShutCause.TheVariants.{Replaced}
 use Rattle.plain_orders.specs.declared.causes.PairEnd.TheVariants.{App as AppEnd, Server as ServerEnd}
 use Rattle.plain_orders.specs.declared.causes.Loss.TheVariants.{Reset as ByReset, Expired as ByExpired, NoWay as ByNoWay}
-use Rattle.plain_orders.specs.declared.refused.Refused.TheVariants.{NoTransaction, TooDeep, RollbackOnly, LockTimeout, Network}
-use Rattle.plain_orders.specs.declared.refused.ReasonName.TheVariants.{Reset, NoWay}
-use Rattle.plain_orders.specs.declared.refused.LinkName.TheVariants.{NotConnected, Normal, Recovery}
-use Rattle.plain_orders.specs.declared.layout.Layout.{Layout}
-use Rattle.subscript_keys.specs.declared.sub.Sub.TheVariants.{Text}
 use Rattle.plain_runs.specs.Plain.{start}
 use Rattle.plain_runs.specs.Run.{IsRun}
 use Rattle.plain_runs.specs.Fronts.{small, nines_text, nothing, opened, entered, saved, met, issued, applied, kept, crashed, recovering, almost_due, told, told_closed, issued_more, issued_closed, issued_cut, issued_told, cut, cut_saved, closed, closed_saved, replaced, replaced_broke, replaced_late, replaced_saved, replaced_lost, late, later, server_broke, server_late, server_early, app_broke, app_late, app_early, saved_dead, met_dead, crashed_dead, broke_dead, closed_dead, found, granted, answered, given, quitted, issued_quit, both, both_held, added, added_in, added_kept, letter, letter_in, letter_added, letter_added_in, letter_kept, nines, nines_in, nines_added, nines_added_in, nines_kept, level_one, updated, updated_in, commit_issued, commit_in, commit_kept, commit_cut, commit_cut_saved, rollback_issued, rollback_in, rollback_kept, updated_broke, updated_late, updated_lost, used_closed, used_saved, used_lost, used_again, used_again_saved, barred, used_no_way, no_way}

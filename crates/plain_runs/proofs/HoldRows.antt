@@ -1,18 +1,18 @@
 -- What each row does to one hold.
-use Rattle.std.proofs.Common.{◌≡◌, ◌≢◌, ℕ, zero, suc, ◌≤◌, ◌<◌, ◌+◌, min, List, [], ◌∷◌, ◌++◌, length, take, refl, subst, sym, ap, ◌∙◌, Bool, true, false, cond, eqb, ◌==◌, if◌then◌else◌, arith, ◌||◌, ◌&&◌, not, Option, Some, None, length-append, ◌⊎◌, inl, inr}
+use Rattle.std.proofs.Common.{◌≡◌, ℕ, ◌≤◌, List, [], ◌∷◌, ◌++◌, length, take, refl, subst, sym, ap, ◌∙◌, Bool, true, false, ◌==◌, if◌then◌else◌, arith, ◌||◌, ◌&&◌, not, Option, Some, None, length-append, ◌⊎◌, inl, inr}
 use Rattle.std.specs.Prelude.{is_some, nat_lt, unwrap_or}
 use Rattle.std.specs.List.{list_any}
-use Rattle.std.proofs.lemmas.Bool.{eqb-true, and_parts, or_parts, or_cases, or_from, or_left, not-true, ltb-false}
+use Rattle.std.proofs.lemmas.Bool.{eqb-true, and_parts, or_parts, or_cases, or_from, not-true, ltb-false}
 use Rattle.std.proofs.lemmas.Option.{same_Some}
 use Rattle.std.proofs.lemmas.List.{take-append-le, length-take-le, length-take, take-take}
 use Rattle.plain_orders.specs.declared.entry.Entry.{Entry}
 use Rattle.plain_orders.specs.declared.mode.Mode.{Mode}
 use Rattle.plain_orders.specs.Entries.{live, count, closes, closed_by}
 use Rattle.plain_orders.specs.Own.{Issued}
-use Rattle.plain_runs.specs.Plain.{Server, Session, Hold, Given, Quitted}
-use Rattle.plain_runs.specs.Items.{all_stand, has_item}
+use Rattle.plain_runs.specs.Plain.{Session, Hold, Given}
+use Rattle.plain_runs.specs.Items.{all_stand}
 use Rattle.plain_runs.specs.OrderRows.{is_sent, binds, hold_after_crash, hold_after_back}
-use Rattle.plain_runs.specs.LockRows.{is_of, is_lock, is_sent_at, is_kept, is_asked, given_hold, given_before, is_same_given, answered_hold, released_hold, given_up, freed_hold}
+use Rattle.plain_runs.specs.LockRows.{is_of, is_lock, is_sent_at, given_hold, given_before, is_same_given, answered_hold, released_hold, given_up, freed_hold}
 use Rattle.plain_runs.specs.Laws.{touched}
 use Rattle.plain_runs.proofs.Numbers.{InOrder, has_counted}
 use Rattle.plain_runs.proofs.Lists.{both_ways, any_front, any_take, any_wider, any_grown, opens, is_open, opened_closes, stand_more, stand_all, item_more}
@@ -53,9 +53,13 @@ grow_hold o more d e due due' ses ses' h within low less grows k = record {
     settle : SettledIn o (issued_of (ses h.session)) h → SettledIn (o ++ more) (issued_of (ses' h.session)) h
     settle (inl c) = inl (any_front (closes h.session) o more c)
     settle (inr c) =
-        inr (c.0, c.1, stand_more o (o ++ more) h.session h.job 0 _ (λ w. item_more o more h.session w)
-        (subst (λ (is : List Issued). all_stand o h.session h.job 0 is ≡ true)
-         (sym (ap (take c.0.before) (grows h.session).1.1 ∙ take-append-le c.0.before (issued_of (ses h.session)) (grows h.session).1.0 (k.before c.0 c.1))) c.2))
+        inr (
+          c.0,
+          c.1,
+          stand_more o (o ++ more) h.session h.job 0 _ (λ w. item_more o more h.session w)
+              (subst (λ (is : List Issued). all_stand o h.session h.job 0 is ≡ true)
+              (sym (ap (take c.0.before) (grows h.session).1.1 ∙ take-append-le c.0.before (issued_of (ses h.session)) (grows h.session).1.0 (k.before c.0 c.1))) c.2),
+        )
 
 -- facts of tests
 pub sent_facts : (h : Hold) → is_sent h ≡ true → (h.answered ≡ false) × (is_some h.given ≡ false) × (h.gone ≡ false)
@@ -156,10 +160,13 @@ free_hold o d due ses first session job mode key h all k =
     settle (inl g) n t = k.settled n g t
     settle (inr e) n t =
         let f = freed_facts first session job mode key h e in
-        inr (f.0, f.1,
+        inr (
+          f.0,
+          f.1,
           subst (λ m. all_stand o h.session h.job 0 (take m (issued_of (ses h.session))) ≡ true) (sym f.4)
-          (subst (λ r. all_stand o r h.job 0 (take (given_before first) (issued_of (ses r))) ≡ true) (sym f.2)
-           (subst (λ j. all_stand o session j 0 (take (given_before first) (issued_of (ses session))) ≡ true) (sym f.3) all)))
+              (subst (λ r. all_stand o r h.job 0 (take (given_before first) (issued_of (ses r))) ≡ true) (sym f.2)
+              (subst (λ j. all_stand o session j 0 (take (given_before first) (issued_of (ses session))) ≡ true) (sym f.3) all)),
+        )
 
 -- the round is over
 pub back_hold : (o : List Entry) (d : ℕ) (due : Option ℕ) (ses : ℕ → Option Session) (h : Hold) → InOrder o
@@ -187,8 +194,12 @@ back_hold o d due ses h numbered opened whole k =
     full : live o h.session ≡ true → is_some h.given ≡ true → SettledIn o (issued_of (ses h.session)) h
     full l s =
         let g = of_given h.given refl s in
-        inr (g.0, g.1, stand_all o h.session h.job 0 (take g.0.before (issued_of (ses h.session)))
-          (λ w low high. has_counted o h.session w numbered low (omega (arith, high, length-take g.0.before (issued_of (ses h.session)), whole h.session l))))
+        inr (
+          g.0,
+          g.1,
+          stand_all o h.session h.job 0 (take g.0.before (issued_of (ses h.session)))
+              (λ w low high. has_counted o h.session w numbered low (omega (arith, high, length-take g.0.before (issued_of (ses h.session)), whole h.session l))),
+        )
 
     old : (b c : Bool) → h.answered ≡ b → is_some h.given ≡ c → h.gone ≡ true → live o h.session ≡ true → touched h ≡ true → SettledIn o (issued_of (ses h.session)) h
     old true false a s g l t = inl (any_take (closes h.session) d o (k.ended g a s))

@@ -1,11 +1,11 @@
 -- Tests over lists of entries, and what stands in them.
-use Rattle.std.proofs.Common.{◌≡◌, ◌≢◌, ℕ, zero, suc, ◌≤◌, ◌<◌, ◌+◌, List, [], ◌∷◌, ◌++◌, length, take, drop, refl, subst, sym, ap, ◌∙◌, Bool, true, false, cond, eqb, ◌==◌, if◌then◌else◌, arith, ◌||◌, ◌&&◌, not, Option, Some, None, length-append}
+use Rattle.std.proofs.Common.{◌≡◌, ℕ, ◌≤◌, ◌<◌, ◌+◌, List, [], ◌∷◌, ◌++◌, length, take, drop, refl, subst, sym, ap, ◌∙◌, Bool, true, false, cond, eqb, ◌==◌, if◌then◌else◌, arith, ◌||◌, ◌&&◌, not, Some, None}
 use Rattle.std.specs.List.{list_any, list_all, filter}
-use Rattle.std.proofs.lemmas.Bool.{eqb-true, and_parts, or_cases, or_left}
+use Rattle.std.proofs.lemmas.Bool.{eqb-true, and_parts}
 use Rattle.std.proofs.lemmas.List.{take-append-drop, take-take, take-append-le}
 use Rattle.plain_orders.specs.declared.entry.Entry.{Entry}
 use Rattle.plain_orders.specs.declared.entry.Entry.TheVariants.{Epoch, Opened, Closed, Update, Commit, Rollback}
-use Rattle.plain_orders.specs.Entries.{live, live_from, live_after, closes, closed_by}
+use Rattle.plain_orders.specs.Entries.{live, live_from, closes}
 use Rattle.plain_orders.specs.Own.{Issued}
 use Rattle.plain_runs.specs.Plain.{until}
 use Rattle.plain_runs.specs.Items.{all_stand, has_item, is_item_at}

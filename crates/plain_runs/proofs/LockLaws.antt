@@ -1,16 +1,11 @@
 -- While no round is due, what no longer binds is handed over.
-use Rattle.std.proofs.Common.{◌≡◌, ◌≢◌, ℕ, zero, suc, ◌≤◌, ◌<◌, ◌+◌, ◌-◌, List, [], ◌∷◌, ◌++◌, length, take, map, refl, subst, sym, ap, ◌∙◌, Bool, true, false, cond, eqb, if◌then◌else◌, arith, length-append, Option, Some, None, slice_get, ◌⊎◌, inl, inr, ◌||◌, ◌&&◌, not, ◌==◌}
-use Rattle.std.specs.Prelude.{is_some, nat_lt, unwrap_or, IsSomeAnd}
-use Rattle.std.specs.List.{list_any, filter}
-use Rattle.std.specs.Option.{option_map}
-use Rattle.std.proofs.lemmas.Bool.{eqb-true, eq-eqb, and_parts, not-true, not-false, and_cases}
-use Rattle.std.proofs.lemmas.Option.{same_Some}
-use Rattle.std.proofs.lemmas.List.{take_all, append-nil, take-append-le, length-take-le, take-take}
-use Rattle.plain_orders.specs.declared.mode.Mode.{Mode}
-use Rattle.plain_orders.specs.Own.{Issued}
-use Rattle.plain_orders.specs.Entries.{entry_at}
+use Rattle.std.proofs.Common.{◌≡◌, ℕ, List, [], ◌∷◌, ◌++◌, length, refl, subst, sym, Bool, true, false, arith, Option, Some, ◌⊎◌, inl, inr, not}
+use Rattle.std.specs.Prelude.{IsSomeAnd}
+use Rattle.std.specs.List.{list_any}
+use Rattle.std.proofs.lemmas.Bool.{not-false, and_cases}
+use Rattle.std.proofs.lemmas.List.{take_all, append-nil}
 use Rattle.plain_orders.specs.declared.entry.Entry.{Entry}
-use Rattle.plain_orders.specs.declared.entry.Entry.TheVariants.{Epoch, Opened as OpenedEntry, Closed, Update, Commit, Rollback}
+use Rattle.plain_orders.specs.declared.entry.Entry.TheVariants.{Closed}
 use Rattle.plain_orders.specs.declared.act.Act.{Act}
 use Rattle.plain_orders.specs.declared.act.Act.TheVariants.{Opened, Enter, Synced, Shut, Release, Met, Told, Back, Crash, Issue, Read, Grant, Granted, GiveUp, Quit, Free, Counted, NotWhole, Range, Committed, RolledBack, Reached, Level, Done, Refused, Broke, Mended, Tick, Lose, Died}
 use Rattle.plain_orders.specs.declared.refused.Refused.{Refused as Refusal}
@@ -19,23 +14,18 @@ use Rattle.plain_orders.specs.declared.causes.Loss.{Loss}
 use Rattle.plain_orders.specs.declared.causes.Loss.TheVariants.{Reset as ByReset, Expired as ByExpired, NoWay as ByNoWay}
 use Rattle.plain_orders.specs.declared.causes.PairEnd.{PairEnd}
 use Rattle.plain_orders.specs.declared.causes.PairEnd.TheVariants.{App as AppEnd, Server as ServerEnd}
-use Rattle.plain_orders.specs.declared.causes.ShutCause.{ShutCause}
-use Rattle.plain_orders.specs.declared.causes.ShutCause.TheVariants.{Trouble as ByTrouble, Replaced, Round as ByRound}
 use Rattle.plain_orders.specs.declared.layout.Layout.{Layout}
-use Rattle.plain_orders.specs.Entries.{live, count, last_epoch, closes, closed_by}
-use Rattle.plain_runs.specs.Plain.{Plain, Server, Session, Hold, Given, Quitted, put, start, app_of, with_session, pair_session, session_in, issued_in}
-use Rattle.plain_runs.specs.OrderRows.{OpenedMay, EnterMay, SyncedMay, CrashMay, BackMay, entered, opened_with, crashed, came_back, saved, due_of, is_sent, binds, hold_after_crash, hold_after_back}
-use Rattle.plain_runs.specs.EndRows.{MetMay, ShutMay, broke, lost, shut, met_by, told_of}
-use Rattle.plain_runs.specs.JobRows.{has_session, refused, issues}
-use Rattle.plain_runs.specs.LockRows.{GrantMay, GrantedMay, ReleaseMay, FreeMay, is_quit, is_kept, is_asked, is_of, is_lock, is_sent_at, first_quit, drop_quit, change_first, change_last, new_hold, given_now, answered_hold, released_hold, given_up, freed_hold, first_given, given_before, grants, granted, releases, gives_up, quits, frees}
+use Rattle.plain_orders.specs.Entries.{closes, closed_by}
+use Rattle.plain_runs.specs.Plain.{Plain, Server, Given, start, app_of, pair_session}
+use Rattle.plain_runs.specs.EndRows.{broke, lost, shut, told_of}
+use Rattle.plain_runs.specs.JobRows.{refused, issues}
 use Rattle.plain_runs.specs.Step.{MayCome, after}
 use Rattle.plain_runs.specs.Run.{IsRun, RunFrom, after_all}
-use Rattle.plain_runs.specs.Plain.{runs_on}
 use Rattle.plain_runs.specs.EndRows.{begun_by}
 use Rattle.plain_runs.specs.JobRows.{txn_of}
-use Rattle.plain_runs.specs.Laws.{IsHold, Settled, IsHandedOver, touched, server_after}
+use Rattle.plain_runs.specs.Laws.{Settled, IsHandedOver, server_after}
 use Rattle.plain_runs.proofs.RunLemmas.{at_put}
-use Rattle.plain_runs.proofs.Orders.{Each, Facet, facet, OrdersKept}
+use Rattle.plain_runs.proofs.Orders.{facet, OrdersKept}
 use Rattle.plain_runs.proofs.OrderLaws.{row_steps, start_kept}
 use Rattle.plain_runs.proofs.Pairs.{PairsKept, row_pairs, pair_met}
 use Rattle.plain_runs.proofs.Lists.{both_ways, any_take}

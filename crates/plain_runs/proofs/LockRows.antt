@@ -1,9 +1,9 @@
 -- What each row does to the holds of a server.
-use Rattle.std.proofs.Common.{◌≡◌, ◌≢◌, ℕ, zero, suc, ◌≤◌, ◌<◌, ◌+◌, ◌-◌, List, [], ◌∷◌, ◌++◌, length, take, map, refl, subst, sym, ap, ◌∙◌, Bool, true, false, cond, eqb, if◌then◌else◌, arith, length-append, Option, Some, None, slice_get, ◌⊎◌, inl, inr, ◌||◌, ◌&&◌, not, ◌==◌}
-use Rattle.std.specs.Prelude.{is_some, nat_lt, unwrap_or}
+use Rattle.std.proofs.Common.{◌≡◌, ℕ, zero, suc, ◌≤◌, ◌<◌, ◌+◌, List, [], ◌∷◌, ◌++◌, length, take, map, refl, subst, sym, ap, ◌∙◌, Bool, true, false, cond, eqb, if◌then◌else◌, arith, length-append, Option, Some, None, slice_get, ◌⊎◌, inl, inr, ◌||◌, ◌&&◌, not, ◌==◌}
+use Rattle.std.specs.Prelude.{is_some}
 use Rattle.std.specs.List.{list_any, filter}
 use Rattle.std.specs.Option.{option_map}
-use Rattle.std.proofs.lemmas.Bool.{eqb-true, eq-eqb, and_parts, not-true, not-false, and_cases}
+use Rattle.std.proofs.lemmas.Bool.{eqb-true, eq-eqb, and_parts, not-true}
 use Rattle.std.proofs.lemmas.Option.{same_Some}
 use Rattle.std.proofs.lemmas.List.{take_all, append-nil, take-append-le, length-take-le, take-take}
 use Rattle.plain_orders.specs.declared.mode.Mode.{Mode}
@@ -11,31 +11,16 @@ use Rattle.plain_orders.specs.Own.{Issued}
 use Rattle.plain_orders.specs.Entries.{entry_at}
 use Rattle.plain_orders.specs.declared.entry.Entry.{Entry}
 use Rattle.plain_orders.specs.declared.entry.Entry.TheVariants.{Epoch, Opened as OpenedEntry, Closed, Update, Commit, Rollback}
-use Rattle.plain_orders.specs.declared.act.Act.{Act}
-use Rattle.plain_orders.specs.declared.act.Act.TheVariants.{Opened, Enter, Synced, Shut, Release, Met, Told, Back, Crash, Issue, Read, Grant, Granted, GiveUp, Quit, Free, Counted, NotWhole, Range, Committed, RolledBack, Reached, Level, Done, Refused, Broke, Mended, Tick, Lose, Died}
-use Rattle.plain_orders.specs.declared.refused.Refused.{Refused as Refusal}
-use Rattle.plain_orders.specs.declared.refused.Refused.TheVariants.{NoTransaction, TooDeep, RollbackOnly, LockTimeout, Network}
-use Rattle.plain_orders.specs.declared.causes.Loss.{Loss}
-use Rattle.plain_orders.specs.declared.causes.Loss.TheVariants.{Reset as ByReset, Expired as ByExpired, NoWay as ByNoWay}
-use Rattle.plain_orders.specs.declared.causes.PairEnd.{PairEnd}
-use Rattle.plain_orders.specs.declared.causes.PairEnd.TheVariants.{App as AppEnd, Server as ServerEnd}
-use Rattle.plain_orders.specs.declared.causes.ShutCause.{ShutCause}
-use Rattle.plain_orders.specs.declared.causes.ShutCause.TheVariants.{Trouble as ByTrouble, Replaced, Round as ByRound}
 use Rattle.plain_orders.specs.declared.layout.Layout.{Layout}
-use Rattle.plain_orders.specs.Entries.{live, count, last_epoch, closes, closed_by}
-use Rattle.plain_runs.specs.Plain.{Plain, Server, Session, Hold, Given, Quitted, put, start, app_of, with_session, pair_session, session_in, issued_in}
-use Rattle.plain_runs.specs.OrderRows.{OpenedMay, EnterMay, SyncedMay, CrashMay, BackMay, entered, opened_with, crashed, came_back, saved, due_of, is_sent, binds, hold_after_crash, hold_after_back}
-use Rattle.plain_runs.specs.EndRows.{MetMay, ShutMay, broke, lost, shut, met_by, told_of, new_session}
-use Rattle.plain_runs.specs.JobRows.{has_session, refused, issues}
-use Rattle.plain_runs.specs.LockRows.{GrantMay, GrantedMay, ReleaseMay, FreeMay, is_quit, is_kept, is_asked, is_of, is_lock, is_sent_at, first_quit, drop_quit, change_first, change_last, new_hold, given_now, answered_hold, released_hold, given_up, freed_hold, first_given, given_before, grants, granted, releases, gives_up, quits, frees}
-use Rattle.plain_runs.specs.Step.{MayCome, after}
-use Rattle.plain_runs.specs.Run.{IsRun, RunFrom, after_all}
-use Rattle.plain_runs.specs.Laws.{IsHold, Settled, IsHandedOver, touched, server_after}
+use Rattle.plain_orders.specs.Entries.{live, count, last_epoch}
+use Rattle.plain_runs.specs.Plain.{Server, Session, Hold, Given, Quitted, with_session, pair_session, issued_in}
+use Rattle.plain_runs.specs.OrderRows.{OpenedMay, EnterMay, SyncedMay, CrashMay, BackMay, entered, opened_with, crashed, came_back, saved, due_of, is_sent, hold_after_crash, hold_after_back}
+use Rattle.plain_runs.specs.EndRows.{MetMay, met_by, new_session}
+use Rattle.plain_runs.specs.LockRows.{GrantMay, ReleaseMay, FreeMay, is_quit, is_kept, is_asked, is_of, is_lock, is_sent_at, first_quit, drop_quit, change_first, change_last, new_hold, given_now, answered_hold, released_hold, given_up, freed_hold, first_given, grants, granted, releases, gives_up, quits, frees}
 use Rattle.plain_runs.proofs.RunLemmas.{at_put}
-use Rattle.plain_runs.proofs.Orders.{Each, Facet, facet, OrdersKept, order_in_order}
-use Rattle.plain_runs.proofs.OrderLaws.{row_steps, start_kept}
-use Rattle.plain_runs.proofs.Lists.{both_ways, any_front, any_take, any_wider, opens, is_open, live_opens, live_has, none_live}
-use Rattle.plain_runs.proofs.HoldRows.{HoldKept, IssuedGrows, SettledIn, issued_of, grow_hold, sent_facts, of_facts, answer_hold, give_hold, free_hold, back_hold, release_hold, crash_hold}
+use Rattle.plain_runs.proofs.Orders.{Each, facet, OrdersKept, order_in_order}
+use Rattle.plain_runs.proofs.Lists.{both_ways, any_take, any_wider, opens, is_open, live_opens, live_has, none_live}
+use Rattle.plain_runs.proofs.HoldRows.{HoldKept, IssuedGrows, issued_of, grow_hold, sent_facts, of_facts, answer_hold, give_hold, free_hold, back_hold, release_hold, crash_hold}
 
 -- lists of holds, changed one by one
 each_map : (P Q : Hold → Type 0) (f : Hold → Hold) → ((h : Hold) → P h → Q (f h)) → (hs : List Hold) → Each P hs → Each Q (map f hs)
@@ -267,7 +252,7 @@ free_steps s session job mode key may o =
     locked s (frees s session job mode key).quits (frees s session job mode key).holds (λ _ e. ap (map (freed_hold (first_given s session job mode key) session job mode key)) e)
     (λ k. each_filter (QuitKept s.session_at) _ s.quits k.quits)
     (λ k. each_map (HoldOf (locks s)) (HoldOf (locks s)) (freed_hold (first_given s session job mode key) session job mode key)
-     (λ h x. free_hold s.order s.synced s.due s.session_at (first_given s session job mode key) session job mode key h may.entered x) s.holds k.holds)
+    (λ h x. free_hold s.order s.synced s.due s.session_at (first_given s session job mode key) session job mode key h may.entered x) s.holds k.holds)
 
 pub grant_steps : (s : Server) (session job : ℕ) (mode : Mode) (key : List ℕ) (at : ℕ) → GrantMay s session job mode key at → LockSteps s (grants s session job mode key at)
 grant_steps s session job mode key at may o =
@@ -310,7 +295,7 @@ back_steps s may o k = record {
   quits = tt;
   holds = each_map (HoldOf (locks s)) (HoldKept s.order s.synced None s.session_at) (hold_after_back s.order)
       (λ h x. back_hold s.order s.synced s.due s.session_at h (order_in_order (facet s) o) (λ n m. any_take (is_open n) s.synced s.order (k.opened n m))
-       (λ n l. eqb-true (count s.order n) (length (issued_in s n)) (live_has s.order _ n may.counted l)) x) s.holds k.holds;
+      (λ n l. eqb-true (count s.order n) (length (issued_in s n)) (live_has s.order _ n may.counted l)) x) s.holds k.holds;
 }
 
 pub crash_steps : (clock round : ℕ) (s : Server) (kept : ℕ) → CrashMay s kept → LockSteps s (crashed clock round s kept)

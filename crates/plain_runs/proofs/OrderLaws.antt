@@ -1,5 +1,5 @@
 -- Laws of a server's orders.
-use Rattle.std.proofs.Common.{◌≡◌, ℕ, zero, suc, ◌≤◌, ◌<◌, ◌+◌, List, [], ◌∷◌, ◌++◌, length, take, refl, subst, sym, ap, ◌∙◌, Bool, true, false, arith, length-append, get_or}
+use Rattle.std.proofs.Common.{◌≡◌, ℕ, zero, suc, ◌<◌, ◌+◌, List, [], ◌∷◌, length, refl, subst, sym, ap, ◌∙◌, true, false, arith, length-append, get_or}
 use Rattle.std.proofs.lemmas.Bool.{eqb-true}
 use Rattle.plain_orders.specs.declared.entry.Entry.{Entry}
 use Rattle.plain_orders.specs.declared.entry.Entry.TheVariants.{Epoch, Opened as OpenedEntry, Closed, Update, Commit, Rollback}
@@ -14,21 +14,19 @@ use Rattle.plain_orders.specs.declared.causes.PairEnd.TheVariants.{App as AppEnd
 use Rattle.plain_orders.specs.declared.causes.ShutCause.{ShutCause}
 use Rattle.plain_orders.specs.declared.causes.ShutCause.TheVariants.{Trouble as ByTrouble, Replaced, Round as ByRound}
 use Rattle.plain_orders.specs.declared.layout.Layout.{Layout}
-use Rattle.plain_orders.specs.Entries.{count, last_epoch}
-use Rattle.plain_runs.specs.Plain.{Plain, Server, current, orders, order_at, start}
-use Rattle.plain_runs.specs.Items.{is_item_of, w_of}
-use Rattle.plain_runs.specs.OrderRows.{OpenedMay, EnterMay, SyncedMay, CrashMay, entered, opened_with, crashed}
+use Rattle.plain_orders.specs.Entries.{count}
+use Rattle.plain_runs.specs.Plain.{Plain, Server, orders, start}
+use Rattle.plain_runs.specs.OrderRows.{EnterMay, entered}
 use Rattle.plain_runs.specs.EndRows.{broke, lost}
 use Rattle.plain_runs.specs.JobRows.{refused}
 use Rattle.plain_runs.specs.Step.{MayCome, after}
-use Rattle.plain_runs.specs.Run.{IsRun, RunFrom, after_all, state_after}
+use Rattle.plain_runs.specs.Run.{IsRun, RunFrom, after_all}
 use Rattle.plain_runs.specs.Laws.{IsNextOrder, NeighboursAgree, SyncedStays, ItemsInOrder, server_after}
 use Rattle.plain_runs.proofs.RunLemmas.{at_put, run_parts, after_all-append}
-use Rattle.plain_runs.proofs.Numbers.{InOrder, nothing_in_order, in_order_push, in_order_take, ordered_in_order}
-use Rattle.plain_runs.proofs.Orders.{Facet, facet, OrdersKept, OrdersGo, OrderSteps, orders_same, go_further, longer, saved_steps, opened_steps, crash_steps, each_get, NextIs, Chained}
+use Rattle.plain_runs.proofs.Numbers.{InOrder, nothing_in_order}
+use Rattle.plain_runs.proofs.Orders.{facet, OrdersKept, OrdersGo, OrderSteps, orders_same, go_further, longer, saved_steps, opened_steps, crash_steps, each_get, Chained}
 use Rattle.plain_orders.specs.Entries.{live}
 use Rattle.plain_runs.specs.EndRows.{ShutMay, shut}
-use Rattle.std.specs.Prelude.{slice_index_or}
 
 -- a live session stands in an order that was opened
 unopened : (s : Server) (session : ℕ) → live s.order session ≡ true → OrdersKept (facet s) → s.opened ≡ false → ⊥

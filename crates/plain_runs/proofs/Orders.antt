@@ -1,31 +1,15 @@
 -- The orders of a server along a run.
-use Rattle.std.proofs.Common.{◌≡◌, ℕ, zero, suc, ◌≤◌, ◌<◌, ◌+◌, ◌-◌, List, [], ◌∷◌, ◌++◌, length, take, drop, refl, subst, sym, ap, ◌∙◌, Bool, true, false, eqb, if◌then◌else◌, arith, length-append, append_assoc, Option, Some, None, get_or, ◌⊎◌, inl, inr}
-use Rattle.std.proofs.lemmas.Bool.{eqb-true, cases_lt}
-use Rattle.std.proofs.lemmas.List.{take-append-le, length-take-le, take-take, append-nil, get_or_append_left, get_or-append-add}
+use Rattle.std.proofs.Common.{◌≡◌, ℕ, zero, suc, ◌≤◌, ◌<◌, ◌+◌, List, [], ◌∷◌, ◌++◌, length, take, refl, subst, sym, ap, ◌∙◌, Bool, true, false, arith, length-append, append_assoc, get_or, ◌⊎◌, inl, inr}
+use Rattle.std.proofs.lemmas.Bool.{cases_lt}
+use Rattle.std.proofs.lemmas.List.{take-append-le, length-take-le, take-take, get_or_append_left, get_or-append-add}
 use Rattle.plain_orders.specs.declared.entry.Entry.{Entry}
-use Rattle.plain_orders.specs.declared.entry.Entry.TheVariants.{Epoch, Opened as OpenedEntry, Closed, Update, Commit, Rollback}
-use Rattle.plain_orders.specs.declared.act.Act.{Act}
-use Rattle.plain_orders.specs.declared.act.Act.TheVariants.{Opened, Enter, Synced, Shut, Release, Met, Told, Back, Crash, Issue, Read, Grant, Granted, GiveUp, Quit, Free, Counted, NotWhole, Range, Committed, RolledBack, Reached, Level, Done, Refused, Broke, Mended, Tick, Lose, Died}
-use Rattle.plain_orders.specs.declared.refused.Refused.{Refused as Refusal}
-use Rattle.plain_orders.specs.declared.refused.Refused.TheVariants.{NoTransaction, TooDeep, RollbackOnly, LockTimeout, Network}
-use Rattle.plain_orders.specs.declared.causes.Loss.{Loss}
-use Rattle.plain_orders.specs.declared.causes.Loss.TheVariants.{Reset as ByReset, Expired as ByExpired, NoWay as ByNoWay}
-use Rattle.plain_orders.specs.declared.causes.PairEnd.{PairEnd}
-use Rattle.plain_orders.specs.declared.causes.PairEnd.TheVariants.{App as AppEnd, Server as ServerEnd}
-use Rattle.plain_orders.specs.declared.causes.ShutCause.{ShutCause}
-use Rattle.plain_orders.specs.declared.causes.ShutCause.TheVariants.{Trouble as ByTrouble, Replaced, Round as ByRound}
-use Rattle.plain_orders.specs.declared.layout.Layout.{Layout}
+use Rattle.plain_orders.specs.declared.entry.Entry.TheVariants.{Epoch}
 use Rattle.plain_orders.specs.Entries.{count, last_epoch}
-use Rattle.plain_runs.specs.Plain.{Plain, Server, current, orders, order_at, start}
+use Rattle.plain_runs.specs.Plain.{Server}
 use Rattle.plain_runs.specs.Items.{is_item_of, w_of}
-use Rattle.plain_runs.specs.OrderRows.{OpenedMay, EnterMay, SyncedMay, CrashMay, entered, opened_with, crashed}
-use Rattle.plain_runs.specs.EndRows.{broke, lost}
-use Rattle.plain_runs.specs.JobRows.{refused}
-use Rattle.plain_runs.specs.Step.{MayCome, after}
-use Rattle.plain_runs.specs.Run.{IsRun, RunFrom, after_all, state_after}
-use Rattle.plain_runs.specs.Laws.{IsNextOrder, NeighboursAgree, SyncedStays, ItemsInOrder, server_after}
-use Rattle.plain_runs.proofs.RunLemmas.{at_put, run_parts, after_all-append}
-use Rattle.plain_runs.proofs.Numbers.{InOrder, nothing_in_order, in_order_push, in_order_take, ordered_in_order}
+use Rattle.plain_runs.specs.OrderRows.{OpenedMay, SyncedMay, CrashMay, opened_with, crashed}
+use Rattle.plain_runs.specs.Laws.{IsNextOrder}
+use Rattle.plain_runs.proofs.Numbers.{InOrder, in_order_push, in_order_take, ordered_in_order}
 
 -- P holds of each
 abbrev pub Each : {X : Type 0} → (X → Type 0) → List X → Type 0
@@ -147,45 +131,48 @@ chained_more (x ∷ y ∷ os) o p c n = (c.0, chained_more (y ∷ os) o p c.1 n)
 -- an entry at the end
 pub longer : (s t : Server) (e : Entry) → t.past ≡ s.past → t.order ≡ s.order ++ e ∷ [] → t.synced ≡ s.synced → (OrdersKept (facet s) → s.opened ≡ false → ⊥) → t.opened ≡ s.opened
     → (OrdersKept (facet s) → (n : ℕ) → is_item_of n e ≡ true → w_of e ≡ count s.order n + 1) → OrderSteps s t
-longer s t e p o y op same next k =
-    (record {
-       within = omega (arith, k.within, y, ap length o, length-append s.order (e ∷ []));
-       fresh = λ f. absurd (op k (sym same ∙ f));
-       numbered = subst (λ (os : List (List Entry)). Each InOrder (os ++ t.order ∷ [])) (sym p) (subst (λ (es : List Entry). Each InOrder (s.past ++ es ∷ [])) (sym o) (last_each s.past s.order _ k.numbered (in_order_push s.order e (order_in_order (facet s) k) (next k))));
-       chained = subst (λ (os : List (List Entry)). Chained (os ++ t.order ∷ [])) (sym p) (subst (λ (es : List Entry). Chained (s.past ++ es ∷ [])) (sym o) (chained_longer s.past s.order e k.chained));
-     },
-     record {
-       synced = omega (arith, y);
-       more = omega (arith, ap length p);
-       past = λ n low. ap (λ (os : List (List Entry)). get_or (os ++ t.order ∷ []) n []) p ∙ get_or_append_left s.past (t.order ∷ []) [] n low ∙ sym (get_or_append_left s.past (s.order ∷ []) [] n low);
-       stays = λ n low high. ap (take s.synced) (ap (order_in (facet t)) (omega (arith, low, high, ap length p)) ∙ get_last t.past t.order [] ∙ o) ∙ take-append-le s.synced s.order (e ∷ []) k.within;
-     })
+longer s t e p o y op same next k = (
+  record {
+    within = omega (arith, k.within, y, ap length o, length-append s.order (e ∷ []));
+    fresh = λ f. absurd (op k (sym same ∙ f));
+    numbered = subst (λ (os : List (List Entry)). Each InOrder (os ++ t.order ∷ [])) (sym p) (subst (λ (es : List Entry). Each InOrder (s.past ++ es ∷ [])) (sym o) (last_each s.past s.order _ k.numbered (in_order_push s.order e (order_in_order (facet s) k) (next k))));
+    chained = subst (λ (os : List (List Entry)). Chained (os ++ t.order ∷ [])) (sym p) (subst (λ (es : List Entry). Chained (s.past ++ es ∷ [])) (sym o) (chained_longer s.past s.order e k.chained));
+  },
+  record {
+    synced = omega (arith, y);
+    more = omega (arith, ap length p);
+    past = λ n low. ap (λ (os : List (List Entry)). get_or (os ++ t.order ∷ []) n []) p ∙ get_or_append_left s.past (t.order ∷ []) [] n low ∙ sym (get_or_append_left s.past (s.order ∷ []) [] n low);
+    stays = λ n low high. ap (take s.synced) (ap (order_in (facet t)) (omega (arith, low, high, ap length p)) ∙ get_last t.past t.order [] ∙ o) ∙ take-append-le s.synced s.order (e ∷ []) k.within;
+  },
+)
 
 pub saved_steps : (s : Server) (n : ℕ) → SyncedMay s n → OrderSteps s (record s { synced = n })
-saved_steps s n may k =
-    (record { within = may.within; fresh = k.fresh; numbered = k.numbered; chained = k.chained },
-     record {
-       synced = may.no_less;
-       more = omega arith;
-       past = λ i low. refl;
-       stays = λ i low high. ap (take s.synced) (ap (order_in (facet s)) (omega arith) ∙ get_last s.past s.order []);
-     })
+saved_steps s n may k = (
+  record { within = may.within; fresh = k.fresh; numbered = k.numbered; chained = k.chained },
+  record {
+    synced = may.no_less;
+    more = omega arith;
+    past = λ i low. refl;
+    stays = λ i low high. ap (take s.synced) (ap (order_in (facet s)) (omega arith) ∙ get_last s.past s.order []);
+  },
+)
 
 pub opened_steps : (clock round : ℕ) (s : Server) (entries : List Entry) → OpenedMay s entries → OrderSteps s (opened_with clock round s entries)
-opened_steps clock round s entries may k =
-    (record {
-       within = omega (arith, length-append entries (Epoch (last_epoch entries + 1) ∷ []));
-       fresh = λ f. absurd (cc (f));
-       numbered = subst (λ (os : List (List Entry)). Each InOrder (os ++ (entries ++ Epoch (last_epoch entries + 1) ∷ []) ∷ [])) (sym empty.1)
-           (in_order_push entries (Epoch (last_epoch entries + 1)) (ordered_in_order entries may.ordered) (λ n is. absurd (cc (is))), tt);
-       chained = subst (λ (os : List (List Entry)). Chained (os ++ (entries ++ Epoch (last_epoch entries + 1) ∷ []) ∷ [])) (sym empty.1) (tt, tt);
-     },
-     record {
-       synced = omega (arith, nothing);
-       more = omega arith;
-       past = λ n low. absurd (omega (arith, ap length empty.1));
-       stays = λ n low high. ap (λ m. take m (order_in (facet (opened_with clock round s entries)) n)) nothing ∙ ap (λ m. take m s.order) (sym nothing);
-     })
+opened_steps clock round s entries may k = (
+  record {
+    within = omega (arith, length-append entries (Epoch (last_epoch entries + 1) ∷ []));
+    fresh = λ f. absurd (cc (f));
+    numbered = subst (λ (os : List (List Entry)). Each InOrder (os ++ (entries ++ Epoch (last_epoch entries + 1) ∷ []) ∷ [])) (sym empty.1)
+        (in_order_push entries (Epoch (last_epoch entries + 1)) (ordered_in_order entries may.ordered) (λ n is. absurd (cc (is))), tt);
+    chained = subst (λ (os : List (List Entry)). Chained (os ++ (entries ++ Epoch (last_epoch entries + 1) ∷ []) ∷ [])) (sym empty.1) (tt, tt);
+  },
+  record {
+    synced = omega (arith, nothing);
+    more = omega arith;
+    past = λ n low. absurd (omega (arith, ap length empty.1));
+    stays = λ n low high. ap (λ m. take m (order_in (facet (opened_with clock round s entries)) n)) nothing ∙ ap (λ m. take m s.order) (sym nothing);
+  },
+)
   where
     empty : (s.order ≡ []) × (s.past ≡ [])
     empty = k.fresh may.fresh
@@ -194,20 +181,21 @@ opened_steps clock round s entries may k =
     nothing = omega (arith, k.within, ap length empty.0)
 
 pub crash_steps : (clock round : ℕ) (s : Server) (kept : ℕ) → CrashMay s kept → OrderSteps s (crashed clock round s kept)
-crash_steps clock round s kept may k =
-    (record {
-       within = omega (arith, length-append (take kept s.order) (last ∷ []), length-take-le kept s.order may.within);
-       fresh = λ f. absurd (cc (f, may.opened));
-       numbered = each-append InOrder (s.past ++ s.order ∷ []) ((take kept s.order ++ last ∷ []) ∷ []) k.numbered
-           (in_order_push (take kept s.order) last (in_order_take kept s.order (order_in_order (facet s) k)) (λ n is. absurd (cc (is))), tt);
-       chained = chained_more s.past s.order (take kept s.order ++ last ∷ []) k.chained (record { kept = kept; more = []; within = may.within; later = refl });
-     },
-     record {
-       synced = may.no_less;
-       more = omega (arith, length-append s.past (s.order ∷ []));
-       past = λ n low. get_or_append_left (s.past ++ s.order ∷ []) (next ∷ []) [] n (omega (arith, length-append s.past (s.order ∷ [])));
-       stays = λ n low high. elim (cases n low high) [ inl here ↦ old n here | inr there ↦ new n there ];
-     })
+crash_steps clock round s kept may k = (
+  record {
+    within = omega (arith, length-append (take kept s.order) (last ∷ []), length-take-le kept s.order may.within);
+    fresh = λ f. absurd (cc (f, may.opened));
+    numbered = each-append InOrder (s.past ++ s.order ∷ []) ((take kept s.order ++ last ∷ []) ∷ []) k.numbered
+        (in_order_push (take kept s.order) last (in_order_take kept s.order (order_in_order (facet s) k)) (λ n is. absurd (cc (is))), tt);
+    chained = chained_more s.past s.order (take kept s.order ++ last ∷ []) k.chained (record { kept = kept; more = []; within = may.within; later = refl });
+  },
+  record {
+    synced = may.no_less;
+    more = omega (arith, length-append s.past (s.order ∷ []));
+    past = λ n low. get_or_append_left (s.past ++ s.order ∷ []) (next ∷ []) [] n (omega (arith, length-append s.past (s.order ∷ [])));
+    stays = λ n low high. elim (cases n low high) [ inl here ↦ old n here | inr there ↦ new n there ];
+  },
+)
   where
     last : Entry
     last = Epoch (last_epoch (take kept s.order) + 1)

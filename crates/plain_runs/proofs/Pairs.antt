@@ -1,8 +1,8 @@
 -- The session of each pair was met.
-use Rattle.std.proofs.Common.{◌≡◌, ◌≢◌, ℕ, zero, suc, ◌≤◌, ◌<◌, ◌+◌, List, [], ◌∷◌, ◌++◌, refl, subst, sym, ap, ◌∙◌, Bool, true, false, eqb, if◌then◌else◌, ◌==◌, arith, Option, Some, None}
+use Rattle.std.proofs.Common.{◌≡◌, ℕ, [], ◌∷◌, ◌++◌, refl, subst, sym, ap, Bool, true, false, eqb, if◌then◌else◌, Option, Some, None}
 use Rattle.std.specs.Prelude.{is_some, unwrap_or}
 use Rattle.std.specs.Option.{option_map}
-use Rattle.std.proofs.lemmas.Bool.{eqb-true, eq-eqb}
+use Rattle.std.proofs.lemmas.Bool.{eq-eqb}
 use Rattle.std.proofs.lemmas.Option.{same_Some}
 use Rattle.plain_orders.specs.declared.entry.Entry.{Entry}
 use Rattle.plain_orders.specs.declared.entry.Entry.TheVariants.{Epoch, Opened as OpenedEntry, Closed, Update, Commit, Rollback}
@@ -14,10 +14,8 @@ use Rattle.plain_orders.specs.declared.causes.Loss.{Loss}
 use Rattle.plain_orders.specs.declared.causes.Loss.TheVariants.{Reset as ByReset, Expired as ByExpired, NoWay as ByNoWay}
 use Rattle.plain_orders.specs.declared.causes.PairEnd.{PairEnd}
 use Rattle.plain_orders.specs.declared.causes.PairEnd.TheVariants.{App as AppEnd, Server as ServerEnd}
-use Rattle.plain_orders.specs.declared.causes.ShutCause.{ShutCause}
-use Rattle.plain_orders.specs.declared.causes.ShutCause.TheVariants.{Trouble as ByTrouble, Replaced, Round as ByRound}
 use Rattle.plain_orders.specs.declared.layout.Layout.{Layout}
-use Rattle.plain_runs.specs.Plain.{Plain, Server, Session, Pair, put, start, app_of, with_session, pair_session}
+use Rattle.plain_runs.specs.Plain.{Plain, Server, Session, Pair, put, app_of, with_session, pair_session}
 use Rattle.plain_runs.specs.OrderRows.{entered}
 use Rattle.plain_runs.specs.EndRows.{broke, lost, met_by, told_of, begun_by, new_session}
 use Rattle.plain_runs.specs.JobRows.{refused, has_session, issues, txn_of}

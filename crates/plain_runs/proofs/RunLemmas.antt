@@ -1,11 +1,11 @@
 -- Runs that go on.
-use Rattle.std.proofs.Common.{◌≡◌, ℕ, List, [], ◌∷◌, ◌++◌, refl, subst, sym, Bool, true, false, ◌==◌, if◌then◌else◌, arith, eqb}
+use Rattle.std.proofs.Common.{◌≡◌, ℕ, List, [], ◌∷◌, ◌++◌, refl, subst, sym, Bool, true, false, if◌then◌else◌, eqb}
 use Rattle.std.proofs.lemmas.Bool.{eqb-true}
 use Rattle.plain_orders.specs.declared.act.Act.{Act}
 use Rattle.plain_orders.specs.declared.layout.Layout.{Layout}
-use Rattle.plain_runs.specs.Plain.{Plain, start, put}
+use Rattle.plain_runs.specs.Plain.{Plain, put}
 use Rattle.plain_runs.specs.Step.{MayCome, after}
-use Rattle.plain_runs.specs.Run.{after_all, RunFrom, IsRun}
+use Rattle.plain_runs.specs.Run.{after_all, RunFrom}
 
 -- the state after one act more
 pub after_all-more : (l : Layout) (p : Plain) (acts : List Act) (a : Act) → after_all l p (acts ++ a ∷ []) ≡ after l (after_all l p acts) a

@@ -1,5 +1,5 @@
 -- The rows on sessions and connections.
-use Rattle.std.specs.Prelude.{◌≡◌, ℕ, Bool, true, false, ◌==◌, ◌&&◌, ◌||◌, ◌+◌, ◌-◌, ◌<◌, ◌≤◌, min, if◌then◌else◌, List, [], ◌∷◌, ◌++◌, length, Option, Some, None, nat_lt, is_some, unwrap_or}
+use Rattle.std.specs.Prelude.{◌≡◌, ℕ, Bool, true, false, ◌==◌, ◌&&◌, ◌||◌, ◌+◌, ◌<◌, ◌≤◌, min, if◌then◌else◌, List, [], ◌∷◌, ◌++◌, Option, Some, None, nat_lt, is_some, unwrap_or}
 use Rattle.std.specs.List.{list_any}
 use Rattle.std.specs.Option.{option_map}
 use Rattle.plain_orders.specs.declared.entry.Entry.{Entry}
@@ -15,7 +15,7 @@ use Rattle.plain_orders.specs.declared.refused.ReasonName.{ReasonName}
 use Rattle.plain_orders.specs.declared.refused.ReasonName.TheVariants.{Reset, Expired, NoWay}
 use Rattle.plain_orders.specs.Entries.{entry_at, live, live_session, last_epoch}
 use Rattle.plain_orders.specs.Own.{Issued}
-use Rattle.plain_runs.specs.Plain.{Plain, Server, Session, Entered, Pair, Known, Job, put, with_server, with_session, with_jobs_of, runs_on, current, order_at, orders, session_in, issued_in, pair_session, until}
+use Rattle.plain_runs.specs.Plain.{Plain, Server, Session, Entered, Known, Job, put, with_server, with_session, with_jobs_of, runs_on, order_at, orders, session_in, issued_in, pair_session, until}
 use Rattle.plain_runs.specs.Items.{is_update_of}
 use Rattle.plain_runs.specs.OrderRows.{app_in, with_entry}
 

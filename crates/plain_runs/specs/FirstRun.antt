@@ -1,5 +1,5 @@
 -- The trail of a first run: a job sets a node on a fresh server and reads it.
-use Rattle.std.specs.Prelude.{ℕ, List, [], ◌∷◌, Some}
+use Rattle.std.specs.Prelude.{List, [], ◌∷◌, Some}
 use Rattle.plain_orders.specs.declared.op.Op.TheVariants.{Set}
 use Rattle.plain_orders.specs.declared.item.Item.TheVariants.{Op}
 use Rattle.plain_orders.specs.declared.entry.Entry.TheVariants.{Opened as OpenedEntry, Update}

@@ -1,5 +1,5 @@
 -- The rows on jobs.
-use Rattle.std.specs.Prelude.{◌≡◌, ℕ, ℤ, Bool, true, false, ◌==◌, ◌&&◌, ◌||◌, ◌+◌, ◌-◌, ◌<◌, ◌≤◌, max, if◌then◌else◌, List, [], ◌∷◌, ◌++◌, length, take, Option, Some, None, slice_get, is_some, not, nat_lt, unwrap_or}
+use Rattle.std.specs.Prelude.{◌≡◌, ℕ, Bool, true, false, ◌==◌, ◌&&◌, ◌||◌, ◌+◌, ◌-◌, ◌<◌, ◌≤◌, max, if◌then◌else◌, List, [], ◌∷◌, ◌++◌, length, take, Option, Some, None, slice_get, is_some, not, nat_lt}
 use Rattle.std.specs.List.{list_any}
 use Rattle.std.specs.Option.{option_map}
 use Rattle.plain_orders.specs.declared.entry.Entry.{Entry}
@@ -15,15 +15,15 @@ use Rattle.plain_orders.specs.declared.refused.Refused.TheVariants.{NoTransactio
 use Rattle.plain_orders.specs.declared.refused.ReasonName.{ReasonName}
 use Rattle.plain_orders.specs.declared.refused.ReasonName.TheVariants.{Reset, Expired, NoWay}
 use Rattle.plain_orders.specs.declared.refused.LinkName.{LinkName}
-use Rattle.plain_orders.specs.declared.refused.LinkName.TheVariants.{NotConnected, Normal, Trouble, Recovery}
+use Rattle.plain_orders.specs.declared.refused.LinkName.TheVariants.{NotConnected, Trouble, Recovery}
 use Rattle.plain_orders.specs.declared.op.Op.{Op as Operation}
 use Rattle.plain_orders.specs.declared.sum.Sum.{Sum}
 use Rattle.plain_orders.specs.Entries.{count, entry_at}
 use Rattle.plain_orders.specs.Answers.{data_on, IsNextOn, sum_at}
 use Rattle.plain_orders.specs.Own.{Issued, own, value_over, touches_own}
 use Rattle.plain_orders.specs.Ordered.{OpMay}
-use Rattle.plain_runs.specs.Plain.{Plain, Server, Session, Known, Job, put, with_server, with_job, with_known, with_session, app_of, session_in, issued_in, pair_session, told_order}
-use Rattle.plain_runs.specs.Items.{entry_of, all_stand, w_of, is_change, is_add, is_commit, is_rollback, is_update_of, is_end_of, is_end_at, ended_from}
+use Rattle.plain_runs.specs.Plain.{Plain, Server, Known, Job, with_server, with_known, with_session, app_of, issued_in, pair_session, told_order}
+use Rattle.plain_runs.specs.Items.{entry_of, all_stand, w_of, is_change, is_add, is_update_of, is_end_at, ended_from}
 
 -- the job is there, and its application server lives
 pub record JobMay (layout : Layout) (p : Plain) (job : ℕ) : Type 0 where

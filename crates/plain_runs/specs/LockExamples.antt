@@ -1,22 +1,8 @@
 -- Examples of acts that are accepted, and of acts that are refused since one condition fails.
-use Rattle.std.specs.Prelude.{ℕ, pos, List, [], ◌∷◌, ◌++◌, Some, None}
-use Rattle.plain_orders.specs.declared.act.Act.{Act}
-use Rattle.plain_orders.specs.declared.act.Act.TheVariants.{Opened, Enter, Synced, Shut, Release, Met, Told, Back, Crash, Issue, Read, Grant, Granted, GiveUp, Quit, Free, Counted, NotWhole, Range, Committed, RolledBack, Reached, Level, Done, Refused as RefusedAct, Broke, Mended, Tick, Lose, Died}
-use Rattle.plain_orders.specs.declared.op.Op.TheVariants.{Set, Kill, Add}
-use Rattle.plain_orders.specs.declared.item.Item.TheVariants.{Op, Commit as CommitItem, Rollback as RollbackItem}
-use Rattle.plain_orders.specs.declared.entry.Entry.TheVariants.{Epoch, Opened as OpenEntry, Closed, Update, Commit, Rollback}
+use Rattle.std.specs.Prelude.{[], ◌∷◌}
+use Rattle.plain_orders.specs.declared.act.Act.TheVariants.{Release, Grant, Granted, GiveUp, Quit, Free}
 use Rattle.plain_orders.specs.declared.mode.Mode.TheVariants.{Exclusive, Shared}
-use Rattle.plain_orders.specs.declared.via.Via.TheVariants.{Own, Cached, Fetched}
-use Rattle.plain_orders.specs.declared.question.Question.TheVariants.{Get, Data, Next}
-use Rattle.plain_orders.specs.declared.causes.ShutCause.TheVariants.{Trouble as ByTrouble, Replaced, Round as ByRound}
-use Rattle.plain_orders.specs.declared.causes.PairEnd.TheVariants.{App as AppEnd, Server as ServerEnd}
-use Rattle.plain_orders.specs.declared.causes.Loss.TheVariants.{Reset as ByReset, Expired as ByExpired, NoWay as ByNoWay}
-use Rattle.plain_orders.specs.declared.refused.Refused.TheVariants.{NoTransaction, TooDeep, RollbackOnly, LockTimeout, Network}
-use Rattle.plain_orders.specs.declared.refused.ReasonName.TheVariants.{Reset, NoWay}
-use Rattle.plain_orders.specs.declared.refused.LinkName.TheVariants.{NotConnected, Normal, Recovery}
-use Rattle.plain_orders.specs.declared.layout.Layout.{Layout}
-use Rattle.subscript_keys.specs.declared.sub.Sub.TheVariants.{Text}
-use Rattle.plain_runs.specs.Fronts.{small, Accepted, Refuses, long_key, long_value, answered, both_held, closed, closed_saved, crashed, given, granted, issued_quit, met, quitted, saved}
+use Rattle.plain_runs.specs.Fronts.{Accepted, Refuses, answered, both_held, closed, closed_saved, crashed, given, granted, issued_quit, met, quitted, saved}
 
 -- release
 abbrev pub ReleaseExamples : Type 0

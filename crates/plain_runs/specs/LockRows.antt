@@ -1,5 +1,5 @@
 -- The rows on holds.
-use Rattle.std.specs.Prelude.{◌≡◌, ℕ, Bool, true, false, ◌==◌, ◌&&◌, ◌||◌, ◌+◌, ◌≤◌, if◌then◌else◌, List, [], ◌∷◌, ◌++◌, length, take, Option, Some, None, map, filter, not, is_some, unwrap_or, nat_eq, nat_lt}
+use Rattle.std.specs.Prelude.{◌≡◌, ℕ, Bool, true, false, ◌==◌, ◌&&◌, ◌||◌, ◌+◌, ◌≤◌, if◌then◌else◌, List, [], ◌∷◌, ◌++◌, length, take, Option, Some, None, map, filter, not, is_some, nat_eq, nat_lt}
 use Rattle.std.specs.List.{list_any}
 use Rattle.std.specs.Option.{option_map}
 use Rattle.std.specs.Cmp.Lexicographic.{pointwise}
@@ -7,7 +7,7 @@ use Rattle.plain_orders.specs.declared.mode.Mode.{Mode}
 use Rattle.plain_orders.specs.declared.mode.Mode.TheVariants.{Exclusive, Shared}
 use Rattle.plain_orders.specs.Entries.{live, closed_by}
 use Rattle.plain_orders.specs.Conflict.{is_conflict}
-use Rattle.plain_runs.specs.Plain.{Plain, Server, Job, Hold, Given, Quitted, pair_session, issued_in}
+use Rattle.plain_runs.specs.Plain.{Server, Job, Hold, Given, Quitted, pair_session, issued_in}
 use Rattle.plain_runs.specs.Items.{all_stand}
 use Rattle.plain_runs.specs.OrderRows.{is_sent, binds}
 use Rattle.plain_runs.specs.JobRows.{has_session, acted, sees_up}

@@ -6,8 +6,7 @@ use Rattle.plain_orders.specs.declared.entry.Entry.{Entry}
 use Rattle.plain_orders.specs.declared.entry.Entry.TheVariants.{Epoch, Opened, Closed, Update, Commit, Rollback}
 use Rattle.plain_orders.specs.Entries.{count, live, last_epoch, live_session}
 use Rattle.plain_orders.specs.Ordered.{IsOrdered}
-use Rattle.plain_orders.specs.Own.{Issued}
-use Rattle.plain_runs.specs.Plain.{Server, Session, Entered, Hold, put, current, until, issued_in, session_in}
+use Rattle.plain_runs.specs.Plain.{Server, Hold, put, current, until, issued_in, session_in}
 use Rattle.plain_runs.specs.Items.{entry_of}
 
 -- the sessions that were opened in a list, in its order

@@ -1,10 +1,10 @@
 -- Which act may come, and what it changes.
-use Rattle.std.specs.Prelude.{◌≡◌, ℕ, Bool, true, false}
+use Rattle.std.specs.Prelude.{◌≡◌, ℕ, true, false}
 use Rattle.plain_orders.specs.declared.act.Act.{Act}
 use Rattle.plain_orders.specs.declared.act.Act.TheVariants.{Opened, Enter, Synced, Shut, Release, Met, Told, Back, Crash, Issue, Read, Grant, Granted, GiveUp, Quit, Free, Counted, NotWhole, Range, Committed, RolledBack, Reached, Level, Done, Refused, Broke, Mended, Tick, Lose, Died}
 use Rattle.plain_orders.specs.declared.layout.Layout.{Layout}
 use Rattle.plain_orders.specs.declared.sum.Sum.TheVariants.{Whole, NotWhole as SumNotWhole, Range as SumRange}
-use Rattle.plain_runs.specs.Plain.{Plain, Server, with_server, with_job, app_of, put}
+use Rattle.plain_runs.specs.Plain.{Plain, with_server, with_job, app_of, put}
 use Rattle.plain_runs.specs.Items.{is_commit, is_rollback}
 use Rattle.plain_runs.specs.OrderRows.{OpenedMay, EnterMay, SyncedMay, CrashMay, BackMay, opened_with, entered, saved, crashed, came_back}
 use Rattle.plain_runs.specs.EndRows.{ShutMay, MetMay, ToldMay, BrokeMay, MendedMay, LoseRow, shut, met_by, told_of, broke, mended, lost}
