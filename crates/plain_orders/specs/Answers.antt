@@ -1,10 +1,9 @@
 -- What is answered on a list of entries.
-use Rattle.std.specs.Prelude.{◌≡◌, ℕ, zero, suc, ◌+◌, ◌-◌, Bool, true, false, not, ◌&&◌, if◌then◌else◌, List, [], ◌∷◌, ◌++◌, Option, Some, None, take, is_some, slice_get}
-use Rattle.std.specs.List.{list_any, starts_with}
+use Rattle.std.specs.Prelude.{◌≡◌, ℕ, zero, suc, ◌+◌, Bool, true, not, ◌&&◌, if◌then◌else◌, List, [], ◌∷◌, ◌++◌, Option, Some, None, take, is_some, slice_get}
+use Rattle.std.specs.List.{list_any}
 use Rattle.std.specs.Ordering.{is_lt}
 use Rattle.subscript_keys.specs.declared.sub.Sub.{Sub}
 use Rattle.subscript_keys.specs.Key.{sub_bytes, IsSub}
-use Rattle.plain_orders.specs.declared.op.Op.{Op}
 use Rattle.plain_orders.specs.declared.entry.Entry.{Entry}
 use Rattle.plain_orders.specs.declared.entry.Entry.TheVariants.{Epoch, Opened, Closed, Update, Commit, Rollback}
 use Rattle.plain_orders.specs.declared.sum.Sum.{Sum}

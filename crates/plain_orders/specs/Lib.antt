@@ -2,7 +2,9 @@ pub mod Entries
 pub mod PairMap
 pub mod Numbers
 pub mod Fold
+pub mod Begun
 pub mod Ordered
 pub mod Answers
 pub mod Own
 pub mod Conflict
+pub mod Spans

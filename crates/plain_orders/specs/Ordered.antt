@@ -1,5 +1,5 @@
 -- Which lists of entries are ordered.
-use Rattle.std.specs.Prelude.{◌≡◌, ◌≢◌, ℕ, ◌+◌, ◌^◌, ◌<◌, ◌≤◌, Bool, true, List, [], ◌∷◌, ◌++◌, length, Option, None, ℤ, unsigned_abs}
+use Rattle.std.specs.Prelude.{◌≡◌, ◌≢◌, ℕ, ◌+◌, ◌^◌, ◌<◌, ◌≤◌, true, List, [], ◌∷◌, ◌++◌, length, None, ℤ, unsigned_abs}
 use Rattle.subscript_keys.specs.Key.{IsKey, IsWithinLimit}
 use Rattle.plain_orders.specs.declared.op.Op.{Op}
 use Rattle.plain_orders.specs.declared.op.Op.TheVariants.{Set, Kill, Add}

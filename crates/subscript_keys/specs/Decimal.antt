@@ -30,7 +30,7 @@ fraction_digits ds (negsuc x) = replicate (suc x) 0 ++ ds
 
 -- the characters of digits
 abbrev pub digit_text : List ℕ → List ℕ
-digit_text ds = map (λ d. 48 + d) ds
+digit_text ds = map (λ d. d + 48) ds
 
 -- a minus sign or nothing
 abbrev pub sign_text : Bool → List ℕ

@@ -4,6 +4,7 @@
 mod decimal;
 mod key_bytes;
 mod key_error;
+mod key_order;
 mod limits;
 mod name;
 mod node;
@@ -19,6 +20,7 @@ mod value_bytes;
 pub use decimal::Decimal;
 pub use key_bytes::KeyBytes;
 pub use key_error::KeyError;
+pub use key_order::keys_stand_for_nodes;
 pub use limits::{DIGIT_LIMIT, GLOBAL_NAME_LIMIT, KEY_LIMIT, NODE_NAME_LIMIT, VALUE_LIMIT};
 pub use name::Name;
 pub use node::Node;

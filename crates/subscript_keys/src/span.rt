@@ -1,5 +1,5 @@
 ghost use Rattle.std.specs.Prelude.{◌≡◌, ◌↔◌, IsTrue, IfOk};
-ghost use Rattle.subscript_keys.specs.Span.{IsIn, span_lo, span_hi};
+ghost use Rattle.subscript_keys.specs.Span.{IsIn, Meet, span_lo, span_hi};
 
 use crate::key_bytes::KeyBytes;
 use std::alloc::{AllocError, Global};
@@ -31,5 +31,12 @@ impl Span {
         ensures { IsTrue result ↔ IsIn self.now.lo self.now.hi key.now }
     {
         self.lo <= *key && *key < self.hi
+    }
+
+    /// Whether some byte string is in both spans.
+    pub fn meets(&self, other: &Span) -> bool
+        ensures { IsTrue result ↔ Meet self.now.lo self.now.hi other.now.lo other.now.hi }
+    {
+        self.lo < self.hi && other.lo < other.hi && self.lo < other.hi && other.lo < self.hi
     }
 }
