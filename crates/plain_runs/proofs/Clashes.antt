@@ -30,16 +30,16 @@ use Rattle.plain_runs.proofs.RunLemmas.{at_put}
 use Rattle.plain_runs.proofs.Orders.{Each}
 
 -- the first is in the way of the second
-record Clash (h k : Hold) : Type 0 where
-  first : binds h ≡ true
-  second : binds k ≡ true
-  other : (h.session ≡ k.session) × (h.job ≡ k.job) → ⊥
-  conflict : is_conflict h.mode h.key k.mode k.key ≡ true
+pub record Clash (h k : Hold) : Type 0 where
+  pub first : binds h ≡ true
+  pub second : binds k ≡ true
+  pub other : (h.session ≡ k.session) × (h.job ≡ k.job) → ⊥
+  pub conflict : is_conflict h.mode h.key k.mode k.key ≡ true
 
-abbrev Apart : Hold → List Hold → Type 0
+abbrev pub Apart : Hold → List Hold → Type 0
 Apart h ks = Each (λ k. Clash h k → ⊥) ks
 
-abbrev NoClash : List Hold → Type 0
+abbrev pub NoClash : List Hold → Type 0
 NoClash [] = Unit {0}
 NoClash (h ∷ hs) = Apart h hs × NoClash hs
 
@@ -166,7 +166,7 @@ answer_faded h = record { binding = λ e. e; session = refl; job = refl; mode = 
 give_faded : (g : Given) (h : Hold) → IsFaded (given_up g h) h
 give_faded g h = record { binding = λ e. e; session = refl; job = refl; mode = refl; key = refl }
 
-abbrev Keeps : Server → Server → Type 0
+abbrev pub Keeps : Server → Server → Type 0
 Keeps s t = NoClash s.holds → NoClash t.holds
 
 keep_map : (f : Hold → Hold) → ((h : Hold) → IsFaded (f h) h) → (hs : List Hold) → NoClash hs → NoClash (map f hs)
@@ -205,7 +205,7 @@ lost_keeps l p app d (ByReset at) e = at_put Keeps p.server_at d _ keeps_same (�
 lost_keeps l p app d (ByExpired time) e = at_put Keeps p.server_at d _ keeps_same (λ n. n) e
 lost_keeps l p app d (ByNoWay from to) e = at_put Keeps p.server_at d _ keeps_same (λ n. n) e
 
-row_keeps : (l : Layout) (p : Plain) (a : Act) → MayCome l p a → (e : ℕ) → Keeps (p.server_at e) ((after l p a).server_at e)
+pub row_keeps : (l : Layout) (p : Plain) (a : Act) → MayCome l p a → (e : ℕ) → Keeps (p.server_at e) ((after l p a).server_at e)
 row_keeps l p (Opened d entries) may e = at_put Keeps p.server_at d _ keeps_same (λ n. n) e
 row_keeps l p (Enter d x) may e = at_put Keeps p.server_at d _ keeps_same (entered_keeps (p.server_at d) x) e
 row_keeps l p (Synced d n) may e = at_put Keeps p.server_at d _ keeps_same (λ n. n) e
@@ -237,7 +237,7 @@ row_keeps l p (Tick time) may e = λ n. n
 row_keeps l p (Lose app d loss) may e = lost_keeps l p app d loss e
 row_keeps l p (Died app) may e = λ n. n
 
-run_keeps : (l : Layout) (p : Plain) (acts : List Act) → RunFrom l p acts → (e : ℕ) → Keeps (p.server_at e) ((after_all l p acts).server_at e)
+pub run_keeps : (l : Layout) (p : Plain) (acts : List Act) → RunFrom l p acts → (e : ℕ) → Keeps (p.server_at e) ((after_all l p acts).server_at e)
 run_keeps l p [] run e n = n
 run_keeps l p (a ∷ acts) run e n = run_keeps l (after l p a) acts run.1 e (row_keeps l p a run.0 e n)
 

@@ -58,10 +58,10 @@ read_examples = (
   (kept_runs, λ may. omega (arith, may.1.answer.result)),
   (kept_runs, λ may. absurd (cc (may.1.answer.by))),
   (issued_runs, λ may. absurd (cc (may.1.answer.entered))),
-  run_more small start kept (Read 0 6 0 3 Cached (Next (120 ∷ 0 ∷ []) None None)) kept_runs ((record { known = omega arith; alive = refl; free = refl }, record { there = refl; no_less = omega arith; within = omega arith; answer = (refl, refl, tt) })),
-  (kept_runs, λ may. may.1.answer.2),
-  (kept_runs, λ may. absurd (cc (may.1.answer.0))),
-  (issued_runs, λ may. absurd (cc (may.1.answer.1))),
+  run_more small start kept (Read 0 6 0 3 Cached (Next (120 ∷ 0 ∷ []) None None)) kept_runs ((record { known = omega arith; alive = refl; free = refl }, record { there = refl; no_less = omega arith; within = omega arith; answer = record { result = tt; by = refl; entered = refl } })),
+  (kept_runs, λ may. may.1.answer.result),
+  (kept_runs, λ may. absurd (cc (may.1.answer.by))),
+  (issued_runs, λ may. absurd (cc (may.1.answer.entered))),
 )
 
 pub counted_examples : CountedExamples

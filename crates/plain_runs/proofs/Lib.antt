@@ -9,9 +9,9 @@ mod JobCases
 pub mod Numbers
 pub mod Orders
 pub mod OrderLaws
-mod Clashes
-mod Lists
-mod HoldRows
-mod LockRows
-mod Pairs
-mod LockLaws
+pub mod Clashes
+pub mod Lists
+pub mod HoldRows
+pub mod LockRows
+pub mod Pairs
+pub mod LockLaws

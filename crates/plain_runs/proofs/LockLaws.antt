@@ -48,7 +48,7 @@ refused_steps p j RollbackOnly e = steps_same (p.server_at e)
 refused_steps p j LockTimeout e = steps_same (p.server_at e)
 refused_steps p j (Network d state reason) e = at_put LockSteps p.server_at d _ steps_same (steps_same (p.server_at d)) e
 
-row_locks : (l : Layout) (p : Plain) (a : Act) → MayCome l p a → ((d : ℕ) → PairsKept (p.server_at d).session_at (p.server_at d).pair_at) → (e : ℕ) → LockSteps (p.server_at e) ((after l p a).server_at e)
+pub row_locks : (l : Layout) (p : Plain) (a : Act) → MayCome l p a → ((d : ℕ) → PairsKept (p.server_at d).session_at (p.server_at d).pair_at) → (e : ℕ) → LockSteps (p.server_at e) ((after l p a).server_at e)
 row_locks l p (Opened d entries) may pairs e = at_put LockSteps p.server_at d _ steps_same (opened_steps p.clock l.times.round (p.server_at d) entries may) e
 row_locks l p (Enter d x) may pairs e = at_put LockSteps p.server_at d _ steps_same (enter_steps (p.server_at d) x may) e
 row_locks l p (Synced d n) may pairs e = at_put LockSteps p.server_at d _ steps_same (saved_steps (p.server_at d) n may) e
@@ -80,16 +80,16 @@ row_locks l p (Tick time) may pairs e = steps_same (p.server_at e)
 row_locks l p (Lose app d loss) may pairs e = lost_steps l p app d loss e
 row_locks l p (Died app) may pairs e = steps_same (p.server_at e)
 
-run_locks : (l : Layout) (p : Plain) (acts : List Act) → RunFrom l p acts → ((d : ℕ) → PairsKept (p.server_at d).session_at (p.server_at d).pair_at) → ((d : ℕ) → OrdersKept (facet (p.server_at d))) → ((d : ℕ) → LocksKept (locks (p.server_at d)))
+pub run_locks : (l : Layout) (p : Plain) (acts : List Act) → RunFrom l p acts → ((d : ℕ) → PairsKept (p.server_at d).session_at (p.server_at d).pair_at) → ((d : ℕ) → OrdersKept (facet (p.server_at d))) → ((d : ℕ) → LocksKept (locks (p.server_at d)))
     → (e : ℕ) → LocksKept (locks ((after_all l p acts).server_at e))
 run_locks l p [] run pairs os k e = k e
 run_locks l p (a ∷ acts) run pairs os k e =
     run_locks l (after l p a) acts run.1 (λ d. row_pairs l p a run.0 d (pairs d)) (λ d. (row_steps l p a run.0 d (os d)).0) (λ d. row_locks l p a run.0 pairs d (os d) (k d)) e
 
-start_locks : (d : ℕ) → LocksKept (locks (start.server_at d))
+pub start_locks : (d : ℕ) → LocksKept (locks (start.server_at d))
 start_locks d = record { fresh = λ _. refl; opened = λ n m. absurd (cc (m)); quits = tt; holds = tt }
 
-locks_kept : (l : Layout) (acts : List Act) (d : ℕ) → IsRun l acts → LocksKept (locks (server_after l acts d))
+pub locks_kept : (l : Layout) (acts : List Act) (d : ℕ) → IsRun l acts → LocksKept (locks (server_after l acts d))
 locks_kept l acts d run = run_locks l start acts run (λ d. record { met = λ a n e. absurd (cc (e)) }) start_kept start_locks d
 
 some_and : (o : Option Given) (P : Given → Type 0) (g : Given) → o ≡ Some g → P g → IsSomeAnd o P

@@ -24,6 +24,7 @@ abbrev pub end_of : Server → Option ℕ → Option ℕ
 end_of s None = None
 end_of s (Some app) = s.end_at app
 
+-- when the data end of a session's application server broke
 abbrev pub end_in : Server → ℕ → Option ℕ
 end_in s session = end_of s (app_in s.order session)
 
@@ -45,11 +46,13 @@ pub record ShutRoundMay (p : Plain) (s : Server) (session time : ℕ) : Type 0 w
   pub recovering : is_some s.due ≡ true
   pub over : unwrap_or s.due 0 ≤ time
 
+-- a Close of a session, by its cause
 abbrev pub ShutMay : Layout → Plain → Server → ℕ → ShutCause → Type 0
 ShutMay layout p s session (Trouble time) = ShutTroubleMay p s session time layout.times.trouble
 ShutMay layout p s session Replaced = ShutReplacedMay s session
 ShutMay layout p s session (Round time) = ShutRoundMay p s session time
 
+-- an Open that was entered, where it was
 abbrev pub entered_in : Server → ℕ → Entered
 entered_in s n = unwrap_or (s.entered_at n) (record { app = 0; in_order = 0; lost_since = false })
 
@@ -87,20 +90,24 @@ pub record ToldMay (s : Server) (app session epoch kept : ℕ) : Type 0 where
   pub later : (session_in s session).told < begun_by s epoch
   pub place : place_of_epoch (last_epoch (order_at s (session_in s session).told)) 0 (order_at s (begun_by s epoch)) ≡ Some kept
 
+-- the application end breaks, once, while its pair has a session
 pub record BrokeAppMay (p : Plain) (s : Server) (app time : ℕ) : Type 0 where
   pub alive : p.died_at app ≡ false
   pub now : time ≡ p.clock
   pub there : is_some (s.pair_at app).session ≡ true
   pub fresh : is_some (s.pair_at app).broke ≡ false
 
+-- the data end breaks, while its application server has a live session
 pub record BrokeServerMay (p : Plain) (s : Server) (app time : ℕ) : Type 0 where
   pub now : time ≡ p.clock
   pub has_live : is_some (live_session s.order app) ≡ true
 
+-- one end of a pair's connection breaks
 abbrev pub BrokeMay : Plain → Server → ℕ → PairEnd → ℕ → Type 0
 BrokeMay p s app AppEnd time = BrokeAppMay p s app time
 BrokeMay p s app ServerEnd time = BrokeServerMay p s app time
 
+-- the application end is whole again
 pub record MendedMay (p : Plain) (s : Server) (app : ℕ) : Type 0 where
   pub alive : p.died_at app ≡ false
   pub broken : is_some (s.pair_at app).broke ≡ true
@@ -122,6 +129,7 @@ pub record LoseNoWayMay (s : Server) (app before after : ℕ) : Type 0 where
   pub none : is_some (s.pair_at app).session ≡ false
   pub failed : before < after
 
+-- a session is lost or a connect failed, by its cause
 abbrev pub LoseRow : Layout → Plain → Server → ℕ → Loss → Type 0
 LoseRow layout p s app (ByReset at) = LoseResetMay s app at
 LoseRow layout p s app (ByExpired time) = LoseExpiredMay p s app time layout.times.recover
@@ -137,6 +145,7 @@ shut s session = with_entry s (app_in s.order session) (Closed session)
 abbrev pub new_session : Server → ℕ → ℕ → Session
 new_session s app session = record { app = app; issued = []; told = (entered_in s session).in_order }
 
+-- the pair has the session, which is told of the order that it was entered in; its jobs have seen the Open
 abbrev pub met_by : Layout → Server → ℕ → ℕ → Server
 met_by layout s app session =
     with_jobs_of layout
@@ -146,27 +155,33 @@ met_by layout s app session =
     })
     app (λ k. record k { seen = session; acted = false })
 
+-- the session is told of the last order that the Epoch began; its jobs have seen no more than what was kept
 abbrev pub told_of : Layout → Server → ℕ → ℕ → ℕ → ℕ → Server
 told_of layout s app session epoch kept =
     with_jobs_of layout (with_session s session (λ m. record m { told = begun_by s epoch })) app (λ k. record k { seen = min k.seen kept })
 
+-- the pair is broke since this time
 abbrev pub broke_app : Server → ℕ → ℕ → Server
 broke_app s app time = record s { pair_at = put s.pair_at app (record (s.pair_at app) { broke = Some time }) }
 
+-- the data end is broke since this time
 abbrev pub broke_server : Server → ℕ → ℕ → Server
 broke_server s app time = record s { end_at = put s.end_at app (Some time) }
 
+-- the end that broke is broke since this time
 abbrev pub broke : Server → ℕ → PairEnd → ℕ → Server
 broke s app AppEnd time = broke_app s app time
 broke s app ServerEnd time = broke_server s app time
 
+-- the pair is not broke any more
 abbrev pub mended : Server → ℕ → Server
 mended s app = record s { pair_at = put s.pair_at app (record (s.pair_at app) { broke = None }) }
 
--- a loss joins a job's news; where it is of a session it bars a job with an act in it
+-- a failed connect joins a job's news
 abbrev pub knows_noway : Known → Known
 knows_noway k = record k { news = k.news ++ NoWay ∷ [] }
 
+-- a lost session joins a job's news, and bars it where it had an act in the session
 abbrev pub knows_loss : ReasonName → Known → Known
 knows_loss reason k = record k { news = k.news ++ reason ∷ []; acted = false; bar = if k.acted then Some reason else k.bar }
 
@@ -174,6 +189,7 @@ knows_loss reason k = record k { news = k.news ++ reason ∷ []; acted = false; 
 abbrev pub since_loss : ℕ → Option Entered → Option Entered
 since_loss app o = option_map (λ (e : Entered). record e { lost_since = e.lost_since || e.app == app }) o
 
+-- the pair has no session; its jobs have news, and its Opens that were entered are behind
 abbrev pub without_session : Layout → Server → ℕ → ReasonName → Server
 without_session layout s app reason =
     with_jobs_of layout
@@ -189,15 +205,18 @@ abbrev pub job_after_loss : Layout → Server → ℕ → ℕ → Job → Job
 job_after_loss layout s app job x =
     record x { rollback_only = x.rollback_only || (runs_on layout app job && has_open_update x job (issued_in s (pair_session s app))) }
 
+-- the pair's session is lost, and with it the updates of open transactions
 abbrev pub lost_session : Layout → Plain → ℕ → ℕ → ReasonName → Plain
 lost_session layout p app server reason =
     record (with_server p server (without_session layout (p.server_at server) app reason)) {
       job_at = λ j. job_after_loss layout (p.server_at server) app j (p.job_at j);
     }
 
+-- a failed connect is news for the jobs
 abbrev pub no_way : Layout → Plain → ℕ → ℕ → Plain
 no_way layout p app server = with_server p server (with_jobs_of layout (p.server_at server) app knows_noway)
 
+-- what a loss changes, by its cause
 abbrev pub lost : Layout → Plain → ℕ → ℕ → Loss → Plain
 lost layout p app server (ByReset at) = lost_session layout p app server Reset
 lost layout p app server (ByExpired time) = lost_session layout p app server Expired

@@ -20,5 +20,6 @@ first_run =
     Opened 0 [] ∷ Enter 0 (OpenedEntry 2 0) ∷ Synced 0 2 ∷ Met 0 0 2 ∷ Issue 0 5 0 1 (Op (Set (120 ∷ 0 ∷ []) (53 ∷ [])))
     ∷ Enter 0 (Update 2 1 0 0 (Set (120 ∷ 0 ∷ []) (53 ∷ []))) ∷ Synced 0 3 ∷ Read 0 6 0 3 Fetched (Get (120 ∷ 0 ∷ []) (Some (53 ∷ []))) ∷ []
 
+-- it is a run
 abbrev pub FirstRunIsRun : Type 0
 FirstRunIsRun = IsRun first_layout first_run

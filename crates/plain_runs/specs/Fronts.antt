@@ -37,6 +37,7 @@ long_key = 120 ∷ 0 ∷ 64 ∷ replicate 496 97 ++ 0 ∷ 1 ∷ []
 abbrev pub long_value : List ℕ
 long_value = replicate 3001 97
 
+-- no act
 abbrev pub nothing : List Act
 nothing = []
 

@@ -9,6 +9,7 @@ use Rattle.plain_orders.specs.declared.item.Item.{Item}
 use Rattle.plain_orders.specs.declared.item.Item.TheVariants.{Op, Commit as CommitItem, Rollback as RollbackItem}
 use Rattle.plain_orders.specs.Own.{Issued}
 
+-- the entry that an item becomes, by its kind
 abbrev pub entry_of_item : ℕ → ℕ → ℕ → ℕ → Item → Entry
 entry_of_item session w job txn (Op op) = Update session w job txn op
 entry_of_item session w job txn (CommitItem n) = Commit session w job n
@@ -59,11 +60,13 @@ abbrev pub numbers : List Entry → ℕ → List ℕ
 numbers [] s = []
 numbers (e ∷ es) s = if is_item_of s e then w_of e ∷ numbers es s else numbers es s
 
+-- the operation is a Set or a Kill
 abbrev pub is_change_op : Operation → Bool
 is_change_op (Set key value) = true
 is_change_op (Kill key) = true
 is_change_op (Add key amount) = false
 
+-- the operation is an increment
 abbrev pub is_add_op : Operation → Bool
 is_add_op (Set key value) = false
 is_add_op (Kill key) = false
@@ -75,16 +78,19 @@ is_change (Op op) = is_change_op op
 is_change (CommitItem n) = false
 is_change (RollbackItem n) = false
 
+-- an increment
 abbrev pub is_add : Item → Bool
 is_add (Op op) = is_add_op op
 is_add (CommitItem n) = false
 is_add (RollbackItem n) = false
 
+-- a Commit
 abbrev pub is_commit : Item → Bool
 is_commit (Op op) = false
 is_commit (CommitItem n) = true
 is_commit (RollbackItem n) = false
 
+-- a Rollback
 abbrev pub is_rollback : Item → Bool
 is_rollback (Op op) = false
 is_rollback (CommitItem n) = false

@@ -7,6 +7,7 @@ use Rattle.plain_orders.specs.declared.item.Item.{Item}
 use Rattle.plain_orders.specs.declared.item.Item.TheVariants.{Op, Commit, Rollback}
 use Rattle.plain_orders.specs.declared.via.Via.{Via}
 use Rattle.plain_orders.specs.declared.via.Via.TheVariants.{Own, Cached, Fetched}
+use Rattle.subscript_keys.specs.declared.sub.Sub.{Sub}
 use Rattle.plain_orders.specs.declared.question.Question.{Question}
 use Rattle.plain_orders.specs.declared.question.Question.TheVariants.{Get, Data, Next}
 use Rattle.plain_orders.specs.declared.layout.Layout.{Layout}
@@ -40,6 +41,7 @@ pub record JobAtMay (layout : Layout) (p : Plain) (job server : ℕ) : Type 0 wh
 abbrev pub has_session : Server → ℕ → Bool
 has_session s app = is_some (s.pair_at app).session
 
+-- what was issued in the pair's session
 abbrev pub pair_issued : Server → ℕ → List Issued
 pair_issued s app = issued_in s (pair_session s app)
 
@@ -61,12 +63,14 @@ ItemIs job issued (Op op) = OpMay 0 op
 ItemIs job issued (Commit txn) = EndMay job txn issued
 ItemIs job issued (Rollback txn) = EndMay job txn issued
 
+-- an item is issued, with the next running number of the session
 pub record IssueMay (s : Server) (app job w : ℕ) (item : Item) : Type 0 where
   pub there : has_session s app ≡ true
   pub unbroken : is_some (s.pair_at app).broke ≡ false
   pub next : w ≡ length (pair_issued s app) + 1
   pub its : ItemIs job (pair_issued s app) item
 
+-- the job's own updates decide the answer
 abbrev pub is_own : Via → Bool
 is_own Own = true
 is_own Cached = false
@@ -81,17 +85,25 @@ pub record GetIs (s : Server) (app job n : ℕ) (via : Via) (key : List ℕ) (va
   pub result : value ≡ value_over (take n (told_order s app)) (own_behind s app job n) key
   pub by : is_own via ≡ touches_own (own_behind s app job n) key
 
--- data and next want that the job's own updates have entered
+-- data wants that the job's own updates have entered
 pub record DataIs (s : Server) (app job n : ℕ) (via : Via) (key : List ℕ) (code : ℕ) : Type 0 where
   pub result : code ≡ data_on (take n (told_order s app)) key
   pub by : is_own via ≡ false
   pub entered : own_behind s app job n ≡ []
 
+-- so does next
+pub record NextIs (s : Server) (app job n : ℕ) (via : Via) (parent : List ℕ) (sub found : Option Sub) : Type 0 where
+  pub result : IsNextOn (take n (told_order s app)) parent sub found
+  pub by : is_own via ≡ false
+  pub entered : own_behind s app job n ≡ []
+
+-- what a read is answered
 abbrev pub AnswerIs : Server → ℕ → ℕ → ℕ → Via → Question → Type 0
 AnswerIs s app job n via (Get key value) = GetIs s app job n via key value
 AnswerIs s app job n via (Data key code) = DataIs s app job n via key code
-AnswerIs s app job n via (Next parent sub found) = (is_own via ≡ false) × (own_behind s app job n ≡ []) × IsNextOn (take n (told_order s app)) parent sub found
+AnswerIs s app job n via (Next parent sub found) = NextIs s app job n via parent sub found
 
+-- a read is answered on a prefix that is no shorter than what the job has seen
 pub record ReadMay (s : Server) (app job n : ℕ) (via : Via) (question : Question) : Type 0 where
   pub there : has_session s app ≡ true
   pub no_less : (s.known_at job).seen ≤ n
@@ -124,6 +136,7 @@ pub record AnswerMay (s : Server) (app job line at : ℕ) (kind : Item → Bool)
   pub in_told : entry_at (told_order s app) at ≡ answered_entry s app at
   pub in_order : entry_at s.order at ≡ answered_entry s app at
 
+-- an increment of the job's line stands there and does this
 pub record SumMay (s : Server) (app job line at : ℕ) (sum : Sum) : Type 0 where
   pub stands : AnswerMay s app job line at is_add
   pub is_sum : sum_at s.order at ≡ sum
@@ -135,6 +148,7 @@ pub record ReachedMay (s : Server) (app job at : ℕ) : Type 0 where
   pub in_told : all_stand (take at (told_order s app)) (pair_session s app) job 0 (pair_issued s app) ≡ true
   pub in_order : all_stand (take at s.order) (pair_session s app) job 0 (pair_issued s app) ≡ true
 
+-- one more, one less, or 0
 abbrev pub is_near : ℕ → ℕ → Bool
 is_near old level = (level == old + 1 || level + 1 == old) || level == 0
 
@@ -144,10 +158,12 @@ is_ended s app job x line =
     (not (has_session s app) || not (nat_lt 0 x.level && list_any (is_update_of job x.txn) (pair_issued s app)))
     || list_any (is_end_at job x.txn line) (pair_issued s app)
 
+-- a level comes behind its neighbour; 0 comes once the open transaction is ended in each living session
 pub record LevelMay (p : Plain) (app job line level : ℕ) : Type 0 where
   pub near : is_near (p.job_at job).level level ≡ true
   pub ended : level ≡ 0 → (d : ℕ) → is_ended (p.server_at d) app job (p.job_at job) line ≡ true
 
+-- the reasons are the same
 abbrev pub is_reason : ReasonName → ReasonName → Bool
 is_reason Reset Reset = true
 is_reason Reset Expired = false
@@ -170,11 +186,13 @@ state_of_loss Reset = Recovery
 state_of_loss Expired = Trouble
 state_of_loss NoWay = NotConnected
 
+-- a loss that the job isn't told of, its bar if it has one
 pub record NetworkMay (k : Known) (state : LinkName) (reason : ReasonName) : Type 0 where
   pub news : list_any (is_reason reason) k.news ≡ true
   pub bar : fits_bar reason k.bar ≡ true
   pub its_state : state ≡ state_of_loss reason
 
+-- a refusal that no other act shows, by its kind
 abbrev pub RefusedMay : Plain → ℕ → ℕ → Refused → Type 0
 RefusedMay p job line NoTransaction = (p.job_at job).level ≡ 0
 RefusedMay p job line TooDeep = (p.job_at job).level ≡ 255
@@ -188,6 +206,7 @@ RefusedMay p job line (Network server state reason) = NetworkMay ((p.server_at s
 abbrev pub acts : Known → Known
 acts k = record k { acted = true; news = [] }
 
+-- the job had an act at this server
 abbrev pub acted : Server → ℕ → Server
 acted s job = with_known s job (acts (s.known_at job))
 
@@ -195,12 +214,15 @@ acted s job = with_known s job (acts (s.known_at job))
 abbrev pub sees : Server → ℕ → ℕ → Server
 sees s job n = with_known s job (record (acts (s.known_at job)) { seen = n })
 
+-- the same, and the job has seen at least this prefix
 abbrev pub sees_up : Server → ℕ → ℕ → Server
 sees_up s job n = with_known s job (record (acts (s.known_at job)) { seen = max (s.known_at job).seen n })
 
+-- the item joins what was issued in the pair's session
 abbrev pub issues : Server → ℕ → Issued → Server
 issues s app i = acted (with_session s (pair_session s app) (λ m. record m { issued = m.issued ++ i ∷ [] })) i.job
 
+-- from 0 to 1 a new transaction begins; at 0 nothing has to be rolled back any more
 abbrev pub levelled : Job → ℕ → Job
 levelled x level =
     record x {
@@ -209,9 +231,11 @@ levelled x level =
       rollback_only = if level == 0 then false else x.rollback_only;
     }
 
+-- the job is told of its losses
 abbrev pub told_loss : Server → ℕ → Server
 told_loss s job = with_known s job (record (s.known_at job) { news = []; bar = None })
 
+-- what a refusal changes: a job that is told of a loss has no news and no bar
 abbrev pub refused : Plain → ℕ → Refused → Plain
 refused p job NoTransaction = p
 refused p job TooDeep = p

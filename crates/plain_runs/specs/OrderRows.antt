@@ -36,6 +36,7 @@ app_after o (Update session w job txn op) s = o
 app_after o (Commit session w job txn) s = o
 app_after o (Rollback session w job txn) s = o
 
+-- the same behind several
 abbrev pub app_from : Option ℕ → List Entry → ℕ → Option ℕ
 app_from o [] s = o
 app_from o (e ∷ es) s = app_from (app_after o e s) es s
@@ -44,6 +45,7 @@ app_from o (e ∷ es) s = app_from (app_after o e s) es s
 abbrev pub app_in : List Entry → ℕ → Option ℕ
 app_in es s = app_from None es s
 
+-- the entry is a Close
 abbrev pub is_close : Entry → Bool
 is_close (Epoch number) = false
 is_close (Opened session app) = false
@@ -72,6 +74,7 @@ pub record ItemMay (s : Server) (session w : ℕ) (e : Entry) : Type 0 where
   pub next : w ≡ count s.order session + 1
   pub issued : option_map (entry_of session w) (slice_get (issued_in s session) (w - 1)) ≡ Some e
 
+-- an Open or an item enters
 abbrev pub EnterMay : Server → Entry → Type 0
 EnterMay s (Epoch number) = ⊥
 EnterMay s (Opened session app) = OpenMay s session app
@@ -80,11 +83,13 @@ EnterMay s (Update session w job txn op) = ItemMay s session w (Update session w
 EnterMay s (Commit session w job txn) = ItemMay s session w (Commit session w job txn)
 EnterMay s (Rollback session w job txn) = ItemMay s session w (Rollback session w job txn)
 
+-- more of the order is synced
 pub record SyncedMay (s : Server) (n : ℕ) : Type 0 where
   pub opened : s.opened ≡ true
   pub no_less : s.synced ≤ n
   pub within : n ≤ length s.order
 
+-- a crash keeps at least what was synced
 pub record CrashMay (s : Server) (kept : ℕ) : Type 0 where
   pub opened : s.opened ≡ true
   pub no_less : s.synced ≤ kept
@@ -127,15 +132,18 @@ mended_end ends (Some app) = put ends app None
 abbrev pub with_entry : Server → Option ℕ → Entry → Server
 with_entry s app e = record s { order = s.order ++ e ∷ []; end_at = mended_end s.end_at app }
 
+-- an Open at the end, which was entered in the current order
 abbrev pub entered_open : Server → ℕ → ℕ → Server
 entered_open s session app =
     record (with_entry s (Some app) (Opened session app)) {
       entered_at = put s.entered_at session (Some (record { app = app; in_order = current s; lost_since = false }));
     }
 
+-- an item of a session at the end
 abbrev pub entered_of : Server → ℕ → Entry → Server
 entered_of s session e = with_entry s (app_in s.order session) e
 
+-- what an entry that enters changes
 abbrev pub entered : Server → Entry → Server
 entered s (Epoch number) = s
 entered s (Opened session app) = entered_open s session app
@@ -144,6 +152,7 @@ entered s (Update session w job txn op) = entered_of s session (Update session w
 entered s (Commit session w job txn) = entered_of s session (Commit session w job txn)
 entered s (Rollback session w job txn) = entered_of s session (Rollback session w job txn)
 
+-- so many entries are synced
 abbrev pub saved : Server → ℕ → Server
 saved s n = record s { synced = n }
 
@@ -180,5 +189,6 @@ crashed clock round s kept =
 abbrev pub hold_after_back : List Entry → Hold → Hold
 hold_after_back es h = record h { gone = h.gone || (live es h.session && (binds h && (not h.answered || is_some h.given))) }
 
+-- no round is due any more, and what was not claimed goes
 abbrev pub came_back : Server → Server
 came_back s = record s { due = None; quits = []; holds = map (hold_after_back s.order) s.holds }

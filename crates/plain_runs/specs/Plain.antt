@@ -81,6 +81,7 @@ pub record Server : Type 0 where
   -- by job
   pub known_at : ℕ → Known
 
+-- a job's transaction level
 pub record Job : Type 0 where
   pub level : ℕ
   -- the number of its newest transaction
@@ -89,6 +90,7 @@ pub record Job : Type 0 where
   -- the lines at which it gave a request up
   pub quit_lines : List ℕ
 
+-- the whole machine
 pub record Plain : Type 0 where
   pub clock : ℕ
   pub died_at : ℕ → Bool
@@ -99,9 +101,11 @@ pub record Plain : Type 0 where
 abbrev pub put : {X : Type 0} → (ℕ → X) → ℕ → X → ℕ → X
 put f k x q = if q == k then x else f q
 
+-- with a server changed
 abbrev pub with_server : Plain → ℕ → Server → Plain
 with_server p d s = record p { server_at = put p.server_at d s }
 
+-- with a job changed
 abbrev pub with_job : Plain → ℕ → Job → Plain
 with_job p j x = record p { job_at = put p.job_at j x }
 
@@ -121,9 +125,11 @@ current s = length s.past
 abbrev pub orders : Server → List (List Entry)
 orders s = s.past ++ s.order ∷ []
 
+-- the order at a place, from 0
 abbrev pub order_at : Server → ℕ → List Entry
 order_at s k = slice_index_or (orders s) k []
 
+-- a session that was met, where it was
 abbrev pub session_in : Server → ℕ → Session
 session_in s n = unwrap_or (s.session_at n) (record { app = 0; issued = []; told = 0 })
 
@@ -143,9 +149,11 @@ told_order s app = order_at s (session_in s (pair_session s app)).told
 abbrev pub until : ℕ → ℕ → ℕ
 until t wait = min (t + wait) (2 ^ 64 - 1)
 
+-- with what a job knows changed
 abbrev pub with_known : Server → ℕ → Known → Server
 with_known s job k = record s { known_at = put s.known_at job k }
 
+-- with a session that was met changed
 abbrev pub with_session : Server → ℕ → (Session → Session) → Server
 with_session s n f = record s { session_at = put s.session_at n (option_map f (s.session_at n)) }
 
@@ -153,6 +161,7 @@ with_session s n f = record s { session_at = put s.session_at n (option_map f (s
 abbrev pub with_jobs_of : Layout → Server → ℕ → (Known → Known) → Server
 with_jobs_of layout s app f = record s { known_at = λ j. if runs_on layout app j then f (s.known_at j) else s.known_at j }
 
+-- a server that was not opened yet
 abbrev pub nothing_opened : Server
 nothing_opened = record {
   opened = false;

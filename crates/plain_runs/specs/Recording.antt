@@ -5,6 +5,7 @@ use Rattle.plain_orders.specs.declared.layout.Layout.{Layout}
 use Rattle.plain_runs.specs.Plain.{Plain}
 use Rattle.plain_runs.specs.Run.{state_after}
 
+-- a layout and the acts so far
 pub record Recording : Type 0 where
   pub layout : Layout
   pub acts : List Act
