@@ -1,0 +1,4 @@
+pub mod Causes
+pub mod Plan
+pub mod Told
+pub mod Took
