@@ -9,7 +9,7 @@ use Rattle.std.specs.declared.cmp.Ordering.TheVariants.{Less, Equal, Greater}
 use Rattle.std.proofs.lemmas.Bool.{cases_order}
 use Rattle.std.proofs.lemmas.Nat.{mul-add-lt, mul-le}
 use Rattle.std.proofs.Math.Nat.{one-le-pow, pow-suc, pow-le-pow_right, add-zero, zero-add}
-use Rattle.std.proofs.lemmas.Int.Digits.{number_digits_of, all_below_base_digits_of, first_digits_of, digits_of_step}
+use Rattle.std.proofs.lemmas.Int.Digits.{number_digits_of, all_below_base_digits_of, first_digits_of, digits_of_step, length-digits_of-le, length-digits_of_step}
 use Rattle.subscript_keys.specs.Decimal.{digits, AreDigits, EndsAboveZero}
 use Rattle.subscript_keys.proofs.Orders.{nat_cmp-lt, nat_cmp-gt, nat_cmp-eq, nat_cmp-same}
 
@@ -120,3 +120,15 @@ digits-number n = number_digits_of 10 n (omega arith)
 
 pub digits-last : (n : ℕ) → n % 10 ≢ 0 → EndsAboveZero (digits n)
 digits-last n h = let above : 0 < n = omega arith in rw (digits-step n above) (EndsAboveZero-push (digits (n / 10)) (n % 10) h)
+
+pub length-digits : (n k : ℕ) → n < 10 ^ k → length (digits n) ≤ k
+unfolding digits
+length-digits n k h = length-digits_of-le 10 k n (omega arith) h
+
+pub length-digits-step : (n : ℕ) → 0 < n → length (digits n) ≡ length (digits (n / 10)) + 1
+unfolding digits
+length-digits-step n h = length-digits_of_step 10 n (omega arith) h
+
+pub digits-zero : digits 0 ≡ []
+unfolding digits
+digits-zero = refl

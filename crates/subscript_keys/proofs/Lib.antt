@@ -6,3 +6,10 @@ pub mod KeyOrders
 pub mod Ties
 pub mod Spans
 pub mod SpansMeet
+pub mod NumberBytes
+pub mod KeyForms
+pub mod TextParts
+pub mod PartNumbers
+pub mod DigitTurns
+pub mod PartWrites
+pub mod NumberTexts

@@ -21,17 +21,18 @@ pub record ExponentFits (x : ℤ) (ds : List ℕ) : Type 0 where
   pub fits : length ds ≤ plus 18 x
   pub above : plus 64 x ≡ plus 18 x + 46
   pub below : minus 64 x + plus 18 x ≡ 82
+  pub high : plus 18 x ≤ 36
 
 pub exponent-fits : (x : ℤ) (ds : List ℕ) → length (whole_digits ds x) + length (fraction_digits ds x) ≤ 18 → ExponentFits x ds
 unfolding whole_digits fraction_digits
 exponent-fits (pos x) ds h =
     let sum : length (take x ds ++ replicate (x - length ds) 0) + length (drop x ds) ≤ 18 = h in
     let parts : (x ≤ 18) × (length ds ≤ 18) = (omega (arith, length-append (take x ds) (replicate (x - length ds) 0), length-take x ds, length-replicate {A = ℕ} (x - length ds) 0, length-drop x ds), omega (arith, length-append (take x ds) (replicate (x - length ds) 0), length-take x ds, length-replicate {A = ℕ} (x - length ds) 0, length-drop x ds)) in
-    record { fits = omega arith; above = omega arith; below = omega arith }
+    record { fits = omega arith; above = omega arith; below = omega arith; high = omega arith }
 exponent-fits (negsuc x) ds h =
     let sum : 0 + length (replicate (suc x) 0 ++ ds) ≤ 18 = h in
     let parts : suc x + length ds ≤ 18 = omega (arith, length-append (replicate (suc x) 0) ds, length-replicate {A = ℕ} (suc x) 0) in
-    record { fits = omega arith; above = omega arith; below = omega arith }
+    record { fits = omega arith; above = omega arith; below = omega arith; high = omega arith }
 
 pub short-above : (d : Decimal) → IsShort d → 0 < d.digits
 short-above d s = let last : d.digits % 10 ≢ 0 = s.last in omega arith

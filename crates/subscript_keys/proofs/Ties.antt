@@ -57,7 +57,7 @@ same-exponent (pos x) (negsuc y) e h = absurd (omega arith)
 same-exponent (negsuc x) (pos y) e h = absurd (omega arith)
 same-exponent (negsuc x) (negsuc y) e h = let same : x ≡ y = omega arith in ap negsuc same
 
-fraction-wide : (w : ℕ) (ds : List ℕ) → IsFraction w ds → 0 < w
+pub fraction-wide : (w : ℕ) (ds : List ℕ) → IsFraction w ds → 0 < w
 fraction-wide w [] p = absurd (omega (arith, p.first))
 fraction-wide w (d ∷ ds) p = omega (arith, p.fits)
 

@@ -101,3 +101,16 @@ scaled_size d = d.digits * 10 ^ (plus 18 d.exponent - length (digits d.digits))
 -- the number times 10^18
 unfoldable pub scaled : Decimal → ℤ
 scaled d = if d.negative then neg_ℤ (pos (scaled_size d)) else pos (scaled_size d)
+
+-- characters of digits
+abbrev pub AreDigitCharacters : List ℕ → Type 0
+AreDigitCharacters cs = AllByRecursion (λ c. (48 ≤ c) × (c ≤ 57)) cs
+
+-- no character of a digit comes first
+abbrev pub BeginsWithNoDigit : List ℕ → Type 0
+BeginsWithNoDigit [] = Unit {0}
+BeginsWithNoDigit (c ∷ cs) = (48 ≤ c) × (c ≤ 57) → ⊥
+
+-- the digits that characters write
+abbrev pub digits_read : List ℕ → List ℕ
+digits_read cs = map (λ c. c - 48) cs

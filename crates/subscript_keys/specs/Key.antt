@@ -1,5 +1,5 @@
 -- Nodes and their keys.
-use Rattle.std.specs.Prelude.{◌≡◌, ◌≢◌, ℕ, ◌+◌, ◌-◌, ◌<◌, ◌≤◌, ◌==◌, if◌then◌else◌, List, [], ◌∷◌, ◌++◌, map, length, ℤ, IsTrue}
+use Rattle.std.specs.Prelude.{◌≡◌, ◌≢◌, ◌⊎◌, ℕ, ◌+◌, ◌-◌, ◌<◌, ◌≤◌, ◌==◌, if◌then◌else◌, List, [], ◌∷◌, ◌++◌, map, length, ℤ, IsTrue}
 use Rattle.std.specs.List.{AllByRecursion}
 use Rattle.std.specs.Char.{is_ascii_alphabetic, is_ascii_alphanumeric}
 use Rattle.subscript_keys.specs.declared.decimal.Decimal.{Decimal}
@@ -48,11 +48,15 @@ abbrev pub IsName : List ℕ → Type 0
 IsName [] = ⊥
 IsName (c ∷ cs) = IsTrue (is_ascii_alphabetic c) × AllByRecursion (λ b. IsTrue (is_ascii_alphanumeric b)) cs × (length cs ≤ 30)
 
+-- each of them is a byte
+abbrev pub AreBytes : List ℕ → Type 0
+AreBytes cs = AllByRecursion (λ c. c < 256) cs
+
 -- a subscript that is no number: some bytes
 pub record IsText (text : List ℕ) : Type 0 where
   pub some : text ≢ []
   pub no_number : IsNumberText text → ⊥
-  pub bytes : AllByRecursion (λ c. c < 256) text
+  pub bytes : AreBytes text
 
 -- a number within its ranges, or a text
 abbrev pub IsSub : Sub → Type 0
@@ -71,3 +75,22 @@ IsKey key = (node : Node) × IsNode node × (key_of node ≡ key)
 -- at most 500 bytes
 abbrev pub IsWithinLimit : List ℕ → Type 0
 IsWithinLimit key = length key ≤ 500
+
+-- a subscript that may still be the empty text: a number within its ranges, or a text that is none
+abbrev pub HasForm : Sub → Type 0
+HasForm (Num d) = IsDecimal d
+HasForm (Text text) = IsNumberText text → ⊥
+
+-- some subscript is the empty text
+abbrev pub HasEmpty : List Sub → Type 0
+HasEmpty [] = ⊥
+HasEmpty (s ∷ ss) = (s ≡ Text []) ⊎ HasEmpty ss
+
+-- bytes of digits, raised or lowered
+abbrev pub ArePlaces : List ℕ → Type 0
+ArePlaces bs = AllByRecursion (λ b. (1 ≤ b) × (b ≤ 10)) bs
+
+-- no byte of a digit comes first
+abbrev pub BeginsWithNoPlace : List ℕ → Type 0
+BeginsWithNoPlace [] = Unit {0}
+BeginsWithNoPlace (b ∷ bs) = (1 ≤ b) × (b ≤ 10) → ⊥

@@ -2,22 +2,29 @@
 #![tactic(auto)]
 
 mod decimal;
+mod digits;
+mod encoder;
 mod key_bytes;
 mod key_error;
 mod key_order;
 mod limits;
 mod name;
 mod node;
+mod number_parts;
+mod number_text;
+mod number_writer;
 mod pair;
 mod pairs;
 mod run;
 mod span;
 mod sub;
 mod sub_text;
+mod sub_writer;
 mod subs;
 mod value_bytes;
 
 pub use decimal::Decimal;
+pub use encoder::encode;
 pub use key_bytes::KeyBytes;
 pub use key_error::KeyError;
 pub use key_order::keys_stand_for_nodes;

@@ -1,0 +1,6 @@
+use Rattle.std.proofs.Common.{◌≡◌, ◌++◌, replicate}
+use Rattle.subscript_keys.specs.Decimal.{digit_text}
+use Rattle.subscript_keys.proofs.number_writer.put_zeros.Given as goal
+
+abbrev pub invariant-loop-zero : goal.invariant-loop-zero
+invariant-loop-zero l = l.to.items ≡ l.initial.to.items ++ digit_text (replicate l._zero 0)
