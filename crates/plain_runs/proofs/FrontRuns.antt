@@ -11,7 +11,7 @@ use Rattle.plain_orders.specs.declared.causes.PairEnd.TheVariants.{App as AppEnd
 use Rattle.plain_orders.specs.declared.causes.Loss.TheVariants.{Reset as ByReset, Expired as ByExpired, NoWay as ByNoWay}
 use Rattle.plain_runs.specs.Plain.{start}
 use Rattle.plain_runs.specs.Run.{IsRun}
-use Rattle.plain_runs.specs.Fronts.{small, nines_text, nothing, opened, entered, saved, met, issued, applied, kept, crashed, recovering, almost_due, told, told_closed, issued_more, issued_closed, issued_cut, issued_told, cut, cut_saved, closed, closed_saved, replaced, replaced_broke, replaced_late, replaced_saved, replaced_lost, late, later, server_broke, server_late, server_early, app_broke, app_late, app_early, saved_dead, met_dead, crashed_dead, broke_dead, closed_dead, found, granted, answered, given, quitted, issued_quit, both, both_held, added, added_in, added_kept, letter, letter_in, letter_added, letter_added_in, letter_kept, nines, nines_in, nines_added, nines_added_in, nines_kept, level_one, updated, updated_in, commit_issued, commit_in, commit_kept, commit_cut, commit_cut_saved, rollback_issued, rollback_in, rollback_kept, updated_broke, updated_late, updated_lost, used_closed, used_saved, used_lost, used_again, used_again_saved, barred, used_no_way, no_way}
+use Rattle.plain_runs.specs.Fronts.{small, nines_text, nothing, opened, entered, saved, met, issued, applied, kept, crashed, recovering, almost_due, told, told_closed, issued_more, issued_closed, issued_cut, issued_told, cut, cut_saved, met_cut, met_cut_saved, closed, closed_saved, replaced, replaced_broke, replaced_late, replaced_saved, replaced_lost, late, later, server_broke, server_late, server_early, app_broke, app_late, app_early, saved_dead, met_dead, crashed_dead, broke_dead, closed_dead, found, granted, answered, given, quitted, issued_quit, both, both_held, added, added_in, added_kept, letter, letter_in, letter_added, letter_added_in, letter_kept, nines, nines_in, nines_added, nines_added_in, nines_kept, level_one, updated, updated_in, commit_issued, commit_in, commit_kept, commit_cut, commit_cut_saved, rollback_issued, rollback_in, rollback_kept, updated_broke, updated_late, updated_lost, used_closed, used_saved, used_lost, used_again, used_again_saved, barred, used_no_way, no_way}
 use Rattle.plain_runs.proofs.RunLemmas.{run_more}
 use Rattle.plain_runs.proofs.FirstRun.{x_may}
 
@@ -71,6 +71,12 @@ cut_runs = run_more small start applied (Crash 0 2) applied_runs (record { opene
 
 pub cut_saved_runs : IsRun small cut_saved
 cut_saved_runs = run_more small start cut (Synced 0 3) cut_runs (record { opened = refl; no_less = omega arith; within = omega arith })
+
+pub met_cut_runs : IsRun small met_cut
+met_cut_runs = run_more small start met (Crash 0 2) met_runs (record { opened = refl; no_less = omega arith; within = omega arith; low = omega arith })
+
+pub met_cut_saved_runs : IsRun small met_cut_saved
+met_cut_saved_runs = run_more small start met_cut (Synced 0 3) met_cut_runs (record { opened = refl; no_less = omega arith; within = omega arith })
 
 pub closed_runs : IsRun small closed
 closed_runs = run_more small start met (Shut 0 2 Replaced) met_runs (record { is_live = refl })

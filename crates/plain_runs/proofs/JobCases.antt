@@ -20,7 +20,7 @@ use Rattle.plain_orders.specs.declared.refused.ReasonName.TheVariants.{Reset, No
 use Rattle.plain_orders.specs.declared.refused.LinkName.TheVariants.{NotConnected, Recovery}
 use Rattle.plain_runs.specs.Plain.{start}
 use Rattle.plain_runs.specs.Fronts.{small, added_kept, barred, commit_issued, commit_kept, issued, kept, letter_kept, met, nines_kept, no_way, nothing, quitted, rollback_kept, updated_in, updated_lost}
-use Rattle.plain_runs.proofs.FrontRuns.{added_in_runs, added_kept_runs, app_broke_runs, applied_runs, barred_runs, commit_cut_saved_runs, commit_in_runs, commit_issued_runs, commit_kept_runs, cut_saved_runs, issued_runs, kept_runs, letter_kept_runs, level_one_runs, met_runs, met_dead_runs, nines_kept_runs, no_way_runs, nothing_runs, quitted_runs, rollback_kept_runs, saved_runs, updated_runs, updated_in_runs, updated_lost_runs, used_no_way_runs}
+use Rattle.plain_runs.proofs.FrontRuns.{added_in_runs, added_kept_runs, app_broke_runs, applied_runs, barred_runs, commit_cut_saved_runs, commit_in_runs, commit_issued_runs, commit_kept_runs, cut_saved_runs, issued_runs, kept_runs, letter_kept_runs, level_one_runs, met_runs, met_cut_saved_runs, met_dead_runs, nines_kept_runs, no_way_runs, nothing_runs, quitted_runs, rollback_kept_runs, saved_runs, updated_runs, updated_in_runs, updated_lost_runs, used_no_way_runs}
 use Rattle.plain_runs.proofs.RunLemmas.{run_more}
 use Rattle.plain_runs.proofs.FirstRun.{x_may, no_empty_key}
 use Rattle.plain_runs.specs.JobExamples.{IssueExamples, ReadExamples, CountedExamples, CommittedExamples, ReachedExamples, BarredExamples, LevelExamples, DoneExamples, RefusedExamples}
@@ -92,9 +92,10 @@ committed_examples = (
 
 pub reached_examples : ReachedExamples
 reached_examples = (
-  run_more small start kept (Reached 0 6 0 3) kept_runs ((record { known = omega arith; alive = refl; free = refl }, record { there = refl; synced = omega arith; in_told = refl; in_order = refl })),
+  run_more small start kept (Reached 0 6 0 3) kept_runs ((record { known = omega arith; alive = refl; free = refl }, record { there = refl; synced = omega arith; within = omega arith; in_told = refl; in_order = refl })),
   (saved_runs, λ may. absurd (cc (may.1.there))),
   (applied_runs, λ may. omega (arith, may.1.synced)),
+  (met_cut_saved_runs, λ may. omega (arith, may.1.within)),
   (kept_runs, λ may. absurd (cc (may.1.in_told))),
   (cut_saved_runs, λ may. absurd (cc (may.1.in_order))),
 )

@@ -15,3 +15,4 @@ pub mod HoldRows
 pub mod LockRows
 pub mod Pairs
 pub mod LockLaws
+pub mod Issued

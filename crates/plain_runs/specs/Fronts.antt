@@ -113,6 +113,14 @@ cut = applied ++ Crash 0 2 ∷ []
 abbrev pub cut_saved : List Act
 cut_saved = cut ++ Synced 0 3 ∷ []
 
+-- the server crashes behind a meeting
+abbrev pub met_cut : List Act
+met_cut = met ++ Crash 0 2 ∷ []
+
+-- and the new Epoch is synced
+abbrev pub met_cut_saved : List Act
+met_cut_saved = met_cut ++ Synced 0 3 ∷ []
+
 -- a session is closed
 abbrev pub closed : List Act
 closed = met ++ Shut 0 2 Replaced ∷ []

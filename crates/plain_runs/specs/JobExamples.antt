@@ -11,7 +11,7 @@ use Rattle.plain_orders.specs.declared.refused.Refused.TheVariants.{NoTransactio
 use Rattle.plain_orders.specs.declared.refused.ReasonName.TheVariants.{Reset, NoWay}
 use Rattle.plain_orders.specs.declared.refused.LinkName.TheVariants.{NotConnected, Normal, Recovery}
 use Rattle.subscript_keys.specs.declared.sub.Sub.TheVariants.{Text}
-use Rattle.plain_runs.specs.Fronts.{Accepted, Refuses, long_key, long_value, added_in, added_kept, app_broke, applied, barred, commit_cut_saved, commit_in, commit_issued, commit_kept, cut_saved, issued, kept, letter_kept, level_one, met, met_dead, nines_kept, no_way, nothing, quitted, rollback_kept, saved, updated, updated_in, updated_lost, used_no_way}
+use Rattle.plain_runs.specs.Fronts.{Accepted, Refuses, long_key, long_value, added_in, added_kept, app_broke, applied, barred, commit_cut_saved, commit_in, commit_issued, commit_kept, cut_saved, issued, kept, letter_kept, level_one, met, met_cut_saved, met_dead, nines_kept, no_way, nothing, quitted, rollback_kept, saved, updated, updated_in, updated_lost, used_no_way}
 
 -- issue
 abbrev pub IssueExamples : Type 0
@@ -84,6 +84,7 @@ ReachedExamples =
     Accepted kept (Reached 0 6 0 3)
     × Refuses saved (Reached 0 6 0 2)
     × Refuses applied (Reached 0 6 0 3)
+    × Refuses met_cut_saved (Reached 0 6 0 3)
     × Refuses kept (Reached 0 6 0 2)
     × Refuses cut_saved (Reached 0 6 0 3)
 

@@ -141,10 +141,11 @@ pub record SumMay (s : Server) (app job line at : ℕ) (sum : Sum) : Type 0 wher
   pub stands : AnswerMay s app job line at is_add
   pub is_sum : sum_at s.order at ≡ sum
 
--- all that the job issued in the session is among the first entries
+-- all that the job issued in the session is among the first entries, which are no more than the pair is told of
 pub record ReachedMay (s : Server) (app job at : ℕ) : Type 0 where
   pub there : has_session s app ≡ true
   pub synced : at ≤ s.synced
+  pub within : at ≤ length (told_order s app)
   pub in_told : all_stand (take at (told_order s app)) (pair_session s app) job 0 (pair_issued s app) ≡ true
   pub in_order : all_stand (take at s.order) (pair_session s app) job 0 (pair_issued s app) ≡ true
 

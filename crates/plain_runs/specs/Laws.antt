@@ -1,5 +1,5 @@
 -- Laws over every run of the plain machine.
-use Rattle.std.specs.Prelude.{◌≡◌, ◌≢◌, ℕ, zero, suc, Bool, true, false, ◌+◌, ◌<◌, ◌≤◌, List, [], ◌∷◌, ◌++◌, length, take, Option, Some, None, slice_get, is_some, ◌||◌, ◌⊎◌, IsSomeAnd}
+use Rattle.std.specs.Prelude.{◌≡◌, ◌≢◌, ℕ, zero, suc, Bool, true, false, ◌+◌, ◌<◌, ◌≤◌, List, [], ◌∷◌, ◌++◌, length, take, Option, Some, None, slice_get, is_some, ◌||◌, ◌⊎◌, IsSomeAnd, ◌-◌}
 use Rattle.plain_orders.specs.declared.act.Act.{Act}
 use Rattle.plain_orders.specs.declared.act.Act.TheVariants.{Opened, Enter, Synced, Shut, Release, Met, Told, Back, Crash, Issue, Read, Grant, Granted, GiveUp, Quit, Free, Counted, NotWhole, Range, Committed, RolledBack, Reached, Level, Done, Refused, Broke, Mended, Tick, Lose, Died}
 use Rattle.plain_orders.specs.declared.refused.Refused.{Refused as Refusal}
@@ -11,7 +11,9 @@ use Rattle.plain_orders.specs.Entries.{last_epoch}
 use Rattle.plain_orders.specs.Entries.{closed_by}
 use Rattle.plain_orders.specs.Conflict.{is_conflict}
 use Rattle.plain_runs.specs.Plain.{Plain, Server, Hold, Given, current, order_at, issued_in}
-use Rattle.plain_runs.specs.Items.{numbers, all_stand}
+use Rattle.plain_runs.specs.Items.{numbers, all_stand, entry_of, w_of, is_item_of}
+use Rattle.plain_orders.specs.Own.{Issued}
+use Rattle.std.specs.Option.{option_map}
 use Rattle.plain_runs.specs.OrderRows.{binds}
 use Rattle.plain_runs.specs.Step.{MayCome, after}
 use Rattle.plain_runs.specs.Run.{IsRun, state_after}
@@ -170,3 +172,13 @@ Settled =
     (layout : Layout) (acts : List Act) (d i : ℕ) (h : Hold) → IsRun layout acts → IsHold (server_after layout acts d) i h
     → (server_after layout acts d).due ≡ None → touched h ≡ true → binds h ≡ false
     → IsHandedOver (server_after layout acts d) h
+
+-- an entry is the item that was issued in the session with its number
+abbrev pub StandsAsIssued : List Issued → ℕ → Entry → Type 0
+StandsAsIssued issued n e = option_map (entry_of n (w_of e)) (slice_get issued (w_of e - 1)) ≡ Some e
+
+-- Each item of a session that was met stands in the order as it was issued with its number.
+abbrev pub ItemsWereIssued : Type 0
+ItemsWereIssued =
+    (layout : Layout) (acts : List Act) (d i n : ℕ) (e : Entry) → IsRun layout acts → is_some ((server_after layout acts d).session_at n) ≡ true
+    → slice_get (server_after layout acts d).order i ≡ Some e → is_item_of n e ≡ true → StandsAsIssued (issued_in (server_after layout acts d) n) n e

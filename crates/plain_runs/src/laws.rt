@@ -1,5 +1,5 @@
 ghost use Rattle.plain_runs.specs.FirstRun.{FirstRunIsRun};
-ghost use Rattle.plain_runs.specs.Laws.{Extended, Framed, ItemsInOrder, NeighboursAgree, NoConflict, SeenNeverFalls, Settled, SyncedStays};
+ghost use Rattle.plain_runs.specs.Laws.{Extended, Framed, ItemsInOrder, ItemsWereIssued, NeighboursAgree, NoConflict, SeenNeverFalls, Settled, SyncedStays};
 
 /// The trail of the worked first run is a run.
 pub fn first_run_is_run()
@@ -44,4 +44,9 @@ pub fn no_two_holds_conflict()
 /// While no round is due, each hold that was answered or given up and no longer binds is handed over.
 pub fn what_no_longer_binds_is_handed_over()
     ensures { Settled }
+{}
+
+/// Each item of a session that was met stands in the order as it was issued with its number.
+pub fn items_stand_as_they_were_issued()
+    ensures { ItemsWereIssued }
 {}
