@@ -1,0 +1,18 @@
+pub mod RunLemmas
+mod FirstRun
+mod Frame
+mod FrontRuns
+mod OrderCases
+mod EndCases
+mod LockCases
+mod JobCases
+pub mod Numbers
+pub mod Orders
+pub mod OrderLaws
+pub mod Clashes
+pub mod Lists
+pub mod HoldRows
+pub mod LockRows
+pub mod Pairs
+pub mod LockLaws
+pub mod Issued

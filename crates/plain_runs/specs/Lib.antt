@@ -1,0 +1,16 @@
+pub mod Plain
+pub mod Items
+pub mod OrderRows
+pub mod EndRows
+pub mod JobRows
+pub mod LockRows
+pub mod Step
+pub mod Run
+pub mod Recording
+pub mod FirstRun
+pub mod Laws
+pub mod Fronts
+pub mod OrderExamples
+pub mod EndExamples
+pub mod LockExamples
+pub mod JobExamples

@@ -1,0 +1,149 @@
+ghost use Rattle.plain_runs.specs.OrderExamples.{BackExamples, CrashExamples, EnterExamples, EpochLimitExamples, OpenedExamples, SyncedExamples};
+ghost use Rattle.plain_runs.specs.EndExamples.{BrokeExamples, FreeActExamples, LoseExamples, MendedExamples, MetExamples, ShutExamples, ToldExamples};
+ghost use Rattle.plain_runs.specs.LockExamples.{FreeExamples, GiveUpExamples, GrantExamples, GrantedExamples, QuitExamples, ReleaseExamples};
+ghost use Rattle.plain_runs.specs.JobExamples.{BarredExamples, CommittedExamples, CountedExamples, DoneExamples, IssueExamples, LevelExamples, ReachedExamples, ReadExamples, RefusedExamples, TooDeepExamples};
+
+/// Examples of opened.
+pub fn opened_examples()
+    ensures { OpenedExamples }
+{}
+
+/// Examples of enter.
+pub fn enter_examples()
+    ensures { EnterExamples }
+{}
+
+/// Examples of synced.
+pub fn synced_examples()
+    ensures { SyncedExamples }
+{}
+
+/// Examples of crash.
+pub fn crash_examples()
+    ensures { CrashExamples }
+{}
+
+/// Examples of back.
+pub fn back_examples()
+    ensures { BackExamples }
+{}
+
+/// Examples of the limit on Epochs.
+pub fn epoch_limit_examples()
+    ensures { EpochLimitExamples }
+{}
+
+/// Examples of shut.
+pub fn shut_examples()
+    ensures { ShutExamples }
+{}
+
+/// Examples of met.
+pub fn met_examples()
+    ensures { MetExamples }
+{}
+
+/// Examples of told.
+pub fn told_examples()
+    ensures { ToldExamples }
+{}
+
+/// Examples of broke.
+pub fn broke_examples()
+    ensures { BrokeExamples }
+{}
+
+/// Examples of mended.
+pub fn mended_examples()
+    ensures { MendedExamples }
+{}
+
+/// Examples of lose.
+pub fn lose_examples()
+    ensures { LoseExamples }
+{}
+
+/// Examples of the clock and deaths.
+pub fn free_act_examples()
+    ensures { FreeActExamples }
+{}
+
+/// Examples of release.
+pub fn release_examples()
+    ensures { ReleaseExamples }
+{}
+
+/// Examples of grant.
+pub fn grant_examples()
+    ensures { GrantExamples }
+{}
+
+/// Examples of granted.
+pub fn granted_examples()
+    ensures { GrantedExamples }
+{}
+
+/// Examples of giveup.
+pub fn give_up_examples()
+    ensures { GiveUpExamples }
+{}
+
+/// Examples of quit.
+pub fn quit_examples()
+    ensures { QuitExamples }
+{}
+
+/// Examples of free.
+pub fn free_examples()
+    ensures { FreeExamples }
+{}
+
+/// Examples of issue.
+pub fn issue_examples()
+    ensures { IssueExamples }
+{}
+
+/// Examples of read.
+pub fn read_examples()
+    ensures { ReadExamples }
+{}
+
+/// Examples of counted, notwhole and range.
+pub fn counted_examples()
+    ensures { CountedExamples }
+{}
+
+/// Examples of committed and rolledback.
+pub fn committed_examples()
+    ensures { CommittedExamples }
+{}
+
+/// Examples of reached.
+pub fn reached_examples()
+    ensures { ReachedExamples }
+{}
+
+/// Examples of acts of jobs that are not there, whose application server died, or that are barred.
+pub fn barred_examples()
+    ensures { BarredExamples }
+{}
+
+/// Examples of level.
+pub fn level_examples()
+    ensures { LevelExamples }
+{}
+
+/// Examples of done.
+pub fn done_examples()
+    ensures { DoneExamples }
+{}
+
+/// Examples of refused.
+pub fn refused_examples()
+    ensures { RefusedExamples }
+{}
+
+/// Examples of a transaction that is too deep.
+pub fn too_deep_examples()
+    ensures { TooDeepExamples }
+{}

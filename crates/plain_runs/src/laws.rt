@@ -1,0 +1,52 @@
+ghost use Rattle.plain_runs.specs.FirstRun.{FirstRunIsRun};
+ghost use Rattle.plain_runs.specs.Laws.{Extended, Framed, ItemsInOrder, ItemsWereIssued, NeighboursAgree, NoConflict, SeenNeverFalls, Settled, SyncedStays};
+
+/// The trail of the worked first run is a run.
+pub fn first_run_is_run()
+    ensures { FirstRunIsRun }
+{}
+
+/// A run goes on with an act that may come.
+pub fn a_run_goes_on()
+    ensures { Extended }
+{}
+
+/// An act leaves each server that it doesn't name.
+pub fn an_act_leaves_the_other_servers()
+    ensures { Framed }
+{}
+
+/// What a job has seen never falls, but where its application server is told of an epoch or meets a session.
+pub fn what_is_seen_never_falls()
+    ensures { SeenNeverFalls }
+{}
+
+/// Each order but the first keeps a front of the one before.
+pub fn neighbouring_orders_agree()
+    ensures { NeighboursAgree }
+{}
+
+/// What was synced stands at its position in each order from then on.
+pub fn what_is_synced_stays()
+    ensures { SyncedStays }
+{}
+
+/// A session's items stand in the order of their running numbers, each once.
+pub fn items_stand_in_order()
+    ensures { ItemsInOrder }
+{}
+
+/// No two holds in force of different holders conflict.
+pub fn no_two_holds_conflict()
+    ensures { NoConflict }
+{}
+
+/// While no round is due, each hold that was answered or given up and no longer binds is handed over.
+pub fn what_no_longer_binds_is_handed_over()
+    ensures { Settled }
+{}
+
+/// Each item of a session that was met stands in the order as it was issued with its number.
+pub fn items_stand_as_they_were_issued()
+    ensures { ItemsWereIssued }
+{}
