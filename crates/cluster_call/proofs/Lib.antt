@@ -1,5 +1,10 @@
+pub mod AddLemmas
+pub mod CanRunLemmas
+pub mod FitLemmas
 pub mod LineLemmas
+pub mod PrintLemmas
 pub mod PutLemmas
 pub mod ReadLemmas
+pub mod RunSteps
 pub mod ScriptLemmas
 pub mod StatusLemmas

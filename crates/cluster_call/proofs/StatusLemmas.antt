@@ -1,9 +1,15 @@
 -- A status that refuses.
-use Rattle.std.proofs.Common.{◌≡◌, ◌⊎◌, inl, inr, subst, sym}
+use Rattle.std.proofs.Common.{◌≡◌, ◌⊎◌, ℕ, List, inl, inr, subst, sym}
+use Rattle.std.specs.Io.KnownBytes.{Appends}
+use Rattle.plain_runs.specs.Run.{IsRun}
+use Rattle.cluster_call.specs.declared.output.Output.{Output}
+use Rattle.cluster_call.specs.declared.scripts.Script.{Script}
+use Rattle.cluster_call.specs.Fits.{Fits}
+use Rattle.cluster_call.specs.OutputText.{IsOutputText}
 use Rattle.cluster_call.specs.declared.status.Status.{Status}
 use Rattle.cluster_call.specs.declared.status.Status.TheVariants.{Ok, Usage, NotBuilt, TooLarge, ReadFault, WriteFault, OutOfMemory}
-use Rattle.cluster_call.specs.Outside.{Outside, HoldsFrontOf}
-use Rattle.cluster_call.specs.StatusCauses.{Answers, Ends, fault_line}
+use Rattle.cluster_call.specs.Outside.{Outside, SinkStopped, HoldsFrontOf}
+use Rattle.cluster_call.specs.StatusCauses.{Answers, Ends, HasRead, fault_line}
 
 -- its line was put
 refused : (o : Outside) (status : Status) → Ends o status → HoldsFrontOf o.sink (fault_line status) → Answers o status
@@ -19,3 +25,35 @@ refused o OutOfMemory because put = record { put = (fault_line OutOfMemory, put)
 pub Answers-refused : (o : Outside) (status result : Status) → (result ≡ status) ⊎ (result ≡ OutOfMemory) → Ends o status → HoldsFrontOf o.sink (fault_line status) → Answers o result
 Answers-refused o status result (inl e) because put = subst (Answers o) (sym e) (refused o status because put)
 Answers-refused o status result (inr e) because put = subst (Answers o) (sym e) (record { put = (fault_line status, put) })
+
+-- the output was put
+pub Answers-ran : (o : Outside) (script : Script) (out : Output) (text bytes : List ℕ) → HasRead o script → IsOutputText script out text → IsRun script.layout out.trail → Fits script out → bytes ≡ text → Appends o.sink.held_before o.sink.held_after bytes
+    → Answers o Ok
+Answers-ran o script out text bytes h is run fits same put = (
+  script,
+  out,
+  record {
+    words = h.words;
+    read = h.read;
+    within = h.within;
+    text = h.text;
+    put = (text, is, subst (Appends o.sink.held_before o.sink.held_after) same put);
+    run = run;
+    fits = fits;
+  },
+)
+
+-- the sink stopped before it had all
+pub Answers-stopped : (o : Outside) (script : Script) (out : Output) (text bytes : List ℕ) → HasRead o script → IsOutputText script out text → IsRun script.layout out.trail → Fits script out → bytes ≡ text → SinkStopped o.sink → HoldsFrontOf o.sink bytes
+    → Answers o WriteFault
+Answers-stopped o script out text bytes h is run fits same stopped put = (
+  script,
+  out,
+  record {
+    read = h;
+    run = run;
+    fits = fits;
+    stopped = stopped;
+    put = (text, is, subst (HoldsFrontOf o.sink) same put);
+  },
+)

@@ -1,10 +1,15 @@
 -- What each status says of the outside.
 use Rattle.std.specs.Prelude.{◌≡◌, ◌≢◌, ℕ, ◌<◌, List, [], ◌∷◌, ◌++◌, length, slice_get, Some, IfSome, codes}
 use Rattle.std.specs.Fmt.{decimal}
+use Rattle.cluster_call.specs.declared.output.Output.{Output}
 use Rattle.cluster_call.specs.declared.scripts.Script.{Script}
 use Rattle.cluster_call.specs.declared.status.Status.{Status}
 use Rattle.cluster_call.specs.declared.status.Status.TheVariants.{Ok, Usage, NotBuilt, TooLarge, ReadFault, WriteFault, OutOfMemory}
-use Rattle.cluster_call.specs.Outside.{Outside, IsReadToEnd, SourceFailed, SinkStopped, HoldsFrontOf}
+use Rattle.std.specs.Io.KnownBytes.{Appends}
+use Rattle.plain_runs.specs.Run.{IsRun}
+use Rattle.cluster_call.specs.Fits.{Fits}
+use Rattle.cluster_call.specs.OutputText.{IsOutputText}
+use Rattle.cluster_call.specs.Outside.{Outside, SinkTold, IsReadToEnd, SourceFailed, SinkStopped, HoldsFrontOf}
 use Rattle.cluster_call.specs.ScriptText.{IsWithinLimits, IsTooLarge, IsScriptText, IsFirstOther}
 
 -- a file's name isn't empty and doesn't begin with a dash
@@ -36,11 +41,26 @@ fault_line ReadFault = codes "ecp: read fault\n"
 fault_line status = []
 
 -- the words ask for a script, the whole source was read, and its bytes are this script's text
-pub record Ran (o : Outside) (script : Script) : Type 0 where
+pub record HasRead (o : Outside) (script : Script) : Type 0 where
   pub words : IsScriptForm o.words
   pub read : IsReadToEnd o.source
   pub within : IfSome o.source.left_before IsWithinLimits
   pub text : IfSome o.source.left_before (IsScriptText script)
+
+-- the sink took the printed output
+abbrev pub TookOutput : SinkTold → Script → Output → Type 0
+TookOutput k script out = (text : List ℕ) × IsOutputText script out text × Appends k.held_before k.held_after text
+
+-- The script was run: the whole source was read and its bytes are this script's text; what the sink took is the answers, the line
+-- `trail` and the trail; the trail is a run of the plain machine; and each command stands there in its order, with just its answer.
+pub record Ran (o : Outside) (script : Script) (out : Output) : Type 0 where
+  pub words : IsScriptForm o.words
+  pub read : IsReadToEnd o.source
+  pub within : IfSome o.source.left_before IsWithinLimits
+  pub text : IfSome o.source.left_before (IsScriptText script)
+  pub put : TookOutput o.sink script out
+  pub run : IsRun script.layout out.trail
+  pub fits : Fits script out
 
 -- What the words and the source say of a refusal, whatever the sink does:
 -- the words are no form of the command, and nothing was read
@@ -70,11 +90,13 @@ pub record Refuses (o : Outside) (cause : Type 0) (status : Status) : Type 0 whe
   pub because : cause
   pub put : HoldsFrontOf o.sink (fault_line status)
 
--- the script was run, and the sink failed or took nothing of a piece that isn't empty
-pub record IsWriteFault (o : Outside) (script : Script) : Type 0 where
-  pub ran : Ran o script
+-- the script was read and run, and the sink failed or took nothing of a piece that isn't empty; it holds a front of the output
+pub record IsWriteFault (o : Outside) (script : Script) (out : Output) : Type 0 where
+  pub read : HasRead o script
+  pub run : IsRun script.layout out.trail
+  pub fits : Fits script out
   pub stopped : SinkStopped o.sink
-  pub put : (output : List ℕ) × HoldsFrontOf o.sink output
+  pub put : (text : List ℕ) × IsOutputText script out text × HoldsFrontOf o.sink text
 
 -- memory was wanting: the sink holds what it held, and maybe some of what was put
 pub record IsOutOfMemory (o : Outside) : Type 0 where
@@ -82,12 +104,12 @@ pub record IsOutOfMemory (o : Outside) : Type 0 where
 
 -- what a status says
 abbrev pub Answers : Outside → Status → Type 0
-Answers o Ok = (script : Script) × Ran o script
+Answers o Ok = (script : Script) × (out : Output) × Ran o script out
 Answers o Usage = Refuses o (NoForm o) Usage
 Answers o (NotBuilt line) = Refuses o (OtherLine o line) (NotBuilt line)
 Answers o TooLarge = Refuses o (HadTooMuch o) TooLarge
 Answers o ReadFault = Refuses o (CouldNotRead o) ReadFault
-Answers o WriteFault = (script : Script) × IsWriteFault o script
+Answers o WriteFault = (script : Script) × (out : Output) × IsWriteFault o script out
 Answers o OutOfMemory = IsOutOfMemory o
 
 -- why a call ends before anything is put

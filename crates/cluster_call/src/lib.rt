@@ -9,6 +9,7 @@ mod limits;
 mod line;
 mod line_reader;
 mod name_forms;
+mod node_text;
 mod output;
 mod output_text;
 mod printer;
@@ -23,6 +24,7 @@ mod status;
 mod top_calls;
 mod trail_text;
 mod transcript_text;
+mod value_text;
 
 pub use command::{Command, Target};
 pub use script_line::{ScriptLine, Todo};

@@ -3,6 +3,7 @@ ghost use Rattle.std.specs.Prelude.{◌≡◌, ◌+◌, ◌-◌, ◌^◌, ◌<�
 ghost use Rattle.cluster_call.specs.Lines.{line_count};
 ghost use Rattle.cluster_call.specs.Reading.{IsWhole, target_for, RefusesScript};
 ghost use Rattle.cluster_call.specs.Script.{MayStand, declared_by, with_todo, layout_of, names_of};
+ghost use Rattle.cluster_call.specs.Running.{CanRun};
 ghost use Rattle.cluster_call.specs.ScriptText.{IsScriptText};
 
 use crate::command::{Command, Target};
@@ -203,6 +204,7 @@ fn names(alloc: Global, declared: Declared) -> Result<Names, AllocError>
 pub fn read_script(alloc: Global, text: &[u8]) -> Result<Script, ReadError>
     requires { line_count text.now ≤ LINE_LIMIT }
     ensures ok { IfOk result (λ script. IsScriptText script text.now) }
+    ensures can_run { IfOk result (λ script. CanRun script) }
     ensures err { IfErr result (RefusesScript text.now) }
 {
     let mut reader = Reader {

@@ -1,8 +1,13 @@
 //! The calls behind the program's commands.
 ghost use Rattle.std.specs.Prelude.{◌≡◌, ◌⊎◌, ◌↔◌, IsTrue, IfOk, IfErr};
 ghost use Rattle.cluster_call.specs.Outside.{Outside, SinkTold};
-ghost use Rattle.cluster_call.specs.StatusCauses.{Answers, Ends, IsScriptForm, Ran, fault_line};
+ghost use Rattle.cluster_call.specs.StatusCauses.{Answers, Ends, HasRead, IsScriptForm, fault_line};
 ghost use Rattle.outer_io.specs.Took.{TookFront};
+ghost use Rattle.plain_runs.specs.Run.{IsRun};
+ghost use Rattle.cluster_call.specs.Fits.{Fits};
+ghost use Rattle.cluster_call.specs.OutputText.{IsOutputText};
+ghost use Rattle.cluster_call.specs.Running.{CanRun};
+ghost use Rattle.cluster_call.specs.declared.output.Output.{Output};
 
 use crate::limits::LINE_LIMIT;
 use crate::output_text::print_output;
@@ -68,11 +73,12 @@ fn refuse<K: Sink>(alloc: Global, out: &mut K, status: Status) -> Status
 
 /// Reads the script that the words name, or says why there is none. Nothing is put.
 fn read_source<S: Source>(alloc: Global, words: &[Word], src: &mut S) -> Result<Script, Status>
-    ensures ok { (k : SinkTold) → IfOk result (Ran (record {
+    ensures ok { (k : SinkTold) → IfOk result (HasRead (record {
       words = words.now;
       sink = k;
       source = record { left_before = S.left src.old; left_after = S.left src.new; faults_before = S.faults src.old; faults_after = S.faults src.new };
     })) }
+    ensures can_run { IfOk result (λ script. CanRun script) }
     ensures err { (k : SinkTold) → IfErr result (Ends (record {
       words = words.now;
       sink = k;
@@ -99,9 +105,13 @@ fn read_source<S: Source>(alloc: Global, words: &[Word], src: &mut S) -> Result<
 }
 
 /// Runs a script and makes the text of its output.
-fn output_text(alloc: Global, script: &Script) -> Result<Vec<u8>, AllocError> {
+fn output_text(alloc: Global, script: &Script) -> Result<Vec<u8>, AllocError>
+    requires { CanRun script.now }
+    ensures { IfOk result (λ text. (out : Output) × IsOutputText script.now out text.items × IsRun script.now.layout out.trail × Fits script.now out) }
+{
     let output = run_script(alloc, script)?;
-    print_output(alloc, script, &output)
+    let text = print_output(alloc, script, &output)?;
+    Ok(text)
 }
 
 /// `ecp script FILE`: runs the script that the source has, and puts its output once the run is over.

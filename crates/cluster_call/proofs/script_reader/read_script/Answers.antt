@@ -1,5 +1,6 @@
 use Rattle.std.proofs.Common.{◌≡◌, ◌++◌, ◌∷◌, [], length, subst, rules}
 use Rattle.cluster_call.specs.Script.{ReadsLine}
+use Rattle.cluster_call.proofs.CanRunLemmas.{can_run}
 use Rattle.cluster_call.proofs.ScriptLemmas.{read_more, read_all}
 use Rattle.cluster_call.proofs.script_reader.read_script.Goals as goal
 
@@ -12,3 +13,6 @@ pub returns-clause-ok : goal.returns-clause-ok
 returns-clause-ok c =
     let none : length c.loop-rest.rest.now ≡ 0 = search rules in
     (c.loop-rest.invariant.0, read_all c.loop-rest.invariant.0 c.args.text.now c.loop-rest.rest.now c.loop-rest.reader.declared c.loop-rest.reader.todos.items c.loop-rest.reader.line _ c.loop-rest.invariant.1 none c.in_ok-layout.ensures c.in_ok-names.ensures c.from_vec.ensures)
+
+pub returns-clause-can_run : goal.returns-clause-can_run
+returns-clause-can_run c = can_run (returns-clause-ok c).0 _ c.args.text.now (returns-clause-ok c).1
