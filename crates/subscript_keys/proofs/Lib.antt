@@ -16,3 +16,5 @@ pub mod NumberTexts
 pub mod PlaceTurns
 pub mod Shortness
 pub mod TextReads
+pub mod PlaceReads
+pub mod NumberReads

@@ -18,6 +18,7 @@ mod pairs;
 mod run;
 mod span;
 mod sub;
+mod sub_reader;
 mod sub_text;
 mod sub_writer;
 mod subs;
