@@ -142,7 +142,7 @@ pub found_runs : IsRun small found
 found_runs = run_more small start nothing (Opened 0 (Epoch 1 ∷ OpenEntry 2 0 ∷ [])) nothing_runs (record { fresh = refl; ordered = (record { is_next = refl; in_range = omega arith }, (record { is_started = λ e. omega arith; is_position = refl; is_free = refl }, tt)); low = omega arith })
 
 pub granted_runs : IsRun small granted
-granted_runs = run_more small start met (Grant 0 2 0 Exclusive (120 ∷ 0 ∷ []) 2) met_runs (record { is_live = refl; up = refl; here = refl; free = refl })
+granted_runs = run_more small start met (Grant 0 2 0 Exclusive (120 ∷ 0 ∷ []) 2) met_runs (record { is_live = refl; up = refl; here = refl; free = refl; node = x_may })
 
 pub answered_runs : IsRun small answered
 answered_runs = run_more small start granted (Granted 0 5 0 2) granted_runs ((record { known = omega arith; alive = refl; free = refl }, record { session = refl; sent = refl; synced = omega arith }))
@@ -151,16 +151,16 @@ pub given_runs : IsRun small given
 given_runs = run_more small start answered (GiveUp 0 6 0 Exclusive (120 ∷ 0 ∷ [])) answered_runs ((record { known = omega arith; alive = refl; free = refl }, record { session = refl; answered = refl }))
 
 pub quitted_runs : IsRun small quitted
-quitted_runs = run_more small start met (Quit 0 5 0 Exclusive (120 ∷ 0 ∷ [])) met_runs ((record { known = omega arith; alive = refl; free = refl }, record { session = refl }))
+quitted_runs = run_more small start met (Quit 0 5 0 Exclusive (120 ∷ 0 ∷ [])) met_runs ((record { known = omega arith; alive = refl; free = refl }, record { session = refl; node = x_may }))
 
 pub issued_quit_runs : IsRun small issued_quit
-issued_quit_runs = run_more small start issued (Quit 0 6 0 Exclusive (120 ∷ 0 ∷ [])) issued_runs ((record { known = omega arith; alive = refl; free = refl }, record { session = refl }))
+issued_quit_runs = run_more small start issued (Quit 0 6 0 Exclusive (120 ∷ 0 ∷ [])) issued_runs ((record { known = omega arith; alive = refl; free = refl }, record { session = refl; node = x_may }))
 
 pub both_runs : IsRun small both
 both_runs = run_more small start met (Enter 0 (OpenEntry 3 1)) met_runs (record { opened = refl; place = refl; alone = refl; up = refl })
 
 pub both_held_runs : IsRun small both_held
-both_held_runs = run_more small start both (Grant 0 2 0 Exclusive (120 ∷ 0 ∷ []) 3) both_runs (record { is_live = refl; up = refl; here = refl; free = refl })
+both_held_runs = run_more small start both (Grant 0 2 0 Exclusive (120 ∷ 0 ∷ []) 3) both_runs (record { is_live = refl; up = refl; here = refl; free = refl; node = x_may })
 
 pub added_runs : IsRun small added
 added_runs = run_more small start met (Issue 0 5 0 1 (Op (Add (120 ∷ 0 ∷ []) (pos 1)))) met_runs ((record { known = omega arith; alive = refl; free = refl }, record { there = refl; unbroken = refl; next = refl; its = record { key_may = x_may; is_alone = refl; within = omega arith } }))

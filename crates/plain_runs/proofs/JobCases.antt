@@ -47,21 +47,25 @@ issue_examples = (
 
 pub read_examples : ReadExamples
 read_examples = (
-  run_more small start kept (Read 0 6 0 3 Fetched (Get (120 ∷ 0 ∷ []) (Some (53 ∷ [])))) kept_runs ((record { known = omega arith; alive = refl; free = refl }, record { there = refl; no_less = omega arith; within = omega arith; answer = record { result = refl; by = refl } })),
-  run_more small start issued (Read 0 6 0 2 Own (Get (120 ∷ 0 ∷ []) (Some (53 ∷ [])))) issued_runs ((record { known = omega arith; alive = refl; free = refl }, record { there = refl; no_less = omega arith; within = omega arith; answer = record { result = refl; by = refl } })),
+  run_more small start kept (Read 0 6 0 3 Fetched (Get (120 ∷ 0 ∷ []) (Some (53 ∷ [])))) kept_runs ((record { known = omega arith; alive = refl; free = refl }, record { there = refl; no_less = omega arith; within = omega arith; answer = record { result = refl; by = refl; node = x_may } })),
+  run_more small start issued (Read 0 6 0 2 Own (Get (120 ∷ 0 ∷ []) (Some (53 ∷ [])))) issued_runs ((record { known = omega arith; alive = refl; free = refl }, record { there = refl; no_less = omega arith; within = omega arith; answer = record { result = refl; by = refl; node = x_may } })),
   (saved_runs, λ may. absurd (cc (may.1.there))),
   (kept_runs, λ may. omega (arith, may.1.no_less)),
   (kept_runs, λ may. omega (arith, may.1.within)),
   (kept_runs, λ may. absurd (cc (may.1.answer.result))),
   (kept_runs, λ may. absurd (cc (may.1.answer.by))),
-  run_more small start kept (Read 0 6 0 3 Cached (Data (120 ∷ 0 ∷ []) 1)) kept_runs ((record { known = omega arith; alive = refl; free = refl }, record { there = refl; no_less = omega arith; within = omega arith; answer = record { result = refl; by = refl; entered = refl } })),
+  run_more small start kept (Read 0 6 0 3 Cached (Data (120 ∷ 0 ∷ []) 1)) kept_runs ((record { known = omega arith; alive = refl; free = refl }, record { there = refl; no_less = omega arith; within = omega arith; answer = record { result = refl; by = refl; entered = refl; node = x_may } })),
   (kept_runs, λ may. omega (arith, may.1.answer.result)),
   (kept_runs, λ may. absurd (cc (may.1.answer.by))),
   (issued_runs, λ may. absurd (cc (may.1.answer.entered))),
-  run_more small start kept (Read 0 6 0 3 Cached (Next (120 ∷ 0 ∷ []) None None)) kept_runs ((record { known = omega arith; alive = refl; free = refl }, record { there = refl; no_less = omega arith; within = omega arith; answer = record { result = tt; by = refl; entered = refl } })),
+  run_more small start kept (Read 0 6 0 3 Cached (Next (120 ∷ 0 ∷ []) None None)) kept_runs ((record { known = omega arith; alive = refl; free = refl }, record { there = refl; no_less = omega arith; within = omega arith; answer = record { result = tt; by = refl; entered = refl; node = x_may } })),
   (kept_runs, λ may. may.1.answer.result),
   (kept_runs, λ may. absurd (cc (may.1.answer.by))),
   (issued_runs, λ may. absurd (cc (may.1.answer.entered))),
+  (kept_runs, λ may. no_empty_key (may.1.answer.node.is_key)),
+  (kept_runs, λ may. no_empty_key (may.1.answer.node.is_key)),
+  (met_runs, λ may. no_empty_key (may.1.answer.node.is_key)),
+  (kept_runs, λ may. omega (arith, may.1.answer.node.within)),
 )
 
 pub counted_examples : CountedExamples

@@ -51,6 +51,10 @@ ReadExamples =
     × Refuses kept (Read 0 6 0 3 Cached (Next (120 ∷ 0 ∷ []) None (Some (Text (97 ∷ [])))))
     × Refuses kept (Read 0 6 0 3 Own (Next (120 ∷ 0 ∷ []) None None))
     × Refuses issued (Read 0 6 0 2 Cached (Next (120 ∷ 0 ∷ []) None None))
+    × Refuses kept (Read 0 6 0 3 Fetched (Get [] None))
+    × Refuses kept (Read 0 6 0 3 Cached (Data [] 10))
+    × Refuses met (Read 0 6 0 2 Cached (Next [] None None))
+    × Refuses kept (Read 0 6 0 3 Cached (Next long_key None None))
 
 -- counted, notwhole and range
 abbrev pub CountedExamples : Type 0
