@@ -57,7 +57,7 @@ with_todo_may (Server s) number line rest good may all = all
 with_todo_may (App s a) number line rest good may all = all
 with_todo_may (Job s a j) number line rest good may all = all
 with_todo_may (Whole s a j g) number (SetLine value) rest good may all = All-cons (λ (x : ScriptLine). TodoMay x.todo) _ rest (refl, (refl, (g, is_name g good, refl), set_may g value good may)) all
-with_todo_may (Whole s a j g) number GetLine rest good may all = All-cons (λ (x : ScriptLine). TodoMay x.todo) _ rest (refl, (refl, (g, is_name g good, refl))) all
+with_todo_may (Whole s a j g) number GetLine rest good may all = All-cons (λ (x : ScriptLine). TodoMay x.todo) _ rest (refl, (refl, (g, is_name g good, refl), key_may g good)) all
 with_todo_may (Whole s a j g) number _ rest good may all = absurd may
 
 todos_may : (d : Declared) (number : ℕ) (lines : List Line) → IsGood d → AllMayStand d lines → AllMay (todos_of d number lines)

@@ -6,7 +6,7 @@ use Rattle.plain_orders.specs.declared.entry.Entry.TheVariants.{Epoch}
 use Rattle.plain_orders.specs.declared.layout.Layout.{Layout}
 use Rattle.plain_orders.specs.Entries.{count, live}
 use Rattle.plain_orders.specs.Fold.{Folded, fold}
-use Rattle.plain_orders.specs.Ordered.{SetMay}
+use Rattle.plain_orders.specs.Ordered.{KeyMay, SetMay}
 use Rattle.plain_runs.specs.Plain.{Plain, Server, Session}
 use Rattle.cluster_call.specs.declared.command.Command.{Command}
 use Rattle.cluster_call.specs.declared.command.Command.TheVariants.{Set, Get}
@@ -22,7 +22,7 @@ use Rattle.cluster_call.specs.TrailText.{AllCanPrint, IsGlobalKey}
 -- a command that can be run: its node is a global at the only data server
 abbrev pub CommandMay : Command → Type 0
 CommandMay (Set at value) = (at.server ≡ 0) × IsGlobalKey at.key × SetMay at.key value
-CommandMay (Get at) = (at.server ≡ 0) × IsGlobalKey at.key
+CommandMay (Get at) = (at.server ≡ 0) × IsGlobalKey at.key × KeyMay at.key
 
 -- a line that can be run: a command of the only job
 abbrev pub TodoMay : Todo → Type 0

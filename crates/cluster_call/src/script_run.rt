@@ -3,7 +3,7 @@
 ghost use Rattle.std.specs.Prelude.{◌≡◌, ◌+◌, ◌<◌, ◌^◌, ◌-◌, true, false, [], ◌∷◌, ◌++◌, Some, List, OnOk, IfOk, length, vec_len};
 ghost use Rattle.std.specs.Option.{option_copied};
 ghost use Rattle.plain_orders.specs.Fold.{fold_step, nothing_folded};
-ghost use Rattle.plain_orders.specs.Ordered.{SetMay};
+ghost use Rattle.plain_orders.specs.Ordered.{KeyMay, SetMay};
 ghost use Rattle.plain_orders.specs.PairMap.{value_at};
 ghost use Rattle.plain_runs.specs.Recording.{state_of};
 ghost use Rattle.cluster_call.specs.Running.{Adds, CanRun, CommandMay, DidCommand, DidLine, HasJob, Stands, TodoMay};
@@ -182,6 +182,7 @@ impl ScriptRun {
         requires stands { Stands (state_of self.old.recorder) self.old.length self.old.issued self.old.is_connected self.old.store }
         requires job { HasJob self.old.recorder.layout }
         requires global { IsGlobalKey key.now }
+        requires key { KeyMay key.now }
         ensures stands { OnOk result (Stands (state_of self.new.recorder) self.new.length self.new.issued self.new.is_connected self.new.store) }
         ensures met { self.new.is_connected ≡ true }
         ensures layout { self.new.recorder.layout ≡ self.old.recorder.layout }

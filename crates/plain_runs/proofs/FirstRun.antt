@@ -13,6 +13,14 @@ x_key = (record { name = 120 ∷ []; subs = [] }, record { name = (refl, tt, ome
 pub x_may : KeyMay (120 ∷ 0 ∷ [])
 x_may = record { is_key = x_key; within = omega arith }
 
+-- and so is ^y
+pub y_key : IsKey (121 ∷ 0 ∷ [])
+unfolding key_of
+y_key = (record { name = 121 ∷ []; subs = [] }, record { name = (refl, tt, omega arith); subs = tt }, refl)
+
+pub y_may : KeyMay (121 ∷ 0 ∷ [])
+y_may = record { is_key = y_key; within = omega arith }
+
 pub first_run_is_run : IsRun first_layout first_run
 first_run_is_run = (
   record { fresh = refl; ordered = tt; low = omega arith },
@@ -28,7 +36,7 @@ first_run_is_run = (
             record { is_live = refl; told = refl; next = refl; issued = refl },
             (
               record { opened = refl; no_less = omega arith; within = omega arith },
-              ((record { known = omega arith; alive = refl; free = refl }, record { there = refl; no_less = omega arith; within = omega arith; answer = record { result = refl; by = refl } }), tt),
+              ((record { known = omega arith; alive = refl; free = refl }, record { there = refl; no_less = omega arith; within = omega arith; answer = record { result = refl; by = refl; node = x_may } }), tt),
             ),
           ),
         ),

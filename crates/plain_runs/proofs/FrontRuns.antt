@@ -1,7 +1,7 @@
 -- The trails that the examples begin with are runs.
-use Rattle.std.proofs.Common.{[], ◌∷◌, refl, arith}
+use Rattle.std.proofs.Common.{[], ◌∷◌, Some, refl, arith}
 use Rattle.std.specs.Prelude.{pos}
-use Rattle.plain_orders.specs.declared.act.Act.TheVariants.{Opened, Enter, Synced, Shut, Met, Told, Crash, Issue, Grant, Granted, GiveUp, Quit, Level, Broke, Tick, Lose, Died}
+use Rattle.plain_orders.specs.declared.act.Act.TheVariants.{Opened, Enter, Synced, Shut, Release, Met, Told, Back, Crash, Issue, Read, Grant, Granted, GiveUp, Quit, Free, Level, Broke, Tick, Lose, Died}
 use Rattle.plain_orders.specs.declared.op.Op.TheVariants.{Set, Add}
 use Rattle.plain_orders.specs.declared.item.Item.TheVariants.{Op, Commit as CommitItem, Rollback as RollbackItem}
 use Rattle.plain_orders.specs.declared.entry.Entry.TheVariants.{Epoch, Opened as OpenEntry, Update, Commit, Rollback}
@@ -9,9 +9,12 @@ use Rattle.plain_orders.specs.declared.mode.Mode.TheVariants.{Exclusive}
 use Rattle.plain_orders.specs.declared.causes.ShutCause.TheVariants.{Replaced}
 use Rattle.plain_orders.specs.declared.causes.PairEnd.TheVariants.{App as AppEnd, Server as ServerEnd}
 use Rattle.plain_orders.specs.declared.causes.Loss.TheVariants.{Reset as ByReset, Expired as ByExpired, NoWay as ByNoWay}
+use Rattle.plain_orders.specs.declared.question.Question.TheVariants.{Get}
+use Rattle.plain_orders.specs.declared.via.Via.TheVariants.{Fetched}
 use Rattle.plain_runs.specs.Plain.{start}
 use Rattle.plain_runs.specs.Run.{IsRun}
 use Rattle.plain_runs.specs.Fronts.{small, nines_text, nothing, opened, entered, saved, met, issued, applied, kept, crashed, recovering, almost_due, told, told_closed, issued_more, issued_closed, issued_cut, issued_told, cut, cut_saved, met_cut, met_cut_saved, closed, closed_saved, replaced, replaced_broke, replaced_late, replaced_saved, replaced_lost, late, later, server_broke, server_late, server_early, app_broke, app_late, app_early, saved_dead, met_dead, crashed_dead, broke_dead, closed_dead, found, granted, answered, given, quitted, issued_quit, both, both_held, added, added_in, added_kept, letter, letter_in, letter_added, letter_added_in, letter_kept, nines, nines_in, nines_added, nines_added_in, nines_kept, level_one, updated, updated_in, commit_issued, commit_in, commit_kept, commit_cut, commit_cut_saved, rollback_issued, rollback_in, rollback_kept, updated_broke, updated_late, updated_lost, used_closed, used_saved, used_lost, used_again, used_again_saved, barred, used_no_way, no_way}
+use Rattle.plain_runs.specs.ChangeFronts.{held_closed, held_saved, released, held_synced, held_answered, held_given, freed, granted_cut, granted_told, granted_back, no_way_met, no_way_issued, seen, seen_cut, seen_told}
 use Rattle.plain_runs.proofs.RunLemmas.{run_more}
 use Rattle.plain_runs.proofs.FirstRun.{x_may}
 
@@ -142,7 +145,7 @@ pub found_runs : IsRun small found
 found_runs = run_more small start nothing (Opened 0 (Epoch 1 ∷ OpenEntry 2 0 ∷ [])) nothing_runs (record { fresh = refl; ordered = (record { is_next = refl; in_range = omega arith }, (record { is_started = λ e. omega arith; is_position = refl; is_free = refl }, tt)); low = omega arith })
 
 pub granted_runs : IsRun small granted
-granted_runs = run_more small start met (Grant 0 2 0 Exclusive (120 ∷ 0 ∷ []) 2) met_runs (record { is_live = refl; up = refl; here = refl; free = refl })
+granted_runs = run_more small start met (Grant 0 2 0 Exclusive (120 ∷ 0 ∷ []) 2) met_runs (record { is_live = refl; up = refl; here = refl; free = refl; node = x_may })
 
 pub answered_runs : IsRun small answered
 answered_runs = run_more small start granted (Granted 0 5 0 2) granted_runs ((record { known = omega arith; alive = refl; free = refl }, record { session = refl; sent = refl; synced = omega arith }))
@@ -151,16 +154,16 @@ pub given_runs : IsRun small given
 given_runs = run_more small start answered (GiveUp 0 6 0 Exclusive (120 ∷ 0 ∷ [])) answered_runs ((record { known = omega arith; alive = refl; free = refl }, record { session = refl; answered = refl }))
 
 pub quitted_runs : IsRun small quitted
-quitted_runs = run_more small start met (Quit 0 5 0 Exclusive (120 ∷ 0 ∷ [])) met_runs ((record { known = omega arith; alive = refl; free = refl }, record { session = refl }))
+quitted_runs = run_more small start met (Quit 0 5 0 Exclusive (120 ∷ 0 ∷ [])) met_runs ((record { known = omega arith; alive = refl; free = refl }, record { session = refl; node = x_may }))
 
 pub issued_quit_runs : IsRun small issued_quit
-issued_quit_runs = run_more small start issued (Quit 0 6 0 Exclusive (120 ∷ 0 ∷ [])) issued_runs ((record { known = omega arith; alive = refl; free = refl }, record { session = refl }))
+issued_quit_runs = run_more small start issued (Quit 0 6 0 Exclusive (120 ∷ 0 ∷ [])) issued_runs ((record { known = omega arith; alive = refl; free = refl }, record { session = refl; node = x_may }))
 
 pub both_runs : IsRun small both
 both_runs = run_more small start met (Enter 0 (OpenEntry 3 1)) met_runs (record { opened = refl; place = refl; alone = refl; up = refl })
 
 pub both_held_runs : IsRun small both_held
-both_held_runs = run_more small start both (Grant 0 2 0 Exclusive (120 ∷ 0 ∷ []) 3) both_runs (record { is_live = refl; up = refl; here = refl; free = refl })
+both_held_runs = run_more small start both (Grant 0 2 0 Exclusive (120 ∷ 0 ∷ []) 3) both_runs (record { is_live = refl; up = refl; here = refl; free = refl; node = x_may })
 
 pub added_runs : IsRun small added
 added_runs = run_more small start met (Issue 0 5 0 1 (Op (Add (120 ∷ 0 ∷ []) (pos 1)))) met_runs ((record { known = omega arith; alive = refl; free = refl }, record { there = refl; unbroken = refl; next = refl; its = record { key_may = x_may; is_alone = refl; within = omega arith } }))
@@ -266,3 +269,48 @@ used_no_way_runs = run_more small start used_lost (Lose 0 0 (ByNoWay 0 1)) used_
 
 pub no_way_runs : IsRun small no_way
 no_way_runs = run_more small start saved (Lose 0 0 (ByNoWay 0 1)) saved_runs ((refl, record { none = refl; failed = omega arith }))
+
+pub held_closed_runs : IsRun small held_closed
+held_closed_runs = run_more small start both_held (Shut 0 2 Replaced) both_held_runs (record { is_live = refl })
+
+pub held_saved_runs : IsRun small held_saved
+held_saved_runs = run_more small start held_closed (Synced 0 4) held_closed_runs (record { opened = refl; no_less = omega arith; within = omega arith })
+
+pub released_runs : IsRun small released
+released_runs = run_more small start held_saved (Release 0 2) held_saved_runs (record { closed = refl })
+
+pub held_synced_runs : IsRun small held_synced
+held_synced_runs = run_more small start both_held (Synced 0 3) both_held_runs (record { opened = refl; no_less = omega arith; within = omega arith })
+
+pub held_answered_runs : IsRun small held_answered
+held_answered_runs = run_more small start held_synced (Granted 0 5 0 3) held_synced_runs (record { known = omega arith; alive = refl; free = refl }, record { session = refl; sent = refl; synced = omega arith })
+
+pub held_given_runs : IsRun small held_given
+held_given_runs = run_more small start held_answered (GiveUp 0 6 0 Exclusive (120 ∷ 0 ∷ [])) held_answered_runs (record { known = omega arith; alive = refl; free = refl }, record { session = refl; answered = refl })
+
+pub freed_runs : IsRun small freed
+freed_runs = run_more small start held_given (Free 0 2 0 Exclusive (120 ∷ 0 ∷ [])) held_given_runs (record { given = refl; entered = refl })
+
+pub granted_cut_runs : IsRun small granted_cut
+granted_cut_runs = run_more small start granted (Crash 0 2) granted_runs (record { opened = refl; no_less = omega arith; within = omega arith; low = omega arith })
+
+pub granted_told_runs : IsRun small granted_told
+granted_told_runs = run_more small start granted_cut (Told 0 0 2 2 2) granted_cut_runs (refl, record { its = refl; later = omega arith; place = refl })
+
+pub granted_back_runs : IsRun small granted_back
+granted_back_runs = run_more small start granted_told (Back 0) granted_told_runs (record { recovering = refl; told = refl; counted = refl; closes = refl })
+
+pub no_way_met_runs : IsRun small no_way_met
+no_way_met_runs = run_more small start no_way (Met 0 0 2) no_way_runs (refl, record { place = refl; synced = omega arith; entered = refl; behind = refl; fresh = refl; none = refl })
+
+pub no_way_issued_runs : IsRun small no_way_issued
+no_way_issued_runs = run_more small start no_way_met (Issue 0 5 0 1 (Op (Set (120 ∷ 0 ∷ []) (53 ∷ [])))) no_way_met_runs (record { known = omega arith; alive = refl; free = refl }, record { there = refl; unbroken = refl; next = refl; its = record { key_may = x_may; within = omega arith } })
+
+pub seen_runs : IsRun small seen
+seen_runs = run_more small start applied (Read 0 6 0 3 Fetched (Get (120 ∷ 0 ∷ []) (Some (53 ∷ [])))) applied_runs (record { known = omega arith; alive = refl; free = refl }, record { there = refl; no_less = omega arith; within = omega arith; answer = record { result = refl; by = refl; node = x_may } })
+
+pub seen_cut_runs : IsRun small seen_cut
+seen_cut_runs = run_more small start seen (Crash 0 2) seen_runs (record { opened = refl; no_less = omega arith; within = omega arith; low = omega arith })
+
+pub seen_told_runs : IsRun small seen_told
+seen_told_runs = run_more small start seen_cut (Told 0 0 2 2 2) seen_cut_runs (refl, record { its = refl; later = omega arith; place = refl })

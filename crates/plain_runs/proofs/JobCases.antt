@@ -18,6 +18,7 @@ use Rattle.plain_orders.specs.declared.question.Question.TheVariants.{Get, Data,
 use Rattle.plain_orders.specs.declared.refused.Refused.TheVariants.{NoTransaction, TooDeep, RollbackOnly, LockTimeout, Network}
 use Rattle.plain_orders.specs.declared.refused.ReasonName.TheVariants.{Reset, NoWay}
 use Rattle.plain_orders.specs.declared.refused.LinkName.TheVariants.{NotConnected, Recovery}
+use Rattle.subscript_keys.specs.Key.{text_bytes}
 use Rattle.plain_runs.specs.Plain.{start}
 use Rattle.plain_runs.specs.Fronts.{small, added_kept, barred, commit_issued, commit_kept, issued, kept, letter_kept, met, nines_kept, no_way, nothing, quitted, rollback_kept, updated_in, updated_lost}
 use Rattle.plain_runs.proofs.FrontRuns.{added_in_runs, added_kept_runs, app_broke_runs, applied_runs, barred_runs, commit_cut_saved_runs, commit_in_runs, commit_issued_runs, commit_kept_runs, cut_saved_runs, issued_runs, kept_runs, letter_kept_runs, level_one_runs, met_runs, met_cut_saved_runs, met_dead_runs, nines_kept_runs, no_way_runs, nothing_runs, quitted_runs, rollback_kept_runs, saved_runs, updated_runs, updated_in_runs, updated_lost_runs, used_no_way_runs}
@@ -46,22 +47,28 @@ issue_examples = (
 )
 
 pub read_examples : ReadExamples
+unfolding text_bytes
 read_examples = (
-  run_more small start kept (Read 0 6 0 3 Fetched (Get (120 ∷ 0 ∷ []) (Some (53 ∷ [])))) kept_runs ((record { known = omega arith; alive = refl; free = refl }, record { there = refl; no_less = omega arith; within = omega arith; answer = record { result = refl; by = refl } })),
-  run_more small start issued (Read 0 6 0 2 Own (Get (120 ∷ 0 ∷ []) (Some (53 ∷ [])))) issued_runs ((record { known = omega arith; alive = refl; free = refl }, record { there = refl; no_less = omega arith; within = omega arith; answer = record { result = refl; by = refl } })),
+  run_more small start kept (Read 0 6 0 3 Fetched (Get (120 ∷ 0 ∷ []) (Some (53 ∷ [])))) kept_runs ((record { known = omega arith; alive = refl; free = refl }, record { there = refl; no_less = omega arith; within = omega arith; answer = record { result = refl; by = refl; node = x_may } })),
+  run_more small start issued (Read 0 6 0 2 Own (Get (120 ∷ 0 ∷ []) (Some (53 ∷ [])))) issued_runs ((record { known = omega arith; alive = refl; free = refl }, record { there = refl; no_less = omega arith; within = omega arith; answer = record { result = refl; by = refl; node = x_may } })),
   (saved_runs, λ may. absurd (cc (may.1.there))),
   (kept_runs, λ may. omega (arith, may.1.no_less)),
   (kept_runs, λ may. omega (arith, may.1.within)),
   (kept_runs, λ may. absurd (cc (may.1.answer.result))),
   (kept_runs, λ may. absurd (cc (may.1.answer.by))),
-  run_more small start kept (Read 0 6 0 3 Cached (Data (120 ∷ 0 ∷ []) 1)) kept_runs ((record { known = omega arith; alive = refl; free = refl }, record { there = refl; no_less = omega arith; within = omega arith; answer = record { result = refl; by = refl; entered = refl } })),
+  run_more small start kept (Read 0 6 0 3 Cached (Data (120 ∷ 0 ∷ []) 1)) kept_runs ((record { known = omega arith; alive = refl; free = refl }, record { there = refl; no_less = omega arith; within = omega arith; answer = record { result = refl; by = refl; entered = refl; node = x_may } })),
   (kept_runs, λ may. omega (arith, may.1.answer.result)),
   (kept_runs, λ may. absurd (cc (may.1.answer.by))),
   (issued_runs, λ may. absurd (cc (may.1.answer.entered))),
-  run_more small start kept (Read 0 6 0 3 Cached (Next (120 ∷ 0 ∷ []) None None)) kept_runs ((record { known = omega arith; alive = refl; free = refl }, record { there = refl; no_less = omega arith; within = omega arith; answer = record { result = tt; by = refl; entered = refl } })),
+  run_more small start kept (Read 0 6 0 3 Cached (Next (120 ∷ 0 ∷ []) None None)) kept_runs ((record { known = omega arith; alive = refl; free = refl }, record { there = refl; no_less = omega arith; within = omega arith; answer = record { result = tt; by = refl; entered = refl; node = x_may } })),
   (kept_runs, λ may. may.1.answer.result),
   (kept_runs, λ may. absurd (cc (may.1.answer.by))),
   (issued_runs, λ may. absurd (cc (may.1.answer.entered))),
+  (kept_runs, λ may. no_empty_key (may.1.answer.node.is_key)),
+  (kept_runs, λ may. no_empty_key (may.1.answer.node.is_key)),
+  (met_runs, λ may. no_empty_key (may.1.answer.node.is_key)),
+  (kept_runs, λ may. omega (arith, may.1.answer.node.within)),
+  (kept_runs, λ may. omega (arith, may.1.answer.node.within)),
 )
 
 pub counted_examples : CountedExamples

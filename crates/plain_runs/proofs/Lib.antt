@@ -6,6 +6,7 @@ mod OrderCases
 mod EndCases
 mod LockCases
 mod JobCases
+mod ChangeCases
 pub mod Numbers
 pub mod Orders
 pub mod OrderLaws

@@ -6,6 +6,7 @@ use Rattle.plain_runs.specs.Plain.{start}
 use Rattle.plain_runs.specs.Fronts.{small, answered, both_held, closed_saved, given, granted, met, quitted}
 use Rattle.plain_runs.proofs.FrontRuns.{answered_runs, both_held_runs, closed_runs, closed_saved_runs, crashed_runs, given_runs, granted_runs, issued_quit_runs, met_runs, quitted_runs, saved_runs}
 use Rattle.plain_runs.proofs.RunLemmas.{run_more}
+use Rattle.plain_runs.proofs.FirstRun.{x_may, y_may, no_empty_key}
 use Rattle.plain_runs.specs.LockExamples.{ReleaseExamples, GrantExamples, GrantedExamples, GiveUpExamples, QuitExamples, FreeExamples}
 
 pub release_examples : ReleaseExamples
@@ -17,13 +18,14 @@ release_examples = (
 
 pub grant_examples : GrantExamples
 grant_examples = (
-  run_more small start met (Grant 0 2 0 Exclusive (120 ∷ 0 ∷ []) 2) met_runs (record { is_live = refl; up = refl; here = refl; free = refl }),
+  run_more small start met (Grant 0 2 0 Exclusive (120 ∷ 0 ∷ []) 2) met_runs (record { is_live = refl; up = refl; here = refl; free = refl; node = x_may }),
   (met_runs, λ may. absurd (cc (may.is_live))),
   (crashed_runs, λ may. absurd (cc (may.up))),
   (met_runs, λ may. omega (arith, may.here)),
   (both_held_runs, λ may. absurd (cc (may.free))),
-  run_more small start both_held (Grant 0 3 1 Exclusive (121 ∷ 0 ∷ []) 3) both_held_runs (record { is_live = refl; up = refl; here = refl; free = refl }),
-  run_more small start quitted (Grant 0 2 0 Exclusive (120 ∷ 0 ∷ []) 2) quitted_runs (record { is_live = refl; up = refl; here = refl; free = refl }),
+  run_more small start both_held (Grant 0 3 1 Exclusive (121 ∷ 0 ∷ []) 3) both_held_runs (record { is_live = refl; up = refl; here = refl; free = refl; node = y_may }),
+  run_more small start quitted (Grant 0 2 0 Exclusive (120 ∷ 0 ∷ []) 2) quitted_runs (record { is_live = refl; up = refl; here = refl; free = refl; node = x_may }),
+  (met_runs, λ may. no_empty_key (may.node.is_key)),
 )
 
 pub granted_examples : GrantedExamples
@@ -44,9 +46,10 @@ give_up_examples = (
 
 pub quit_examples : QuitExamples
 quit_examples = (
-  run_more small start met (Quit 0 5 0 Exclusive (120 ∷ 0 ∷ [])) met_runs ((record { known = omega arith; alive = refl; free = refl }, record { session = refl })),
-  run_more small start granted (Quit 0 5 0 Exclusive (120 ∷ 0 ∷ [])) granted_runs ((record { known = omega arith; alive = refl; free = refl }, record { session = refl })),
+  run_more small start met (Quit 0 5 0 Exclusive (120 ∷ 0 ∷ [])) met_runs ((record { known = omega arith; alive = refl; free = refl }, record { session = refl; node = x_may })),
+  run_more small start granted (Quit 0 5 0 Exclusive (120 ∷ 0 ∷ [])) granted_runs ((record { known = omega arith; alive = refl; free = refl }, record { session = refl; node = x_may })),
   (saved_runs, λ may. absurd (cc (may.1.session))),
+  (met_runs, λ may. no_empty_key (may.1.node.is_key)),
 )
 
 pub free_examples : FreeExamples

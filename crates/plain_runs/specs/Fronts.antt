@@ -33,6 +33,10 @@ nines_text = replicate 18 57
 abbrev pub long_key : List ℕ
 long_key = 120 ∷ 0 ∷ 64 ∷ replicate 496 97 ++ 0 ∷ 1 ∷ []
 
+-- a text of 496 bytes, whose key below ^x has 501
+abbrev pub long_text : List ℕ
+long_text = replicate 496 97
+
 -- a value of 3001 bytes
 abbrev pub long_value : List ℕ
 long_value = replicate 3001 97

@@ -11,7 +11,7 @@ use Rattle.plain_orders.specs.declared.refused.Refused.TheVariants.{NoTransactio
 use Rattle.plain_orders.specs.declared.refused.ReasonName.TheVariants.{Reset, NoWay}
 use Rattle.plain_orders.specs.declared.refused.LinkName.TheVariants.{NotConnected, Normal, Recovery}
 use Rattle.subscript_keys.specs.declared.sub.Sub.TheVariants.{Text}
-use Rattle.plain_runs.specs.Fronts.{Accepted, Refuses, long_key, long_value, added_in, added_kept, app_broke, applied, barred, commit_cut_saved, commit_in, commit_issued, commit_kept, cut_saved, issued, kept, letter_kept, level_one, met, met_cut_saved, met_dead, nines_kept, no_way, nothing, quitted, rollback_kept, saved, updated, updated_in, updated_lost, used_no_way}
+use Rattle.plain_runs.specs.Fronts.{Accepted, Refuses, long_key, long_text, long_value, added_in, added_kept, app_broke, applied, barred, commit_cut_saved, commit_in, commit_issued, commit_kept, cut_saved, issued, kept, letter_kept, level_one, met, met_cut_saved, met_dead, nines_kept, no_way, nothing, quitted, rollback_kept, saved, updated, updated_in, updated_lost, used_no_way}
 
 -- issue
 abbrev pub IssueExamples : Type 0
@@ -51,6 +51,11 @@ ReadExamples =
     × Refuses kept (Read 0 6 0 3 Cached (Next (120 ∷ 0 ∷ []) None (Some (Text (97 ∷ [])))))
     × Refuses kept (Read 0 6 0 3 Own (Next (120 ∷ 0 ∷ []) None None))
     × Refuses issued (Read 0 6 0 2 Cached (Next (120 ∷ 0 ∷ []) None None))
+    × Refuses kept (Read 0 6 0 3 Fetched (Get [] None))
+    × Refuses kept (Read 0 6 0 3 Cached (Data [] 10))
+    × Refuses met (Read 0 6 0 2 Cached (Next [] None None))
+    × Refuses kept (Read 0 6 0 3 Cached (Next long_key None None))
+    × Refuses kept (Read 0 6 0 3 Cached (Next (120 ∷ 0 ∷ []) (Some (Text long_text)) None))
 
 -- counted, notwhole and range
 abbrev pub CountedExamples : Type 0

@@ -8,6 +8,7 @@ use Rattle.plain_orders.specs.declared.item.Item.TheVariants.{Op, Commit, Rollba
 use Rattle.plain_orders.specs.declared.via.Via.{Via}
 use Rattle.plain_orders.specs.declared.via.Via.TheVariants.{Own, Cached, Fetched}
 use Rattle.subscript_keys.specs.declared.sub.Sub.{Sub}
+use Rattle.subscript_keys.specs.Key.{sub_bytes}
 use Rattle.plain_orders.specs.declared.question.Question.{Question}
 use Rattle.plain_orders.specs.declared.question.Question.TheVariants.{Get, Data, Next}
 use Rattle.plain_orders.specs.declared.layout.Layout.{Layout}
@@ -22,7 +23,7 @@ use Rattle.plain_orders.specs.declared.sum.Sum.{Sum}
 use Rattle.plain_orders.specs.Entries.{count, entry_at}
 use Rattle.plain_orders.specs.Answers.{data_on, IsNextOn, sum_at}
 use Rattle.plain_orders.specs.Own.{Issued, own, value_over, touches_own}
-use Rattle.plain_orders.specs.Ordered.{OpMay}
+use Rattle.plain_orders.specs.Ordered.{KeyMay, OpMay}
 use Rattle.plain_runs.specs.Plain.{Plain, Server, Known, Job, with_server, with_known, with_session, app_of, issued_in, pair_session, told_order}
 use Rattle.plain_runs.specs.Items.{entry_of, all_stand, w_of, is_change, is_add, is_update_of, is_end_at, ended_from}
 
@@ -45,7 +46,7 @@ has_session s app = is_some (s.pair_at app).session
 abbrev pub pair_issued : Server → ℕ → List Issued
 pair_issued s app = issued_in s (pair_session s app)
 
--- the transaction that an item is in, or 0
+-- the transaction that an item is in or ends, or 0
 abbrev pub txn_of : Job → Item → ℕ
 txn_of x (Op op) = if is_change (Op op) then (if x.level == 0 then 0 else x.txn) else 0
 txn_of x (Commit n) = n
@@ -80,22 +81,30 @@ is_own Fetched = false
 abbrev pub own_behind : Server → ℕ → ℕ → ℕ → List Operation
 own_behind s app job n = own (pair_issued s app) job (count (take n (told_order s app)) (pair_session s app))
 
--- a get sees the first n entries and then the job's own updates
+-- a get of a node sees the first n entries and then the job's own updates
 pub record GetIs (s : Server) (app job n : ℕ) (via : Via) (key : List ℕ) (value : Option (List ℕ)) : Type 0 where
   pub result : value ≡ value_over (take n (told_order s app)) (own_behind s app job n) key
   pub by : is_own via ≡ touches_own (own_behind s app job n) key
+  pub node : KeyMay key
 
 -- data wants that the job's own updates have entered
 pub record DataIs (s : Server) (app job n : ℕ) (via : Via) (key : List ℕ) (code : ℕ) : Type 0 where
   pub result : code ≡ data_on (take n (told_order s app)) key
   pub by : is_own via ≡ false
   pub entered : own_behind s app job n ≡ []
+  pub node : KeyMay key
+
+-- the node that a next asks for; an empty last subscript is left out
+abbrev pub asked_key : List ℕ → Option Sub → List ℕ
+asked_key parent None = parent
+asked_key parent (Some sub) = parent ++ sub_bytes sub
 
 -- so does next
 pub record NextIs (s : Server) (app job n : ℕ) (via : Via) (parent : List ℕ) (sub found : Option Sub) : Type 0 where
   pub result : IsNextOn (take n (told_order s app)) parent sub found
   pub by : is_own via ≡ false
   pub entered : own_behind s app job n ≡ []
+  pub node : KeyMay (asked_key parent sub)
 
 -- what a read is answered
 abbrev pub AnswerIs : Server → ℕ → ℕ → ℕ → Via → Question → Type 0
@@ -211,7 +220,7 @@ acts k = record k { acted = true; news = [] }
 abbrev pub acted : Server → ℕ → Server
 acted s job = with_known s job (acts (s.known_at job))
 
--- the same, and the job has seen this prefix, or at least this one
+-- the same, and the job has seen just this prefix
 abbrev pub sees : Server → ℕ → ℕ → Server
 sees s job n = with_known s job (record (acts (s.known_at job)) { seen = n })
 

@@ -10,7 +10,9 @@ pub mod Recording
 pub mod FirstRun
 pub mod Laws
 pub mod Fronts
+pub mod ChangeFronts
 pub mod OrderExamples
 pub mod EndExamples
 pub mod LockExamples
 pub mod JobExamples
+pub mod ChangeExamples

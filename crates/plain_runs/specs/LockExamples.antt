@@ -21,6 +21,7 @@ GrantExamples =
     × Refuses both_held (Grant 0 3 1 Exclusive (120 ∷ 0 ∷ []) 3)
     × Accepted both_held (Grant 0 3 1 Exclusive (121 ∷ 0 ∷ []) 3)
     × Accepted quitted (Grant 0 2 0 Exclusive (120 ∷ 0 ∷ []) 2)
+    × Refuses met (Grant 0 2 0 Exclusive [] 2)
 
 -- granted
 abbrev pub GrantedExamples : Type 0
@@ -44,6 +45,7 @@ QuitExamples =
     Accepted met (Quit 0 5 0 Exclusive (120 ∷ 0 ∷ []))
     × Accepted granted (Quit 0 5 0 Exclusive (120 ∷ 0 ∷ []))
     × Refuses saved (Quit 0 5 0 Exclusive (120 ∷ 0 ∷ []))
+    × Refuses met (Quit 0 5 0 Exclusive [])
 
 -- free
 abbrev pub FreeExamples : Type 0

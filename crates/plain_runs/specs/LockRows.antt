@@ -7,6 +7,7 @@ use Rattle.plain_orders.specs.declared.mode.Mode.{Mode}
 use Rattle.plain_orders.specs.declared.mode.Mode.TheVariants.{Exclusive, Shared}
 use Rattle.plain_orders.specs.Entries.{live, closed_by}
 use Rattle.plain_orders.specs.Conflict.{is_conflict}
+use Rattle.plain_orders.specs.Ordered.{KeyMay}
 use Rattle.plain_runs.specs.Plain.{Server, Job, Hold, Given, Quitted, pair_session, issued_in}
 use Rattle.plain_runs.specs.Items.{all_stand}
 use Rattle.plain_runs.specs.OrderRows.{is_sent, binds}
@@ -35,12 +36,13 @@ is_quit session job mode key q = (q.session == session && q.job == job) && (is_m
 abbrev pub opposes : ℕ → ℕ → Mode → List ℕ → Hold → Bool
 opposes session job mode key h = not (is_of session job h) && is_conflict h.mode h.key mode key
 
--- a lock is granted against no hold in force of another holder, while no round is due
+-- a lock on a node is granted against no hold in force of another holder, while no round is due
 pub record GrantMay (s : Server) (session job : ℕ) (mode : Mode) (key : List ℕ) (at : ℕ) : Type 0 where
   pub is_live : live s.order session ≡ true
   pub up : s.due ≡ None
   pub here : at ≡ length s.order
   pub free : list_any (λ h. binds h && opposes session job mode key h) s.holds ≡ false
+  pub node : KeyMay key
 
 -- a sent hold of this holder with this number
 abbrev pub is_sent_at : ℕ → ℕ → ℕ → Hold → Bool
@@ -69,9 +71,10 @@ pub record GiveUpMay (s : Server) (app job : ℕ) (mode : Mode) (key : List ℕ)
   pub session : has_session s app ≡ true
   pub answered : list_any (is_kept (pair_session s app) job mode key) s.holds ≡ true
 
--- a request is given up in the pair's session
-pub record QuitMay (s : Server) (app : ℕ) : Type 0 where
+-- a request for a node is given up in the pair's session
+pub record QuitMay (s : Server) (app : ℕ) (key : List ℕ) : Type 0 where
   pub session : has_session s app ≡ true
+  pub node : KeyMay key
 
 -- when a hold in force of this holder, node and mode was given up
 abbrev pub given_hold : ℕ → ℕ → Mode → List ℕ → Hold → Option Given

@@ -2,6 +2,7 @@ ghost use Rattle.plain_runs.specs.OrderExamples.{BackExamples, CrashExamples, En
 ghost use Rattle.plain_runs.specs.EndExamples.{BrokeExamples, FreeActExamples, LoseExamples, MendedExamples, MetExamples, ShutExamples, ToldExamples};
 ghost use Rattle.plain_runs.specs.LockExamples.{FreeExamples, GiveUpExamples, GrantExamples, GrantedExamples, QuitExamples, ReleaseExamples};
 ghost use Rattle.plain_runs.specs.JobExamples.{BarredExamples, CommittedExamples, CountedExamples, DoneExamples, IssueExamples, LevelExamples, ReachedExamples, ReadExamples, RefusedExamples, TooDeepExamples};
+ghost use Rattle.plain_runs.specs.ChangeExamples.{NewsExamples, RoomExamples, SeenExamples, UnclaimedExamples};
 
 /// Examples of opened.
 pub fn opened_examples()
@@ -146,4 +147,24 @@ pub fn refused_examples()
 /// Examples of a transaction that is too deep.
 pub fn too_deep_examples()
     ensures { TooDeepExamples }
+{}
+
+/// Examples of a release and of a free that make room for another lock.
+pub fn room_examples()
+    ensures { RoomExamples }
+{}
+
+/// Examples of a grant that was not answered, before and behind the end of a recovery round.
+pub fn unclaimed_examples()
+    ensures { UnclaimedExamples }
+{}
+
+/// Examples of a failed connect that a job is told of until it acts.
+pub fn news_examples()
+    ensures { NewsExamples }
+{}
+
+/// Examples of a read below what was seen, before and behind the news of an epoch.
+pub fn seen_examples()
+    ensures { SeenExamples }
 {}
