@@ -20,7 +20,7 @@ pub bytes-read : (s : List ℕ) → ((k : ℕ) → get_or s k 0 < 256) → AreBy
 bytes-read [] p = tt
 bytes-read (c ∷ s) p = (p 0, bytes-read s (λ k. let next : get_or (c ∷ s) (suc k) 0 < 256 = p (suc k) in next))
 
-unescaped-bytes : (t : List ℕ) → AreBytes (escaped t) → AreBytes t
+pub unescaped-bytes : (t : List ℕ) → AreBytes (escaped t) → AreBytes t
 unescaped-bytes [] p = tt
 unescaped-bytes (c ∷ t) p = elim (cases_eq c 0) [
   | inl e ↦ let q : AreBytes (0 ∷ 0xFF ∷ escaped t) = subst AreBytes (escaped-zero c t e) p in (omega arith, unescaped-bytes t q.1.1)

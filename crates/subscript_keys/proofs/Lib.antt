@@ -16,3 +16,7 @@ pub mod NumberTexts
 pub mod PlaceTurns
 pub mod Shortness
 pub mod TextReads
+pub mod PlaceReads
+pub mod NumberReads
+pub mod SubReads
+pub mod NodeReads

@@ -116,7 +116,7 @@ both-write d w f x last e =
     }
 
 -- the zeros that a list begins with
-zeros-in-front : (f : List ℕ) → AreDigits f → 0 < number_from_digits 10 f → replicate (length f - length (digits (number_from_digits 10 f))) 0 ++ digits (number_from_digits 10 f) ≡ f
+pub zeros-in-front : (f : List ℕ) → AreDigits f → 0 < number_from_digits 10 f → replicate (length f - length (digits (number_from_digits 10 f))) 0 ++ digits (number_from_digits 10 f) ≡ f
 zeros-in-front [] p h = absurd (omega arith)
 zeros-in-front (zero ∷ f) p h =
     let rest = zeros-in-front f p.1 h in

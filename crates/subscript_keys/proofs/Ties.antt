@@ -45,7 +45,7 @@ pub itself : (s : List ℕ) → slice_cmp nat_cmp s s ≡ Equal
 itself [] = refl
 itself (c ∷ s) = ap (λ o. ordering_then o (slice_cmp nat_cmp s s)) (nat_cmp-eq c c refl) ∙ itself s
 
-same-decimal : (a b : Decimal) → a.negative ≡ b.negative → a.exponent ≡ b.exponent → a.digits ≡ b.digits → a ≡ b
+pub same-decimal : (a b : Decimal) → a.negative ≡ b.negative → a.exponent ≡ b.exponent → a.digits ≡ b.digits → a ≡ b
 same-decimal a b e f g =
     ap (λ (v : Bool). let d : Decimal = record { negative = v; exponent = a.exponent; digits = a.digits } in d) e
     ∙ ap (λ (v : ℤ). let d : Decimal = record { negative = b.negative; exponent = v; digits = a.digits } in d) f

@@ -114,3 +114,7 @@ BeginsWithNoDigit (c ∷ cs) = (48 ≤ c) × (c ≤ 57) → ⊥
 -- the digits that characters write
 abbrev pub digits_read : List ℕ → List ℕ
 digits_read cs = map (λ c. c - 48) cs
+
+-- the first list begins with the second
+abbrev pub BeginsWith : List ℕ → List ℕ → Type 0
+BeginsWith whole front = take (length front) whole ≡ front

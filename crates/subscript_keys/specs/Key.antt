@@ -1,12 +1,12 @@
 -- Nodes and their keys.
-use Rattle.std.specs.Prelude.{◌≡◌, ◌≢◌, ◌⊎◌, ℕ, ◌+◌, ◌-◌, ◌<◌, ◌≤◌, ◌==◌, if◌then◌else◌, List, [], ◌∷◌, ◌++◌, map, length, ℤ, IsTrue}
+use Rattle.std.specs.Prelude.{◌≡◌, ◌≢◌, ◌⊎◌, ℕ, ◌+◌, ◌-◌, ◌<◌, ◌≤◌, ◌==◌, if◌then◌else◌, List, [], ◌∷◌, ◌++◌, map, length, ℤ, true, false, IsTrue}
 use Rattle.std.specs.List.{AllByRecursion}
 use Rattle.std.specs.Char.{is_ascii_alphabetic, is_ascii_alphanumeric}
 use Rattle.subscript_keys.specs.declared.decimal.Decimal.{Decimal}
 use Rattle.subscript_keys.specs.declared.sub.Sub.{Sub}
 use Rattle.subscript_keys.specs.declared.sub.Sub.TheVariants.{Num, Text}
 use Rattle.subscript_keys.specs.declared.node.Node.{Node}
-use Rattle.subscript_keys.specs.Decimal.{digits, plus, minus, IsDecimal, IsNumberText}
+use Rattle.subscript_keys.specs.Decimal.{digits, plus, minus, IsDecimal, IsShort, IsNumberText}
 
 -- a negative number: the tag 10, 40 minus x, 0A minus d for each digit d, 0B
 unfoldable pub negative_bytes : ℤ → List ℕ → List ℕ
@@ -94,3 +94,17 @@ ArePlaces bs = AllByRecursion (λ b. (1 ≤ b) × (b ≤ 10)) bs
 abbrev pub BeginsWithNoPlace : List ℕ → Type 0
 BeginsWithNoPlace [] = Unit {0}
 BeginsWithNoPlace (b ∷ bs) = (1 ≤ b) × (b ≤ 10) → ⊥
+
+-- the positive number that an exponent's byte and the bytes of digits stand for
+pub record IsPositive (d : Decimal) (exponent : ℕ) (places : List ℕ) : Type 0 where
+  pub short : IsShort d
+  pub sign : d.negative ≡ false
+  pub exponent_byte : plus 0x40 d.exponent ≡ exponent
+  pub digit_bytes : map (λ n. n + 1) (digits d.digits) ≡ places
+
+-- and the negative number
+pub record IsNegative (d : Decimal) (exponent : ℕ) (places : List ℕ) : Type 0 where
+  pub short : IsShort d
+  pub sign : d.negative ≡ true
+  pub exponent_byte : minus 0x40 d.exponent ≡ exponent
+  pub digit_bytes : map (λ n. 0x0A - n) (digits d.digits) ≡ places

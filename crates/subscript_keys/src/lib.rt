@@ -2,6 +2,7 @@
 #![tactic(auto)]
 
 mod decimal;
+mod decoder;
 mod digits;
 mod encoder;
 mod key_bytes;
@@ -18,6 +19,7 @@ mod pairs;
 mod run;
 mod span;
 mod sub;
+mod sub_reader;
 mod sub_text;
 mod sub_writer;
 mod subs;
@@ -26,6 +28,7 @@ mod tests;
 mod value_bytes;
 
 pub use decimal::Decimal;
+pub use decoder::decode;
 pub use encoder::encode;
 pub use key_bytes::KeyBytes;
 pub use key_error::KeyError;

@@ -70,7 +70,8 @@ fn number_of(parts: &NumberParts) -> Decimal
 }
 
 impl Decimal {
-    const ZERO: Decimal = Decimal {
+    /// The number 0.
+    pub const ZERO: Decimal = Decimal {
         negative: false,
         exponent: 0,
         digits: 0,

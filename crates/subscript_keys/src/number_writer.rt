@@ -1,5 +1,5 @@
-ghost use Rattle.std.specs.Prelude.{◌≡◌, ◌++◌, replicate, OnOk};
-ghost use Rattle.subscript_keys.specs.Decimal.{digits, whole_digits, fraction_digits, digit_text, fraction_text, decimal_text, IsDecimal, IsShort, IsNumberText};
+ghost use Rattle.std.specs.Prelude.{◌≡◌, ◌++◌, replicate, OnOk, OnErr};
+ghost use Rattle.subscript_keys.specs.Decimal.{digits, whole_digits, fraction_digits, digit_text, fraction_text, decimal_text, BeginsWith, IsDecimal, IsShort, IsNumberText};
 
 use crate::decimal::Decimal;
 use crate::digits::Digits;
@@ -8,7 +8,8 @@ use std::alloc::AllocError;
 
 /// Appends so many characters 0.
 fn put_zeros(to: &mut Vec<u8>, count: usize) -> Result<(), AllocError>
-    ensures { OnOk result (to.new.items ≡ to.old.items ++ digit_text (replicate count 0)) }
+    ensures ok { OnOk result (to.new.items ≡ to.old.items ++ digit_text (replicate count 0)) }
+    ensures front { BeginsWith to.new.items to.old.items }
 {
     for _zero in 0..count {
         to.push(b'0')?;
@@ -19,9 +20,10 @@ fn put_zeros(to: &mut Vec<u8>, count: usize) -> Result<(), AllocError>
 /// Appends the digits before the point, the point and the digits behind it.
 fn put_digits(to: &mut Vec<u8>, number: &Decimal) -> Result<(), AllocError>
     requires { IsShort number.now }
-    ensures { OnOk result (to.new.items ≡ to.old.items
+    ensures ok { OnOk result (to.new.items ≡ to.old.items
         ++ digit_text (whole_digits (digits number.now.digits) number.now.exponent)
         ++ fraction_text (fraction_digits (digits number.now.digits) number.now.exponent)) }
+    ensures front { BeginsWith to.new.items to.old.items }
 {
     let digits = Digits::of(number.digits);
     let digits = digits.as_slice();
@@ -41,22 +43,38 @@ fn put_digits(to: &mut Vec<u8>, number: &Decimal) -> Result<(), AllocError>
     put_raised(to, b'0', fraction)
 }
 
+/// Appends a number's canonical text. After an `Err` a part of it may stand there.
+#[tactic(auto, unfolding(crate::specs::Decimal::decimal_text))]
+fn put_number(to: &mut Vec<u8>, number: &Decimal) -> Result<(), AllocError>
+    requires { IsDecimal number.now }
+    ensures ok { OnOk result (to.new.items ≡ to.old.items ++ decimal_text number.now) }
+    ensures front { BeginsWith to.new.items to.old.items }
+{
+    if number.digits == 0 {
+        to.push(b'0')?;
+        return Ok(());
+    }
+    if number.negative {
+        to.push(b'-')?;
+        return put_digits(to, number);
+    }
+    put_digits(to, number)
+}
+
 impl Decimal {
-    /// Appends the number's one canonical text. After an `Err` a part of it may stand at the end.
-    #[tactic(auto, using(crate::proofs::NumberTexts::text_is_canonical), unfolding(crate::specs::Decimal::decimal_text))]
+    /// Appends the number's one canonical text.
+    #[tactic(auto, using(crate::proofs::NumberTexts::text_is_canonical))]
     pub fn write(&self, to: &mut Vec<u8>) -> Result<(), AllocError>
         requires { IsDecimal self.now }
         ensures ok { OnOk result (to.new.items ≡ to.old.items ++ decimal_text self.now) }
+        ensures err { OnErr result (to.new.items ≡ to.old.items) }
         ensures canonical { IsNumberText (decimal_text self.now) }
     {
-        if self.digits == 0 {
-            to.push(b'0')?;
-            return Ok(());
+        let length = to.len();
+        if let Err(error) = put_number(to, self) {
+            to.truncate(length);
+            return Err(error);
         }
-        if self.negative {
-            to.push(b'-')?;
-            return put_digits(to, self);
-        }
-        put_digits(to, self)
+        Ok(())
     }
 }

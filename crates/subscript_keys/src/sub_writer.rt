@@ -1,6 +1,6 @@
 ghost use Rattle.std.specs.Prelude.{◌≡◌, ◌++◌, ◌+◌, ◌-◌, ◌<◌, map, ℤ, pos, negsuc, ◌≤ℤ◌, OnOk};
 ghost use Rattle.std.specs.List.{AllByRecursion};
-ghost use Rattle.subscript_keys.specs.Decimal.{plus, minus, digits, AreDigits, IsDecimal, IsShort};
+ghost use Rattle.subscript_keys.specs.Decimal.{plus, minus, digits, AreDigits, BeginsWith, IsDecimal, IsShort};
 ghost use Rattle.subscript_keys.specs.Key.{decimal_bytes, negative_bytes, positive_bytes, escaped, text_bytes, sub_bytes, subs_bytes, HasForm};
 
 use crate::decimal::Decimal;
@@ -8,11 +8,12 @@ use crate::digits::Digits;
 use crate::sub::Sub;
 use std::alloc::AllocError;
 
-/// Appends each digit and `by` more.
+/// Appends each digit and `by` more. After an `Err` a part of them may stand there.
 pub fn put_raised(to: &mut Vec<u8>, by: u8, places: &[u8]) -> Result<(), AllocError>
     requires places { AreDigits places.now }
     requires by { by < 200 }
-    ensures { OnOk result (to.new.items ≡ to.old.items ++ map (λ d. d + by) places.now) }
+    ensures ok { OnOk result (to.new.items ≡ to.old.items ++ map (λ d. d + by) places.now) }
+    ensures front { BeginsWith to.new.items to.old.items }
 {
     for place in places {
         to.push(*place + by)?;

@@ -1,7 +1,7 @@
 ghost use Rattle.std.specs.Prelude.{IfOk};
 ghost use Rattle.subscript_keys.specs.Key.{HasForm};
 
-use crate::{Decimal, KeyBytes, KeyError, Name, Node, Span, Sub, SubText, Subs, encode};
+use crate::{Decimal, KeyBytes, KeyError, Name, Node, Span, Sub, SubText, Subs, decode, encode};
 use std::alloc::{AllocError, Global};
 
 /// Numbers of one digit and of two, and of eighteen, in rising order.
@@ -94,6 +94,96 @@ fn keys_have_the_bytes_of_the_format(rt: HostRuntime) {
     for (text, want) in table {
         let key = key_of_sub(rt.alloc(), text).expect(&rt, "memory");
         assert_eq!(rt; key.as_slice(), want, "{text:?}");
+        let node = decode(rt.alloc(), want).expect(&rt, "a node's key");
+        let sub = sub_of(rt.alloc(), text).expect(&rt, "memory");
+        assert_eq!(rt;
+            node.name.as_slice(),
+            b"x".as_slice(),
+            "the name beside {text:?}"
+        );
+        assert!(rt;
+            matches!(node.subs.as_slice(), [read] if *read == sub),
+            "{text:?} is read back"
+        );
+    }
+}
+
+/// How many subscripts the node has that has this key; none where no node has it.
+fn subs_read(alloc: Global, key: &[u8]) -> Result<Option<usize>, KeyError> {
+    match decode(alloc, key) {
+        Ok(node) => Ok(Some(node.subs.as_slice().len())),
+        Err(KeyError::NotAKey) => Ok(None),
+        Err(error) => Err(error),
+    }
+}
+
+/// The key of ^x(-1.5,"a\00b").
+const TWO_SUBS: [u8; 14] = [
+    0x78, 0x00, 0x10, 0x3F, 0x09, 0x05, 0x0B, 0x40, 0x61, 0x00, 0xFF, 0x62, 0x00, 0x01,
+];
+
+#[test]
+fn a_front_of_a_key_is_one_only_behind_the_name_or_a_subscript(rt: HostRuntime) {
+    for length in 0..=TWO_SUBS.len() {
+        let (front, _) = TWO_SUBS.split_at(length);
+        let want = match length {
+            2 => Some(0),
+            7 => Some(1),
+            14 => Some(2),
+            _ => None,
+        };
+        let read = subs_read(rt.alloc(), front).expect(&rt, "memory");
+        assert!(rt; read == want, "{front:?}");
+    }
+}
+
+#[test]
+fn a_key_with_a_byte_changed_is_read_as_the_format_has_it(rt: HostRuntime) {
+    let table: [(&[u8], bool); 26] = [
+        // the name of ^x(-1.5)
+        (&[0x41, 0x00, 0x10, 0x3F, 0x09, 0x05, 0x0B], true),
+        (&[0x30, 0x00, 0x10, 0x3F, 0x09, 0x05, 0x0B], false),
+        (&[0x00, 0x00, 0x10, 0x3F, 0x09, 0x05, 0x0B], false),
+        (&[0x78, 0x61, 0x10, 0x3F, 0x09, 0x05, 0x0B], false),
+        // its tag
+        (&[0x78, 0x00, 0x0F, 0x3F, 0x09, 0x05, 0x0B], false),
+        (&[0x78, 0x00, 0x20, 0x3F, 0x09, 0x05, 0x0B], false),
+        (&[0x78, 0x00, 0x30, 0x3F, 0x09, 0x05, 0x0B], false),
+        (&[0x78, 0x00, 0x40, 0x3F, 0x09, 0x05, 0x0B], false),
+        // its exponent: 19, 18, -16 and -17
+        (&[0x78, 0x00, 0x10, 0x2D, 0x09, 0x05, 0x0B], false),
+        (&[0x78, 0x00, 0x10, 0x2E, 0x09, 0x05, 0x0B], true),
+        (&[0x78, 0x00, 0x10, 0x50, 0x09, 0x05, 0x0B], true),
+        (&[0x78, 0x00, 0x10, 0x51, 0x09, 0x05, 0x0B], false),
+        // its digits: 9, 0, none, a last 0, one
+        (&[0x78, 0x00, 0x10, 0x3F, 0x01, 0x05, 0x0B], true),
+        (&[0x78, 0x00, 0x10, 0x3F, 0x0A, 0x05, 0x0B], false),
+        (&[0x78, 0x00, 0x10, 0x3F, 0x0B, 0x05, 0x0B], false),
+        (&[0x78, 0x00, 0x10, 0x3F, 0x09, 0x0A, 0x0B], false),
+        (&[0x78, 0x00, 0x10, 0x3F, 0x09, 0x0B, 0x0B], false),
+        // its end
+        (&[0x78, 0x00, 0x10, 0x3F, 0x09, 0x05, 0x00], false),
+        // ^x("02"), ^x("12"), which is the number 12, ^x(""), and ends of a text
+        (&[0x78, 0x00, 0x40, 0x30, 0x32, 0x00, 0x01], true),
+        (&[0x78, 0x00, 0x40, 0x31, 0x32, 0x00, 0x01], false),
+        (&[0x78, 0x00, 0x40, 0x00, 0x01], false),
+        (&[0x78, 0x00, 0x40, 0x30, 0x32, 0x00, 0x02], false),
+        (&[0x78, 0x00, 0x40, 0x30, 0x32, 0x00, 0xFF], false),
+        (&[0x78, 0x00, 0x40, 0x41], false),
+        // the digits of 18 and of 19 ones
+        (
+            b"x\x00\x30\x52\x02\x02\x02\x02\x02\x02\x02\x02\x02\x02\x02\x02\x02\x02\x02\x02\x02\x02\x00",
+            true,
+        ),
+        (
+            b"x\x00\x30\x52\x02\x02\x02\x02\x02\x02\x02\x02\x02\x02\x02\x02\x02\x02\x02\x02\x02\x02\x02\x00",
+            false,
+        ),
+    ];
+    for (key, is_key) in table {
+        let read = subs_read(rt.alloc(), key).expect(&rt, "memory");
+        let want = if is_key { Some(1) } else { None };
+        assert!(rt; read == want, "{key:?}");
     }
 }
 
