@@ -13,7 +13,7 @@ use Rattle.plain_orders.specs.Fold.{fold, op_after}
 -- an item that a job issued in a session; its running number is its place in the session's list, from 1
 pub record Issued : Type 0 where
   pub item : its.Item
-  -- the transaction of a Set or Kill, else 0
+  -- the transaction that a Set or Kill is in or that a Commit or Rollback ends, else 0
   pub txn : ℕ
   pub job : ℕ
   pub line : ℕ
