@@ -74,18 +74,3 @@ OrderedFrom before (e ∷ es) = MayFollow before e × OrderedFrom (before ++ e �
 -- a list is ordered
 abbrev pub IsOrdered : List Entry → Type 0
 IsOrdered es = OrderedFrom [] es
-
--- an operation's key is that of a node, of whatever length
-abbrev pub OpHasKey : Op → Type 0
-OpHasKey (Set key value) = IsKey key
-OpHasKey (Kill key) = IsKey key
-OpHasKey (Add key amount) = IsKey key
-
--- an Update's key is that of a node; other entries have none
-abbrev pub HasKey : Entry → Type 0
-HasKey (Epoch number) = Unit {0}
-HasKey (Opened session app) = Unit {0}
-HasKey (Closed session) = Unit {0}
-HasKey (Update session w job txn op) = OpHasKey op
-HasKey (Commit session w job txn) = Unit {0}
-HasKey (Rollback session w job txn) = Unit {0}

@@ -1,6 +1,6 @@
 ghost use Rattle.std.specs.Prelude.{◌≡◌, ◌+◌, ◌↔◌, ◌++◌, ◌∷◌, [], IsTrue, IfOk, OnErr, if◌then◌else◌};
 ghost use Rattle.plain_orders.specs.Entries.{count};
-ghost use Rattle.plain_orders.specs.Ordered.{EpochMay, OpenMay, EndMay, UpdateMay, MayFollow, IsOrdered, OpHasKey, HasKey};
+ghost use Rattle.plain_orders.specs.Ordered.{EpochMay, OpenMay, EndMay, UpdateMay, MayFollow, IsOrdered};
 
 use crate::entry::Entry;
 use crate::limits::op_may;
@@ -35,11 +35,23 @@ fn is_next(entries: &[Entry], session: u64, w: u64) -> bool
 }
 
 /// Whether an Update may follow.
-fn update_may(entries: &[Entry], session: u64, w: u64, txn: u32, op: &Op) -> bool
-    requires { OpHasKey op.now }
-    ensures { IsTrue result ↔ UpdateMay entries.now session w txn op.now }
+fn update_may(
+    alloc: Global,
+    entries: &[Entry],
+    session: u64,
+    w: u64,
+    txn: u32,
+    op: &Op,
+) -> Result<bool, AllocError>
+    ensures { IfOk result (λ may. IsTrue may ↔ UpdateMay entries.now session w txn op.now) }
 {
-    is_live(entries, session) && is_next(entries, session, w) && op_may(txn, op)
+    if !is_live(entries, session) {
+        return Ok(false);
+    }
+    if !is_next(entries, session, w) {
+        return Ok(false);
+    }
+    op_may(alloc, txn, op)
 }
 
 /// Whether a Commit or Rollback may follow.
@@ -50,21 +62,20 @@ fn end_may(entries: &[Entry], w: u64, name: TransactionName) -> bool
 }
 
 /// Whether the entry may follow these.
-fn may_follow(entries: &[Entry], entry: &Entry) -> bool
-    requires { HasKey entry.now }
-    ensures { IsTrue result ↔ MayFollow entries.now entry.now }
+fn may_follow(alloc: Global, entries: &[Entry], entry: &Entry) -> Result<bool, AllocError>
+    ensures { IfOk result (λ may. IsTrue may ↔ MayFollow entries.now entry.now) }
 {
     match entry {
-        Entry::Epoch { number } => epoch_may(entries, *number),
-        Entry::Opened { session, app } => open_may(entries, *session, *app),
-        Entry::Closed { session } => is_live(entries, *session),
+        Entry::Epoch { number } => Ok(epoch_may(entries, *number)),
+        Entry::Opened { session, app } => Ok(open_may(entries, *session, *app)),
+        Entry::Closed { session } => Ok(is_live(entries, *session)),
         Entry::Update {
             session,
             w,
             txn,
             op,
             ..
-        } => update_may(entries, *session, *w, *txn, op),
+        } => update_may(alloc, entries, *session, *w, *txn, op),
         Entry::Commit {
             session,
             w,
@@ -82,7 +93,7 @@ fn may_follow(entries: &[Entry], entry: &Entry) -> bool
                 job: *job,
                 txn: *txn,
             };
-            end_may(entries, *w, name)
+            Ok(end_may(entries, *w, name))
         }
     }
 }
@@ -115,15 +126,14 @@ impl OrderCheck {
         }
     }
 
-    /// Takes an entry with a node's key, or with none, where the entries taken so far and this one are
-    /// an ordered list, and tells whether they are. Else, and where memory is wanting, nothing changes.
-    pub fn next_of_key(&mut self, entry: &Entry) -> Result<bool, AllocError>
-        requires { HasKey entry.now }
+    /// Takes the entry where the entries taken so far and this one are an ordered list, and tells
+    /// whether they are. Else, and where memory is wanting, nothing changes.
+    pub fn next(&mut self, alloc: Global, entry: &Entry) -> Result<bool, AllocError>
         ensures exact { IfOk result (λ took. IsTrue took ↔ IsOrdered (self.old ++ entry.now ∷ [])) }
         ensures taken { IfOk result (λ took. self.new ≡ (if took then self.old ++ entry.now ∷ [] else self.old)) }
         ensures err { OnErr result (self.new ≡ self.old) }
     {
-        if !may_follow(&self.entries, entry) {
+        if !may_follow(alloc, &self.entries, entry)? {
             return Ok(false);
         }
         self.entries.push(entry.clone()?)?;

@@ -1,5 +1,4 @@
 ghost use Rattle.std.specs.Prelude.{IfOk};
-ghost use Rattle.plain_orders.specs.Ordered.{HasKey};
 ghost use Rattle.plain_orders.specs.Spans.{IsAlone};
 
 use super::*;
@@ -112,34 +111,35 @@ fn an_update_touches_spans(rt: HostRuntime) -> Result<(), Fail> {
     Ok(())
 }
 
-/// An entry with no key.
+/// An entry to be taken; the Kill is session 2's first item.
 #[derive(Clone, Copy)]
 enum Step {
     Epoch(u32),
     Open(u64, u8),
     Close(u64),
+    Kill(&'static [u8]),
     Commit(u64, u64),
 }
 
-fn entry(step: Step) -> Entry
-    ensures { HasKey result }
-{
-    match step {
+fn entry(alloc: Global, step: Step) -> Result<Entry, AllocError> {
+    Ok(match step {
         Step::Epoch(number) => Entry::Epoch { number },
         Step::Open(session, app) => Entry::Opened { session, app },
         Step::Close(session) => Entry::Closed { session },
+        Step::Kill(node) => update(alloc, node, Change::Kill)?,
         Step::Commit(session, w) => Entry::Commit {
             session,
             w,
             job: 0,
             txn: 1,
         },
-    }
+    })
 }
 
 #[test]
 fn an_order_takes_what_may_follow(rt: HostRuntime) -> Result<(), Fail> {
-    let mut check = OrderCheck::new(rt.alloc());
+    let alloc = rt.alloc();
+    let mut check = OrderCheck::new(alloc);
     let rows = [
         (Step::Open(1, 0), false),
         (Step::Epoch(2), false),
@@ -149,14 +149,18 @@ fn an_order_takes_what_may_follow(rt: HostRuntime) -> Result<(), Fail> {
         (Step::Open(4, 1), false),
         (Step::Open(3, 1), true),
         (Step::Commit(2, 1), false),
+        (Step::Kill(b"A"), false),
+        (Step::Kill(b"120"), false),
+        (Step::Kill(A_1), true),
+        (Step::Kill(A_1), false),
         (Step::Close(2), true),
         (Step::Close(2), false),
-        (Step::Open(5, 0), true),
+        (Step::Open(6, 0), true),
         (Step::Epoch(3), false),
         (Step::Epoch(2), true),
     ];
     for (step, want) in rows {
-        assert_eq!(rt; check.next_of_key(&entry(step))?, want);
+        assert_eq!(rt; check.next(alloc, &entry(alloc, step)?)?, want);
     }
     Ok(())
 }

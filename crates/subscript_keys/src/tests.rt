@@ -4,51 +4,103 @@ ghost use Rattle.subscript_keys.specs.Key.{HasForm};
 use crate::{Decimal, KeyBytes, KeyError, Name, Node, Span, Sub, SubText, Subs, decode, encode};
 use std::alloc::{AllocError, Global};
 
-/// Numbers of one digit and of two, and of eighteen, in rising order.
-const RISING: [&[u8]; 44] = [
+/// Numbers of one digit, of two and of eighteen at every exponent that has them, in rising order.
+const RISING: [&[u8]; 96] = [
     b".000000000000000001",
     b".00000000000000001",
     b".000000000000000012",
     b".0000000000000001",
+    b".00000000000000012",
     b".000000000000001",
+    b".0000000000000012",
     b".00000000000001",
+    b".000000000000012",
     b".0000000000001",
+    b".00000000000012",
     b".000000000001",
+    b".0000000000012",
     b".00000000001",
+    b".000000000012",
     b".0000000001",
+    b".00000000012",
     b".000000001",
+    b".0000000012",
     b".00000001",
+    b".000000012",
     b".0000001",
+    b".00000012",
     b".000001",
+    b".0000012",
     b".00001",
+    b".000012",
     b".0001",
+    b".00012",
     b".001",
+    b".0012",
     b".01",
+    b".012",
     b".1",
+    b".12",
     b".123456789012345678",
     b".5",
+    b".999999999999999999",
     b"1",
-    b"1.00000000000000001",
+    b"1.2",
+    b"1.23456789012345678",
     b"2",
+    b"5",
     b"9.9",
     b"10",
+    b"12",
+    b"12.3456789012345678",
     b"100",
+    b"120",
+    b"123.456789012345678",
     b"1000",
+    b"1200",
+    b"1234.56789012345678",
     b"10000",
+    b"12000",
+    b"12345.6789012345678",
     b"100000",
+    b"120000",
+    b"123456.789012345678",
     b"1000000",
+    b"1200000",
+    b"1234567.89012345678",
     b"10000000",
+    b"12000000",
+    b"12345678.9012345678",
     b"100000000",
+    b"120000000",
+    b"123456789.012345678",
     b"1000000000",
+    b"1200000000",
+    b"1234567890.12345678",
     b"10000000000",
+    b"12000000000",
+    b"12345678901.2345678",
     b"100000000000",
+    b"120000000000",
+    b"123456789012.345678",
     b"1000000000000",
+    b"1200000000000",
+    b"1234567890123.45678",
     b"10000000000000",
+    b"12000000000000",
+    b"12345678901234.5678",
     b"100000000000000",
+    b"120000000000000",
+    b"123456789012345.678",
     b"1000000000000000",
+    b"1200000000000000",
+    b"1234567890123456.78",
     b"10000000000000000",
+    b"12000000000000000",
+    b"12345678901234567.8",
     b"100000000000000000",
     b"120000000000000000",
+    b"123456789012345678",
     b"999999999999999999",
 ];
 
@@ -205,6 +257,13 @@ fn subscripts_past_the_limits_are_refused(rt: HostRuntime) {
     );
 }
 
+/// The text with a minus sign in front.
+fn negated(alloc: Global, text: &[u8]) -> Result<Vec<u8>, AllocError> {
+    let mut negative = Vec::from_slice(alloc, b"-")?;
+    negative.extend_from_slice(text)?;
+    Ok(negative)
+}
+
 #[test]
 fn numbers_stand_by_value_and_before_texts(rt: HostRuntime) {
     for pair in RISING.windows(2) {
@@ -216,10 +275,32 @@ fn numbers_stand_by_value_and_before_texts(rt: HostRuntime) {
                 below.as_slice().get(2) == Some(&0x30),
                 "{less:?} is a number"
             );
+            let minus_less = negated(rt.alloc(), less).expect(&rt, "memory");
+            let minus_more = negated(rt.alloc(), more).expect(&rt, "memory");
+            let below = key_of_sub(rt.alloc(), &minus_more).expect(&rt, "memory");
+            let above = key_of_sub(rt.alloc(), &minus_less).expect(&rt, "memory");
+            assert!(rt; below < above, "{minus_more:?} before {minus_less:?}");
+            assert!(rt;
+                above.as_slice().get(2) == Some(&0x10),
+                "{minus_less:?} is a number"
+            );
         }
     }
-    let mixed: [&[u8]; 10] = [
-        b"-10", b"-1.5", b"-.5", b"0", b".5", b"2", b"10", b"02", b"A", b"a",
+    let mixed: [&[u8]; 14] = [
+        b"-999999999999999999",
+        b"-10",
+        b"-1.5",
+        b"-.5",
+        b"-.000000000000000001",
+        b"0",
+        b".000000000000000001",
+        b".5",
+        b"2",
+        b"10",
+        b"999999999999999999",
+        b"02",
+        b"A",
+        b"a",
     ];
     for pair in mixed.windows(2) {
         if let [less, more] = pair {
@@ -237,6 +318,11 @@ fn texts_of_numbers_are_read_and_written(rt: HostRuntime) {
         let mut written = Vec::new(rt.alloc());
         number.write(&mut written).expect(&rt, "memory");
         assert_eq!(rt; written.as_slice(), text, "the text again");
+        let negative = negated(rt.alloc(), text).expect(&rt, "memory");
+        let number = Decimal::read(&negative).expect(&rt, "a canonical number");
+        let mut written = Vec::new(rt.alloc());
+        number.write(&mut written).expect(&rt, "memory");
+        assert_eq!(rt; written, negative, "the negative text again");
     }
     let others: [&[u8]; 12] = [
         b"",
