@@ -74,7 +74,7 @@ opens_low k (x ∷ es) s p o = go (is_open s x) refl (opens_low (k + 1) es s p.1
     go true e f h = omega (arith, open_here k x s p.0 e)
     go false e f h = omega (arith, f h)
 
-live_low : (es : List Entry) (s : ℕ) → PlacedFrom 0 es → live es s ≡ true → s ≤ length es
+pub live_low : (es : List Entry) (s : ℕ) → PlacedFrom 0 es → live es s ≡ true → s ≤ length es
 live_low es s p l = omega (arith, opens_low 0 es s p (live_opens es s l))
 
 item_here : (k : ℕ) (e : Entry) (n : ℕ) → PlacedAt k e → is_item_of n e ≡ true → n ≤ k
@@ -137,7 +137,7 @@ pub record IssuedKept (v : View) : Type 0 where
   pub met : (n : ℕ) → is_some (v.ses n) ≡ true → is_some (v.ent n) ≡ true
   pub as_issued : Each (AsIssued v.ses v.ent) v.order
 
-abbrev IssuedSteps : Server → Server → Type 0
+abbrev pub IssuedSteps : Server → Server → Type 0
 IssuedSteps s t = IssuedKept (view s) → IssuedKept (view t)
 
 issued_same : (s : Server) → IssuedSteps s s
@@ -285,7 +285,7 @@ refused_steps p j RollbackOnly e = issued_same (p.server_at e)
 refused_steps p j LockTimeout e = issued_same (p.server_at e)
 refused_steps p j (Network d state reason) e = at_put IssuedSteps p.server_at d _ issued_same (issued_same (p.server_at d)) e
 
-row_steps : (l : Layout) (p : Plain) (a : Act) → MayCome l p a → (e : ℕ) → IssuedSteps (p.server_at e) ((after l p a).server_at e)
+pub row_steps : (l : Layout) (p : Plain) (a : Act) → MayCome l p a → (e : ℕ) → IssuedSteps (p.server_at e) ((after l p a).server_at e)
 row_steps l p (Opened d entries) may e = at_put IssuedSteps p.server_at d _ issued_same (opened_steps p.clock l.times.round (p.server_at d) entries may) e
 row_steps l p (Enter d x) may e = at_put IssuedSteps p.server_at d _ issued_same (enter_steps (p.server_at d) x may) e
 row_steps l p (Synced d n) may e = at_put IssuedSteps p.server_at d _ issued_same (issued_same (p.server_at d)) e

@@ -17,3 +17,6 @@ pub mod LockRows
 pub mod Pairs
 pub mod LockLaws
 pub mod Issued
+pub mod Bases
+pub mod SeenTold
+pub mod SeenLaw

@@ -23,15 +23,15 @@ use Rattle.plain_runs.proofs.Lists.{both_ways, any_take, any_wider, opens, is_op
 use Rattle.plain_runs.proofs.HoldRows.{HoldKept, IssuedGrows, issued_of, grow_hold, sent_facts, of_facts, answer_hold, give_hold, free_hold, back_hold, release_hold, crash_hold}
 
 -- lists of holds, changed one by one
-each_map : (P Q : Hold → Type 0) (f : Hold → Hold) → ((h : Hold) → P h → Q (f h)) → (hs : List Hold) → Each P hs → Each Q (map f hs)
+pub each_map : (P Q : Hold → Type 0) (f : Hold → Hold) → ((h : Hold) → P h → Q (f h)) → (hs : List Hold) → Each P hs → Each Q (map f hs)
 each_map P Q f step [] e = tt
 each_map P Q f step (h ∷ hs) e = (step h e.0, each_map P Q f step hs e.1)
 
-each_weaker : {X : Type 0} (P Q : X → Type 0) → ((x : X) → P x → Q x) → (xs : List X) → Each P xs → Each Q xs
+pub each_weaker : {X : Type 0} (P Q : X → Type 0) → ((x : X) → P x → Q x) → (xs : List X) → Each P xs → Each Q xs
 each_weaker P Q f [] e = tt
 each_weaker P Q f (x ∷ xs) e = (f x e.0, each_weaker P Q f xs e.1)
 
-each_push : {X : Type 0} (P : X → Type 0) (xs : List X) (x : X) → Each P xs → P x → Each P (xs ++ x ∷ [])
+pub each_push : {X : Type 0} (P : X → Type 0) (xs : List X) (x : X) → Each P xs → P x → Each P (xs ++ x ∷ [])
 each_push P [] x e p = (p, tt)
 each_push P (y ∷ xs) x e p = (e.0, each_push P xs x e.1 p)
 
@@ -43,7 +43,7 @@ each_filter P t (x ∷ xs) e = go (t x) (each_filter P t xs e.1)
     go true r = (e.0, r)
     go false r = r
 
-each_first : (P : Hold → Type 0) (p : Hold → Bool) (f : Hold → Hold) → ((h : Hold) → p h ≡ true → P h → P (f h)) → (hs : List Hold) → Each P hs → Each P (change_first p f hs)
+pub each_first : (P : Hold → Type 0) (p : Hold → Bool) (f : Hold → Hold) → ((h : Hold) → p h ≡ true → P h → P (f h)) → (hs : List Hold) → Each P hs → Each P (change_first p f hs)
 each_first P p f step [] e = tt
 each_first P p f step (h ∷ hs) e = go (p h) refl (each_first P p f step hs e.1)
   where
@@ -51,7 +51,7 @@ each_first P p f step (h ∷ hs) e = go (p h) refl (each_first P p f step hs e.1
     go true is r = (step h is e.0, e.1)
     go false is r = (e.0, r)
 
-each_last : (P : Hold → Type 0) (p : Hold → Bool) (f : Hold → Hold) → ((h : Hold) → p h ≡ true → P h → P (f h)) → (hs : List Hold) → Each P hs → Each P (change_last p f hs)
+pub each_last : (P : Hold → Type 0) (p : Hold → Bool) (f : Hold → Hold) → ((h : Hold) → p h ≡ true → P h → P (f h)) → (hs : List Hold) → Each P hs → Each P (change_last p f hs)
 each_last P p f step [] e = tt
 each_last P p f step (h ∷ hs) e = go (list_any p hs) (p h) refl (each_last P p f step hs e.1)
   where

@@ -10,11 +10,12 @@ use Rattle.plain_orders.specs.declared.entry.Entry.TheVariants.{Epoch}
 use Rattle.plain_orders.specs.Entries.{last_epoch}
 use Rattle.plain_orders.specs.Entries.{closed_by}
 use Rattle.plain_orders.specs.Conflict.{is_conflict}
-use Rattle.plain_runs.specs.Plain.{Plain, Server, Hold, Given, current, order_at, issued_in}
+use Rattle.plain_runs.specs.Plain.{Plain, Server, Hold, Given, current, order_at, issued_in, app_of, told_order}
 use Rattle.plain_runs.specs.Items.{numbers, all_stand, entry_of, w_of, is_item_of}
 use Rattle.plain_orders.specs.Own.{Issued}
 use Rattle.std.specs.Option.{option_map}
 use Rattle.plain_runs.specs.OrderRows.{binds}
+use Rattle.plain_runs.specs.JobRows.{has_session}
 use Rattle.plain_runs.specs.Step.{MayCome, after}
 use Rattle.plain_runs.specs.Run.{IsRun, state_after}
 
@@ -182,3 +183,10 @@ abbrev pub ItemsWereIssued : Type 0
 ItemsWereIssued =
     (layout : Layout) (acts : List Act) (d i n : ℕ) (e : Entry) → IsRun layout acts → is_some ((server_after layout acts d).session_at n) ≡ true
     → slice_get (server_after layout acts d).order i ≡ Some e → is_item_of n e ≡ true → StandsAsIssued (issued_in (server_after layout acts d) n) n e
+
+-- What a job has seen is within the order that its pair's session is told of.
+abbrev pub SeenIsTold : Type 0
+SeenIsTold =
+    (layout : Layout) (acts : List Act) (d j : ℕ) → IsRun layout acts → j < length layout.job_apps
+    → has_session (server_after layout acts d) (app_of layout j) ≡ true
+    → ((server_after layout acts d).known_at j).seen ≤ length (told_order (server_after layout acts d) (app_of layout j))

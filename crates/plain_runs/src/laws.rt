@@ -1,5 +1,5 @@
 ghost use Rattle.plain_runs.specs.FirstRun.{FirstRunIsRun};
-ghost use Rattle.plain_runs.specs.Laws.{Extended, Framed, ItemsInOrder, ItemsWereIssued, NeighboursAgree, NoConflict, SeenNeverFalls, Settled, SyncedStays};
+ghost use Rattle.plain_runs.specs.Laws.{Extended, Framed, ItemsInOrder, ItemsWereIssued, NeighboursAgree, NoConflict, SeenIsTold, SeenNeverFalls, Settled, SyncedStays};
 
 /// The trail of the worked first run is a run.
 pub fn first_run_is_run()
@@ -49,4 +49,9 @@ pub fn what_no_longer_binds_is_handed_over()
 /// Each item of a session that was met stands in the order as it was issued with its number.
 pub fn items_stand_as_they_were_issued()
     ensures { ItemsWereIssued }
+{}
+
+/// What a job has seen is within the order that its pair's session is told of.
+pub fn what_is_seen_was_told()
+    ensures { SeenIsTold }
 {}
