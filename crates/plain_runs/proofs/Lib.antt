@@ -1,12 +1,18 @@
 pub mod RunLemmas
 mod FirstRun
 mod Frame
+mod LongKeys
 mod FrontRuns
+mod LockFrontRuns
+mod JobFrontRuns
+mod ChangeFrontRuns
 mod OrderCases
 mod EndCases
 mod LockCases
 mod JobCases
+mod AnswerCases
 mod ChangeCases
+mod ConditionLaws
 pub mod Numbers
 pub mod Orders
 pub mod OrderLaws

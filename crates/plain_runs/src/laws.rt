@@ -1,4 +1,5 @@
 ghost use Rattle.plain_runs.specs.FirstRun.{FirstRunIsRun};
+ghost use Rattle.plain_runs.specs.Conditions.{NoneIsLeftOut};
 ghost use Rattle.plain_runs.specs.Laws.{Extended, Framed, ItemsInOrder, ItemsWereIssued, NeighboursAgree, NoConflict, SeenIsTold, SeenNeverFalls, Settled, SyncedStays};
 
 /// The trail of the worked first run is a run.
@@ -54,4 +55,9 @@ pub fn items_stand_as_they_were_issued()
 /// What a job has seen is within the order that its pair's session is told of.
 pub fn what_is_seen_was_told()
     ensures { SeenIsTold }
+{}
+
+/// An act may come where all its conditions hold.
+pub fn no_condition_is_left_out()
+    ensures { NoneIsLeftOut }
 {}
