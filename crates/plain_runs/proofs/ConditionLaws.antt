@@ -8,7 +8,21 @@ use Rattle.plain_orders.specs.declared.causes.ShutCause.TheVariants.{Trouble, Re
 use Rattle.plain_orders.specs.declared.causes.PairEnd.TheVariants.{App as AppEnd, Server as ServerEnd}
 use Rattle.plain_orders.specs.declared.causes.Loss.TheVariants.{Reset, Expired, NoWay}
 use Rattle.plain_orders.specs.declared.refused.Refused.TheVariants.{NoTransaction, TooDeep, RollbackOnly, LockTimeout, Network}
+use Rattle.std.proofs.Common.{◌≡◌, ℕ, zero, suc, List, ◌==◌, ◌&&◌, refl, sym, ap, ◌∙◌, true, Option, Some, None}
+use Rattle.std.specs.Option.{option_map}
+use Rattle.plain_orders.specs.declared.entry.Entry.{Entry}
+use Rattle.plain_orders.specs.declared.item.Item.{Item}
+use Rattle.plain_orders.specs.declared.sum.Sum.{Sum}
+use Rattle.plain_orders.specs.declared.sum.Sum.TheVariants.{Nothing}
+use Rattle.plain_orders.specs.Answers.{entry_sum, sum_at, sum_if}
+use Rattle.plain_orders.specs.Entries.{entry_at}
+use Rattle.plain_orders.specs.Own.{Issued}
+use Rattle.plain_orders.specs.PairMap.{Map}
+use Rattle.plain_runs.specs.Plain.{pair_session, told_order}
+use Rattle.plain_runs.specs.Items.{entry_of, entry_of_item, is_add}
+use Rattle.plain_runs.specs.JobRows.{is_answered_item, item_at, w_at}
 use Rattle.plain_runs.specs.Conditions.{NoneIsLeftOut}
+use Rattle.plain_runs.specs.Together.{OnlyAddsSum}
 
 pub none_is_left_out : NoneIsLeftOut
 none_is_left_out l p (Opened d entries) h = record { fresh = h.0; ordered = h.1.0; low = h.1.1.0 }
@@ -61,3 +75,25 @@ none_is_left_out l p (Lose app d (Reset at)) h = (h.0, record { there = h.1.0; s
 none_is_left_out l p (Lose app d (Expired time)) h = (h.0, record { now = h.1.0; broken = h.1.1.0; over = h.1.1.1.0 })
 none_is_left_out l p (Lose app d (NoWay before after)) h = (h.0, record { none = h.1.0; failed = h.1.1.0 })
 none_is_left_out l p (Died app) h = tt
+
+-- an entry that never has a sum has none at its position
+no_sum : (es : List Entry) (at : ℕ) (e : Entry) (sum : Sum) → ((m : Map) → entry_sum m e ≡ Nothing) → entry_at es at ≡ Some e → sum_at es at ≡ sum → sum ≡ Nothing
+no_sum es zero e sum none there is = absurd (cc (there))
+no_sum es (suc i) e sum none there is = sym is ∙ (ap (sum_if _) there ∙ none _)
+
+pub only_adds_sum : OnlyAddsSum
+only_adds_sum s app job line at sum some is there its = go (item_at s app at) there its
+  where
+    w : ℕ
+    w = w_at (entry_at (told_order s app) at)
+
+    go : (o : Option Issued) → entry_at s.order at ≡ option_map (entry_of (pair_session s app) w) o → is_answered_item job line (λ i. true) o ≡ true → is_answered_item job line is_add o ≡ true
+    go None there its = absurd (cc (its))
+    go (Some i) there its = by (i.item) there its
+      where
+        by : (x : Item) → entry_at s.order at ≡ Some (entry_of_item (pair_session s app) w i.job i.txn x) → is_answered_item job line (λ i. true) (Some i) ≡ true → (i.job == job && i.line == line && is_add x) ≡ true
+        by (Op (Set key value)) e h = absurd (some (no_sum s.order at _ sum (λ m. refl) e is))
+        by (Op (Kill key)) e h = absurd (some (no_sum s.order at _ sum (λ m. refl) e is))
+        by (Op (Add key amount)) e h = h
+        by (CommitItem n) e h = absurd (some (no_sum s.order at _ sum (λ m. refl) e is))
+        by (RollbackItem n) e h = absurd (some (no_sum s.order at _ sum (λ m. refl) e is))

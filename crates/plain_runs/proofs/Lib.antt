@@ -26,3 +26,6 @@ pub mod Issued
 pub mod Bases
 pub mod SeenTold
 pub mod SeenLaw
+mod NoSession
+pub mod Deeds
+mod DeedLaws

@@ -9,6 +9,7 @@ pub mod Run
 pub mod Recording
 pub mod FirstRun
 pub mod Laws
+pub mod Together
 pub mod Conditions
 pub mod Fronts
 pub mod LockFronts

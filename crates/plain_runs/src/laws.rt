@@ -1,5 +1,6 @@
 ghost use Rattle.plain_runs.specs.FirstRun.{FirstRunIsRun};
 ghost use Rattle.plain_runs.specs.Conditions.{NoneIsLeftOut};
+ghost use Rattle.plain_runs.specs.Together.{BarredDidNothing, NoneWithoutSession, OnlyAddsSum, StrangersDidNothing};
 ghost use Rattle.plain_runs.specs.Laws.{Extended, Framed, ItemsInOrder, ItemsWereIssued, NeighboursAgree, NoConflict, SeenIsTold, SeenNeverFalls, Settled, SyncedStays};
 
 /// The trail of the worked first run is a run.
@@ -60,4 +61,24 @@ pub fn what_is_seen_was_told()
 /// An act may come where all its conditions hold.
 pub fn no_condition_is_left_out()
     ensures { NoneIsLeftOut }
+{}
+
+/// Where a pair has no session, no hold, no item and no Close is there that an act could mean.
+pub fn nothing_is_there_without_a_session()
+    ensures { NoneWithoutSession }
+{}
+
+/// A job that isn't there has no answered hold and no item.
+pub fn a_job_that_is_not_there_did_nothing()
+    ensures { StrangersDidNothing }
+{}
+
+/// A job that is barred has no answered hold and no item in its pair's session.
+pub fn a_barred_job_did_nothing()
+    ensures { BarredDidNothing }
+{}
+
+/// Only an increment has a sum.
+pub fn only_increments_have_sums()
+    ensures { OnlyAddsSum }
 {}
