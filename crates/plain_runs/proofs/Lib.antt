@@ -29,3 +29,10 @@ pub mod SeenLaw
 mod NoSession
 pub mod Deeds
 mod DeedLaws
+pub mod ToldItems
+mod ToldItemLaws
+mod Strangers
+pub mod Epochs
+mod EpochLaws
+pub mod MetOnce
+mod MetLaws
