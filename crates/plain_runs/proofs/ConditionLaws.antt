@@ -21,7 +21,7 @@ use Rattle.plain_orders.specs.PairMap.{Map}
 use Rattle.plain_runs.specs.Plain.{pair_session, told_order}
 use Rattle.plain_runs.specs.Items.{entry_of, entry_of_item, is_add}
 use Rattle.plain_runs.specs.JobRows.{is_answered_item, item_at, w_at}
-use Rattle.plain_runs.specs.Conditions.{NoneIsLeftOut}
+use Rattle.plain_runs.specs.Conditions.{NoneIsLeftOut, NoneIsLeftOutBehind}
 use Rattle.plain_runs.specs.Together.{OnlyAddsSum}
 
 pub none_is_left_out : NoneIsLeftOut
@@ -97,3 +97,15 @@ only_adds_sum s app job line at sum some is there its = go (item_at s app at) th
         by (Op (Add key amount)) e h = h
         by (CommitItem n) e h = absurd (some (no_sum s.order at _ sum (λ m. refl) e is))
         by (RollbackItem n) e h = absurd (some (no_sum s.order at _ sum (λ m. refl) e is))
+
+pub none_is_left_out_behind : NoneIsLeftOutBehind
+none_is_left_out_behind before (Epoch number) h = record { is_next = h.0; in_range = h.1.0 }
+none_is_left_out_behind before (OpenEntry session app) h = record { is_started = h.0; is_position = h.1.0; is_free = h.1.1.0 }
+none_is_left_out_behind before (Closed session) h = record { is_live = h.0 }
+none_is_left_out_behind before (Update session w job txn (Set key value)) h =
+    record { is_live = h.0; is_next = h.1.0; within = record { key_may = record { is_key = h.1.1.0; within = h.1.1.1.0 }; within = h.1.1.1.1.0 } }
+none_is_left_out_behind before (Update session w job txn (Kill key)) h = record { is_live = h.0; is_next = h.1.0; within = record { is_key = h.1.1.0; within = h.1.1.1.0 } }
+none_is_left_out_behind before (Update session w job txn (Add key amount)) h =
+    record { is_live = h.0; is_next = h.1.0; within = record { key_may = record { is_key = h.1.1.0; within = h.1.1.1.0 }; is_alone = h.1.1.1.1.0; within = h.1.1.1.1.1.0 } }
+none_is_left_out_behind before (Commit session w job txn) h = record { is_live = h.0; is_next = h.1.0; is_begun = h.1.1.0 }
+none_is_left_out_behind before (Rollback session w job txn) h = record { is_live = h.0; is_next = h.1.0; is_begun = h.1.1.0 }

@@ -6,6 +6,7 @@ mod FrontRuns
 mod LockFrontRuns
 mod JobFrontRuns
 mod ChangeFrontRuns
+mod EntryCases
 mod OrderCases
 mod EndCases
 mod LockCases

@@ -13,6 +13,7 @@ use Rattle.plain_orders.specs.declared.causes.PairEnd.TheVariants.{App as AppEnd
 use Rattle.plain_orders.specs.declared.causes.Loss.TheVariants.{Reset, Expired, NoWay}
 use Rattle.plain_orders.specs.declared.sum.Sum.{Sum}
 use Rattle.plain_orders.specs.declared.refused.Refused.TheVariants.{NoTransaction, TooDeep, RollbackOnly, LockTimeout, Network}
+use Rattle.plain_orders.specs.Ordered.{MayFollow}
 use Rattle.plain_runs.specs.Plain.{Plain, Server}
 use Rattle.plain_runs.specs.OrderRows.{ItemMay}
 use Rattle.plain_runs.specs.JobRows.{JobMay, JobAtMay, SumMay}
@@ -138,6 +139,22 @@ conditions l p (Lose app d (Expired time)) = field (λ m. m.0) ∷ field (λ m. 
 conditions l p (Lose app d (NoWay before after)) = field (λ m. m.0) ∷ field (λ m. m.1.none) ∷ field (λ m. m.1.failed) ∷ []
 conditions l p (Died app) = []
 
+-- the conditions of an entry that follows an ordered list
+abbrev pub conditions_behind : (before : List Entry) (e : Entry) → List (Condition (MayFollow before e))
+conditions_behind before (Epoch number) = field (λ m. m.is_next) ∷ field (λ m. m.in_range) ∷ []
+conditions_behind before (OpenEntry session app) = field (λ m. m.is_started) ∷ field (λ m. m.is_position) ∷ field (λ m. m.is_free) ∷ []
+conditions_behind before (Closed session) = field (λ m. m.is_live) ∷ []
+conditions_behind before (Update session w job txn (Set key value)) =
+    field (λ m. m.is_live) ∷ field (λ m. m.is_next) ∷ field (λ m. m.within.key_may.is_key) ∷ field (λ m. m.within.key_may.within)
+    ∷ field (λ m. m.within.within) ∷ []
+conditions_behind before (Update session w job txn (Kill key)) =
+    field (λ m. m.is_live) ∷ field (λ m. m.is_next) ∷ field (λ m. m.within.is_key) ∷ field (λ m. m.within.within) ∷ []
+conditions_behind before (Update session w job txn (Add key amount)) =
+    field (λ m. m.is_live) ∷ field (λ m. m.is_next) ∷ field (λ m. m.within.key_may.is_key) ∷ field (λ m. m.within.key_may.within)
+    ∷ field (λ m. m.within.is_alone) ∷ field (λ m. m.within.within) ∷ []
+conditions_behind before (Commit session w job txn) = field (λ m. m.is_live) ∷ field (λ m. m.is_next) ∷ field (λ m. m.is_begun) ∷ []
+conditions_behind before (Rollback session w job txn) = field (λ m. m.is_live) ∷ field (λ m. m.is_next) ∷ field (λ m. m.is_begun) ∷ []
+
 -- all of these hold
 abbrev pub AllHold : {may : Type 0} → List (Condition may) → Type 0
 AllHold [] = Unit {0}
@@ -152,3 +169,7 @@ JustFails (suc k) (c ∷ cs) = c.fact × JustFails k cs
 -- An act may come where all its conditions hold.
 abbrev pub NoneIsLeftOut : Type 0
 NoneIsLeftOut = (l : Layout) (p : Plain) (a : Act) → AllHold (conditions l p a) → MayCome l p a
+
+-- Nor is one of an entry.
+abbrev pub NoneIsLeftOutBehind : Type 0
+NoneIsLeftOutBehind = (before : List Entry) (e : Entry) → AllHold (conditions_behind before e) → MayFollow before e

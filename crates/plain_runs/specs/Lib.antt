@@ -15,6 +15,7 @@ pub mod Fronts
 pub mod LockFronts
 pub mod JobFronts
 pub mod ChangeFronts
+pub mod EntryExamples
 pub mod OrderExamples
 pub mod EndExamples
 pub mod LockExamples

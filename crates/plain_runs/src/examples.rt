@@ -1,9 +1,15 @@
+ghost use Rattle.plain_runs.specs.EntryExamples.{EntryExamples};
 ghost use Rattle.plain_runs.specs.OrderExamples.{BackExamples, CrashExamples, EnterExamples, EpochLimitExamples, OpenedExamples, SyncedExamples};
 ghost use Rattle.plain_runs.specs.EndExamples.{BrokeExamples, FreeActExamples, LoseExamples, MendedExamples, MetExamples, ShutExamples, ToldExamples};
 ghost use Rattle.plain_runs.specs.LockExamples.{FreeExamples, GiveUpExamples, GrantExamples, GrantedExamples, QuitExamples, ReleaseExamples};
 ghost use Rattle.plain_runs.specs.JobExamples.{DoneExamples, IssueExamples, LevelExamples, ReadExamples, RefusedExamples, TooDeepExamples};
 ghost use Rattle.plain_runs.specs.AnswerExamples.{CommittedExamples, CountedExamples, NotWholeExamples, RangeExamples, ReachedExamples, RolledBackExamples};
 ghost use Rattle.plain_runs.specs.ChangeExamples.{NewsExamples, RoomExamples, SeenExamples, UnclaimedExamples};
+
+/// Examples of entries that no server opens with.
+pub fn entry_examples()
+    ensures { EntryExamples }
+{}
 
 /// Examples of opened.
 pub fn opened_examples()

@@ -1,5 +1,5 @@
 ghost use Rattle.plain_runs.specs.FirstRun.{FirstRunIsRun};
-ghost use Rattle.plain_runs.specs.Conditions.{NoneIsLeftOut};
+ghost use Rattle.plain_runs.specs.Conditions.{NoneIsLeftOut, NoneIsLeftOutBehind};
 ghost use Rattle.plain_runs.specs.Together.{AllInOrderAreTold, AnsweredIsTold, BarredDidNothing, MetOnce, NoLaterEpoch, NoneWithoutSession, OnlyAddsSum, StrangersAreToldNothing, StrangersDidNothing};
 ghost use Rattle.plain_runs.specs.Laws.{Extended, Framed, ItemsInOrder, ItemsWereIssued, NeighboursAgree, NoConflict, SeenIsTold, SeenNeverFalls, Settled, SyncedStays};
 
@@ -58,9 +58,10 @@ pub fn what_is_seen_was_told()
     ensures { SeenIsTold }
 {}
 
-/// An act may come where all its conditions hold.
+/// An act may come where all its conditions hold, and an entry may follow a list where all of its own do.
 pub fn no_condition_is_left_out()
-    ensures { NoneIsLeftOut }
+    ensures acts { NoneIsLeftOut }
+    ensures entries { NoneIsLeftOutBehind }
 {}
 
 /// Where a pair has no session, no hold, no item and no Close is there that an act could mean.
