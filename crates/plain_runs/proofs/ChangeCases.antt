@@ -1,5 +1,5 @@
 -- Examples of what an act changes.
-use Rattle.std.proofs.Common.{[], ◌∷◌, Some, refl, arith}
+use Rattle.std.proofs.Common.{Some, [], ◌∷◌, refl, arith}
 use Rattle.plain_orders.specs.declared.act.Act.TheVariants.{Read, Grant, Granted, Refused as RefusedAct}
 use Rattle.plain_orders.specs.declared.mode.Mode.TheVariants.{Exclusive}
 use Rattle.plain_orders.specs.declared.via.Via.TheVariants.{Own}
@@ -9,8 +9,8 @@ use Rattle.plain_orders.specs.declared.refused.ReasonName.TheVariants.{NoWay}
 use Rattle.plain_orders.specs.declared.refused.LinkName.TheVariants.{NotConnected}
 use Rattle.plain_runs.specs.Plain.{start}
 use Rattle.plain_runs.specs.Fronts.{small}
-use Rattle.plain_runs.specs.ChangeFronts.{freed, granted_told, no_way_met, released, seen_told}
-use Rattle.plain_runs.proofs.FrontRuns.{freed_runs, granted_back_runs, granted_told_runs, held_given_runs, held_saved_runs, no_way_issued_runs, no_way_met_runs, released_runs, seen_cut_runs, seen_told_runs}
+use Rattle.plain_runs.specs.ChangeFronts.{released, freed, granted_told, no_way_met, seen_told}
+use Rattle.plain_runs.proofs.ChangeFrontRuns.{held_saved_runs, released_runs, held_given_runs, freed_runs, granted_told_runs, granted_back_runs, no_way_met_runs, no_way_issued_runs, seen_cut_runs, seen_told_runs}
 use Rattle.plain_runs.proofs.RunLemmas.{run_more}
 use Rattle.plain_runs.proofs.FirstRun.{x_may}
 use Rattle.plain_runs.specs.ChangeExamples.{RoomExamples, UnclaimedExamples, NewsExamples, SeenExamples}

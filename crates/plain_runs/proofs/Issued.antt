@@ -1,5 +1,5 @@
 -- The items of a session that was met stand as they were issued.
-use Rattle.std.proofs.Common.{◌≡◌, ℕ, zero, suc, ◌≤◌, ◌+◌, ◌-◌, List, [], ◌∷◌, ◌++◌, length, take, refl, subst, sym, ap, ◌∙◌, Bool, true, false, eqb, if◌then◌else◌, arith, ◌||◌, Option, Some, None, slice_get, ◌⊎◌, inl, inr, append_assoc}
+use Rattle.std.proofs.Common.{◌≡◌, ℕ, zero, suc, ◌<◌, ◌≤◌, ◌+◌, ◌-◌, List, [], ◌∷◌, ◌++◌, length, take, refl, subst, sym, ap, ◌∙◌, Bool, true, false, eqb, if◌then◌else◌, arith, ◌||◌, Option, Some, None, slice_get, ◌⊎◌, inl, inr, append_assoc}
 use Rattle.std.specs.Prelude.{is_some}
 use Rattle.std.specs.Option.{option_map}
 use Rattle.std.proofs.lemmas.Bool.{eqb-true}
@@ -29,15 +29,16 @@ use Rattle.plain_runs.specs.Run.{IsRun, RunFrom, after_all}
 use Rattle.plain_runs.specs.Laws.{StandsAsIssued, ItemsWereIssued, server_after}
 use Rattle.plain_runs.proofs.RunLemmas.{at_put}
 use Rattle.plain_runs.proofs.Orders.{Each, each-append}
+use Rattle.plain_runs.proofs.OrderLaws.{shut_live}
 use Rattle.plain_runs.proofs.Lists.{both_ways, opens, is_open, live_opens}
 use Rattle.plain_runs.proofs.HoldRows.{issued_of}
 use Rattle.plain_runs.proofs.LockRows.{each_at}
 
--- where an entry may stand, counted from 0: a session's items behind its Open, which stands at its number
+-- where an entry may stand, counted from 0: a session's items behind its Open, which stands at its number; no Close is of session 0
 abbrev pub PlacedAt : ℕ → Entry → Type 0
 PlacedAt k (Epoch number) = Unit {0}
 PlacedAt k (OpenedEntry session app) = session ≡ k + 1
-PlacedAt k (Closed session) = Unit {0}
+PlacedAt k (Closed session) = 0 < session
 PlacedAt k (Update session w job txn op) = session ≤ k
 PlacedAt k (Commit session w job txn) = session ≤ k
 PlacedAt k (Rollback session w job txn) = session ≤ k
@@ -74,6 +75,17 @@ opens_low k (x ∷ es) s p o = go (is_open s x) refl (opens_low (k + 1) es s p.1
     go true e f h = omega (arith, open_here k x s p.0 e)
     go false e f h = omega (arith, f h)
 
+pub opens_high : (k : ℕ) (es : List Entry) (s : ℕ) → PlacedFrom k es → opens es s ≡ true → k < s
+opens_high k [] s p o = absurd (cc (o))
+opens_high k (x ∷ es) s p o = go (is_open s x) refl (opens_high (k + 1) es s p.1) o
+  where
+    go : (b : Bool) → is_open s x ≡ b → (opens es s ≡ true → k + 1 < s) → (b || opens es s) ≡ true → k < s
+    go true e f h = omega (arith, open_here k x s p.0 e)
+    go false e f h = omega (arith, f h)
+
+live_high : (es : List Entry) (s : ℕ) → PlacedFrom 0 es → live es s ≡ true → 0 < s
+live_high es s p l = opens_high 0 es s p (live_opens es s l)
+
 pub live_low : (es : List Entry) (s : ℕ) → PlacedFrom 0 es → live es s ≡ true → s ≤ length es
 live_low es s p l = omega (arith, opens_low 0 es s p (live_opens es s l))
 
@@ -92,7 +104,7 @@ items_low k m (x ∷ es) p low = ((λ n i. omega (arith, item_here k x n p.0 i, 
 placed_next : (before : List Entry) (e : Entry) → PlacedFrom 0 before → MayFollow before e → PlacedAt (length before) e
 placed_next before (Epoch number) p m = tt
 placed_next before (OpenedEntry session app) p m = m.is_position
-placed_next before (Closed session) p m = tt
+placed_next before (Closed session) p m = live_high before session p m.is_live
 placed_next before (Update session w job txn op) p m = live_low before session p m.is_live
 placed_next before (Commit session w job txn) p m = live_low before session p m.is_live
 placed_next before (Rollback session w job txn) p m = live_low before session p m.is_live
@@ -289,7 +301,7 @@ pub row_steps : (l : Layout) (p : Plain) (a : Act) → MayCome l p a → (e : �
 row_steps l p (Opened d entries) may e = at_put IssuedSteps p.server_at d _ issued_same (opened_steps p.clock l.times.round (p.server_at d) entries may) e
 row_steps l p (Enter d x) may e = at_put IssuedSteps p.server_at d _ issued_same (enter_steps (p.server_at d) x may) e
 row_steps l p (Synced d n) may e = at_put IssuedSteps p.server_at d _ issued_same (issued_same (p.server_at d)) e
-row_steps l p (Shut d session cause) may e = at_put IssuedSteps p.server_at d _ issued_same (push (p.server_at d) (shut (p.server_at d) session) (Closed session) refl (λ k. tt) (λ n ent i. absurd (cc (i)))) e
+row_steps l p (Shut d session cause) may e = at_put IssuedSteps p.server_at d _ issued_same (push (p.server_at d) (shut (p.server_at d) session) (Closed session) refl (λ k. live_high (p.server_at d).order session k.placed (shut_live l p (p.server_at d) session cause may)) (λ n ent i. absurd (cc (i)))) e
 row_steps l p (Release d session) may e = at_put IssuedSteps p.server_at d _ issued_same (issued_same (p.server_at d)) e
 row_steps l p (Met app d session) may e = at_put IssuedSteps p.server_at d _ issued_same (met_steps l (p.server_at d) app session may.1) e
 row_steps l p (Told app d session epoch kept) may e = at_put IssuedSteps p.server_at d _ issued_same (session_steps (p.server_at d) (told_of l (p.server_at d) app session epoch kept) session (λ m. record m { told = begun_by (p.server_at d) epoch }) refl (λ m. ([], sym (append-nil m.issued)))) e

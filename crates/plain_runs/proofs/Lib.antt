@@ -1,12 +1,19 @@
 pub mod RunLemmas
 mod FirstRun
 mod Frame
+mod LongKeys
 mod FrontRuns
+mod LockFrontRuns
+mod JobFrontRuns
+mod ChangeFrontRuns
+mod EntryCases
 mod OrderCases
 mod EndCases
 mod LockCases
 mod JobCases
+mod AnswerCases
 mod ChangeCases
+mod ConditionLaws
 pub mod Numbers
 pub mod Orders
 pub mod OrderLaws
@@ -20,3 +27,13 @@ pub mod Issued
 pub mod Bases
 pub mod SeenTold
 pub mod SeenLaw
+mod NoSession
+pub mod Deeds
+mod DeedLaws
+pub mod ToldItems
+mod ToldItemLaws
+mod Strangers
+pub mod Epochs
+mod EpochLaws
+pub mod MetOnce
+mod MetLaws

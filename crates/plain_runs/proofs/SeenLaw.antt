@@ -43,7 +43,7 @@ abbrev Steps : Layout → Server → Server → Type 0
 Steps l s t = ToldKept l (sight s) → ToldKept l (sight t)
 
 -- what holds of the pair's session
-told_is : (s : Server) (app n b : ℕ) → (s.pair_at app).session ≡ Some n → told_in (s.session_at n) ≡ Some b → (session_in s (pair_session s app)).told ≡ b
+pub told_is : (s : Server) (app n b : ℕ) → (s.pair_at app).session ≡ Some n → told_in (s.session_at n) ≡ Some b → (session_in s (pair_session s app)).told ≡ b
 told_is s app n b p t = ap (λ (o : Option ℕ). (session_in s (unwrap_or o 0)).told) p ∙ go (s.session_at n) t
   where
     go : (o : Option Session) → told_in o ≡ Some b → (unwrap_or o (record { app = 0; issued = []; told = 0 })).told ≡ b
@@ -231,7 +231,7 @@ refused_row l p j RollbackOnly e = λ k. k
 refused_row l p j LockTimeout e = λ k. k
 refused_row l p j (Network d state reason) e = at_server l p d _ (known_row l (p.server_at d) (told_loss (p.server_at d) j) j (record ((p.server_at d).known_at j) { news = []; bar = None }) (p.server_at d).holds refl (λ k. k.sent) (λ k n b q t y. y)) e
 
-told_rows : (l : Layout) (p : Plain) (a : Act) → MayCome l p a → ((d : ℕ) → OrdersKept (facet (p.server_at d))) → ((d : ℕ) → IssuedKept (view (p.server_at d))) → (e : ℕ) → Steps l (p.server_at e) ((after l p a).server_at e)
+pub told_rows : (l : Layout) (p : Plain) (a : Act) → MayCome l p a → ((d : ℕ) → OrdersKept (facet (p.server_at d))) → ((d : ℕ) → IssuedKept (view (p.server_at d))) → (e : ℕ) → Steps l (p.server_at e) ((after l p a).server_at e)
 told_rows l p (Opened d entries) may os is e = at_server l p d _ (opened_row l p.clock l.times.round (p.server_at d) entries ((os d).fresh may.fresh).0 (os d).within) e
 told_rows l p (Enter d x) may os is e = at_server l p d _ (enter_row l (p.server_at d) x may (os d).within) e
 told_rows l p (Synced d n) may os is e = at_server l p d _ (λ k. grow l (sight (p.server_at d)) (record (sight (p.server_at d)) { synced = n }) refl (λ i. omega arith) (omega arith) may.no_less k.up k.sent k) e
@@ -269,18 +269,19 @@ run_told l p [] run os is k e = k e
 run_told l p (a ∷ acts) run os is k e =
     run_told l (after l p a) acts run.1 (λ d. (row_steps l p a run.0 d (os d)).0) (λ d. issued_rows l p a run.0 d (is d)) (λ d. told_rows l p a run.0 os is d (k d)) e
 
-told_kept : (l : Layout) (acts : List Act) (d : ℕ) → IsRun l acts → ToldKept l (sight (server_after l acts d))
-told_kept l acts d run =
-    run_told l start acts run start_kept (λ e. record { fresh = λ _ n. refl; placed = tt; met = λ n m. absurd (cc (m)); as_issued = tt })
-    (λ e. record {
-      low = λ n b h. absurd (cc (h));
-      place = λ n b h. absurd (cc (h));
-      met = λ n m. absurd (cc (m));
-      up = λ _ n on. absurd (cc (on));
-      sent = tt;
-      its = λ a n h. absurd (cc (h));
-      seen = λ j n b _ h. absurd (cc (h));
-    }) d
+pub start_told : (l : Layout) (e : ℕ) → ToldKept l (sight (start.server_at e))
+start_told l e = record {
+  low = λ n b h. absurd (cc (h));
+  place = λ n b h. absurd (cc (h));
+  met = λ n m. absurd (cc (m));
+  up = λ _ n on. absurd (cc (on));
+  sent = tt;
+  its = λ a n h. absurd (cc (h));
+  seen = λ j n b _ h. absurd (cc (h));
+}
+
+pub told_kept : (l : Layout) (acts : List Act) (d : ℕ) → IsRun l acts → ToldKept l (sight (server_after l acts d))
+told_kept l acts d run = run_told l start acts run start_kept (λ e. record { fresh = λ _ n. refl; placed = tt; met = λ n m. absurd (cc (m)); as_issued = tt }) (start_told l) d
 
 pub seen_is_told : SeenIsTold
 seen_is_told l acts d j run there has = go (s.pair_at (app_of l j)).session refl has

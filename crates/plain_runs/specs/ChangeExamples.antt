@@ -1,5 +1,5 @@
 -- Examples of what an act changes: what is accepted behind it and was refused before, or the other way.
-use Rattle.std.specs.Prelude.{[], ◌∷◌, Some}
+use Rattle.std.specs.Prelude.{Some, [], ◌∷◌}
 use Rattle.plain_orders.specs.declared.act.Act.TheVariants.{Read, Grant, Granted, Refused as RefusedAct}
 use Rattle.plain_orders.specs.declared.mode.Mode.TheVariants.{Exclusive}
 use Rattle.plain_orders.specs.declared.via.Via.TheVariants.{Own}
@@ -8,7 +8,7 @@ use Rattle.plain_orders.specs.declared.refused.Refused.TheVariants.{Network}
 use Rattle.plain_orders.specs.declared.refused.ReasonName.TheVariants.{NoWay}
 use Rattle.plain_orders.specs.declared.refused.LinkName.TheVariants.{NotConnected}
 use Rattle.plain_runs.specs.Fronts.{Accepted, Refuses}
-use Rattle.plain_runs.specs.ChangeFronts.{freed, granted_back, granted_told, held_given, held_saved, no_way_issued, no_way_met, released, seen_cut, seen_told}
+use Rattle.plain_runs.specs.ChangeFronts.{held_saved, released, held_given, freed, granted_told, granted_back, no_way_met, no_way_issued, seen_cut, seen_told}
 
 -- a release and a free make room for another lock
 abbrev pub RoomExamples : Type 0

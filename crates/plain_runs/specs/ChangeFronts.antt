@@ -1,14 +1,16 @@
 -- Trails that show what an act changes.
-use Rattle.std.specs.Prelude.{List, [], ◌∷◌, ◌++◌, Some}
+use Rattle.std.specs.Prelude.{List, Some, ◌++◌, [], ◌∷◌}
 use Rattle.plain_orders.specs.declared.act.Act.{Act}
 use Rattle.plain_orders.specs.declared.act.Act.TheVariants.{Synced, Shut, Release, Met, Told, Back, Crash, Issue, Read, Granted, GiveUp, Free}
 use Rattle.plain_orders.specs.declared.op.Op.TheVariants.{Set}
 use Rattle.plain_orders.specs.declared.item.Item.TheVariants.{Op}
 use Rattle.plain_orders.specs.declared.mode.Mode.TheVariants.{Exclusive}
 use Rattle.plain_orders.specs.declared.causes.ShutCause.TheVariants.{Replaced}
-use Rattle.plain_orders.specs.declared.question.Question.TheVariants.{Get}
 use Rattle.plain_orders.specs.declared.via.Via.TheVariants.{Fetched}
-use Rattle.plain_runs.specs.Fronts.{applied, both_held, granted, no_way}
+use Rattle.plain_orders.specs.declared.question.Question.TheVariants.{Get}
+use Rattle.plain_runs.specs.Fronts.{applied}
+use Rattle.plain_runs.specs.JobFronts.{no_way}
+use Rattle.plain_runs.specs.LockFronts.{granted, both_held}
 
 -- the session that has a lock is closed
 abbrev pub held_closed : List Act

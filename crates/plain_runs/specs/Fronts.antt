@@ -1,17 +1,18 @@
--- Short trails that the examples begin with.
-use Rattle.std.specs.Prelude.{ℕ, zero, suc, ◌+◌, pos, List, [], ◌∷◌, ◌++◌, replicate}
+-- Short trails that the examples begin with: orders, sessions and connections.
+use Rattle.std.specs.Prelude.{ℕ, zero, suc, List, replicate, ◌+◌, ◌++◌, [], ◌∷◌}
 use Rattle.plain_orders.specs.declared.act.Act.{Act}
-use Rattle.plain_orders.specs.declared.act.Act.TheVariants.{Opened, Enter, Synced, Shut, Met, Told, Crash, Issue, Grant, Granted, GiveUp, Quit, Level, Broke, Tick, Lose, Died}
-use Rattle.plain_orders.specs.declared.op.Op.TheVariants.{Set, Add}
-use Rattle.plain_orders.specs.declared.item.Item.TheVariants.{Op, Commit as CommitItem, Rollback as RollbackItem}
-use Rattle.plain_orders.specs.declared.entry.Entry.TheVariants.{Epoch, Opened as OpenEntry, Update, Commit, Rollback}
-use Rattle.plain_orders.specs.declared.mode.Mode.TheVariants.{Exclusive}
+use Rattle.plain_orders.specs.declared.act.Act.TheVariants.{Opened, Enter, Synced, Shut, Met, Told, Crash, Issue, Broke, Tick, Lose, Died}
+use Rattle.plain_orders.specs.declared.op.Op.TheVariants.{Set}
+use Rattle.plain_orders.specs.declared.item.Item.TheVariants.{Op}
+use Rattle.plain_orders.specs.declared.entry.Entry.{Entry}
+use Rattle.plain_orders.specs.declared.entry.Entry.TheVariants.{Epoch, Opened as OpenEntry, Update}
 use Rattle.plain_orders.specs.declared.causes.ShutCause.TheVariants.{Replaced}
 use Rattle.plain_orders.specs.declared.causes.PairEnd.TheVariants.{App as AppEnd, Server as ServerEnd}
-use Rattle.plain_orders.specs.declared.causes.Loss.TheVariants.{Reset as ByReset, Expired as ByExpired, NoWay as ByNoWay}
+use Rattle.plain_orders.specs.declared.causes.Loss.TheVariants.{Reset as ByReset, Expired as ByExpired}
 use Rattle.plain_orders.specs.declared.layout.Layout.{Layout}
 use Rattle.plain_runs.specs.Step.{MayCome}
 use Rattle.plain_runs.specs.Run.{IsRun, state_after}
+use Rattle.plain_runs.specs.Conditions.{JustFails, conditions}
 
 -- two application servers; the jobs 0 and 2 run on the first, job 1 on the second
 abbrev pub small : Layout
@@ -24,6 +25,10 @@ Accepted front a = IsRun small (front ++ a ∷ [])
 -- the trail is a run, and behind it the act is refused
 abbrev pub Refuses : List Act → Act → Type 0
 Refuses front a = IsRun small front × (MayCome small (state_after small front) a → ⊥)
+
+-- the trail is a run, and behind it just one condition of the act fails: the one at this place of its conditions, from 0
+abbrev pub FailsAt : ℕ → List Act → Act → Type 0
+FailsAt k front a = IsRun small front × JustFails k (conditions small (state_after small front) a)
 
 -- the greatest number of 18 digits
 abbrev pub nines_text : List ℕ
@@ -133,6 +138,10 @@ closed = met ++ Shut 0 2 Replaced ∷ []
 abbrev pub closed_saved : List Act
 closed_saved = closed ++ Synced 0 3 ∷ []
 
+-- and the session is lost
+abbrev pub closed_lost : List Act
+closed_lost = closed_saved ++ Lose 0 0 (ByReset 3) ∷ []
+
 -- a new session is opened
 abbrev pub replaced : List Act
 replaced = closed ++ Enter 0 (OpenEntry 4 0) ∷ []
@@ -152,6 +161,18 @@ replaced_saved = replaced ++ Synced 0 4 ∷ []
 -- and the old one is lost
 abbrev pub replaced_lost : List Act
 replaced_lost = replaced_saved ++ Lose 0 0 (ByReset 3) ∷ []
+
+-- or the old one breaks
+abbrev pub replaced_app_broke : List Act
+replaced_app_broke = replaced_saved ++ Broke 0 0 AppEnd 0 ∷ []
+
+-- for the recover time
+abbrev pub replaced_app_late : List Act
+replaced_app_late = replaced_app_broke ++ Tick 100 ∷ []
+
+-- and is lost
+abbrev pub replaced_expired : List Act
+replaced_expired = replaced_app_late ++ Lose 0 0 (ByExpired 100) ∷ []
 
 -- time goes by
 abbrev pub late : List Act
@@ -205,179 +226,27 @@ broke_dead = app_broke ++ Died 0 ∷ []
 abbrev pub closed_dead : List Act
 closed_dead = closed_saved ++ Died 0 ∷ []
 
+-- or behind a break for the recover time
+abbrev pub late_dead : List Act
+late_dead = app_late ++ Died 0 ∷ []
+
 -- a journal holds a session
 abbrev pub found : List Act
 found = nothing ++ Opened 0 (Epoch 1 ∷ OpenEntry 2 0 ∷ []) ∷ []
 
--- a lock is granted
-abbrev pub granted : List Act
-granted = met ++ Grant 0 2 0 Exclusive (120 ∷ 0 ∷ []) 2 ∷ []
-
--- and answered
-abbrev pub answered : List Act
-answered = granted ++ Granted 0 5 0 2 ∷ []
-
--- and given up
-abbrev pub given : List Act
-given = answered ++ GiveUp 0 6 0 Exclusive (120 ∷ 0 ∷ []) ∷ []
-
--- a request is given up
-abbrev pub quitted : List Act
-quitted = met ++ Quit 0 5 0 Exclusive (120 ∷ 0 ∷ []) ∷ []
-
--- a request is given up behind an issue
-abbrev pub issued_quit : List Act
-issued_quit = issued ++ Quit 0 6 0 Exclusive (120 ∷ 0 ∷ []) ∷ []
-
--- another application server has a session
-abbrev pub both : List Act
-both = met ++ Enter 0 (OpenEntry 3 1) ∷ []
-
--- and the first one a lock
-abbrev pub both_held : List Act
-both_held = both ++ Grant 0 2 0 Exclusive (120 ∷ 0 ∷ []) 3 ∷ []
-
--- an increment is issued
-abbrev pub added : List Act
-added = met ++ Issue 0 5 0 1 (Op (Add (120 ∷ 0 ∷ []) (pos 1))) ∷ []
-
--- and enters
-abbrev pub added_in : List Act
-added_in = added ++ Enter 0 (Update 2 1 0 0 (Add (120 ∷ 0 ∷ []) (pos 1))) ∷ []
-
--- and is synced
-abbrev pub added_kept : List Act
-added_kept = added_in ++ Synced 0 3 ∷ []
-
--- a letter is set
-abbrev pub letter : List Act
-letter = met ++ Issue 0 4 0 1 (Op (Set (120 ∷ 0 ∷ []) (97 ∷ []))) ∷ []
-
--- and enters
-abbrev pub letter_in : List Act
-letter_in = letter ++ Enter 0 (Update 2 1 0 0 (Set (120 ∷ 0 ∷ []) (97 ∷ []))) ∷ []
-
--- and is incremented
-abbrev pub letter_added : List Act
-letter_added = letter_in ++ Issue 0 5 0 2 (Op (Add (120 ∷ 0 ∷ []) (pos 1))) ∷ []
-
--- and that enters
-abbrev pub letter_added_in : List Act
-letter_added_in = letter_added ++ Enter 0 (Update 2 2 0 0 (Add (120 ∷ 0 ∷ []) (pos 1))) ∷ []
-
--- and is synced
-abbrev pub letter_kept : List Act
-letter_kept = letter_added_in ++ Synced 0 4 ∷ []
-
--- the greatest number is set
-abbrev pub nines : List Act
-nines = met ++ Issue 0 4 0 1 (Op (Set (120 ∷ 0 ∷ []) nines_text)) ∷ []
-
--- and enters
-abbrev pub nines_in : List Act
-nines_in = nines ++ Enter 0 (Update 2 1 0 0 (Set (120 ∷ 0 ∷ []) nines_text)) ∷ []
-
--- and is incremented
-abbrev pub nines_added : List Act
-nines_added = nines_in ++ Issue 0 5 0 2 (Op (Add (120 ∷ 0 ∷ []) (pos 1))) ∷ []
-
--- and that enters
-abbrev pub nines_added_in : List Act
-nines_added_in = nines_added ++ Enter 0 (Update 2 2 0 0 (Add (120 ∷ 0 ∷ []) (pos 1))) ∷ []
-
--- and is synced
-abbrev pub nines_kept : List Act
-nines_kept = nines_added_in ++ Synced 0 4 ∷ []
-
--- a transaction begins
-abbrev pub level_one : List Act
-level_one = met ++ Level 0 4 1 ∷ []
-
--- and has an update
-abbrev pub updated : List Act
-updated = level_one ++ Issue 0 5 0 1 (Op (Set (120 ∷ 0 ∷ []) (53 ∷ []))) ∷ []
-
--- that enters
-abbrev pub updated_in : List Act
-updated_in = updated ++ Enter 0 (Update 2 1 0 1 (Set (120 ∷ 0 ∷ []) (53 ∷ []))) ∷ []
-
--- a Commit is issued
-abbrev pub commit_issued : List Act
-commit_issued = updated_in ++ Issue 0 6 0 2 (CommitItem 1) ∷ []
-
--- and enters
-abbrev pub commit_in : List Act
-commit_in = commit_issued ++ Enter 0 (Commit 2 2 0 1) ∷ []
-
--- and is synced
-abbrev pub commit_kept : List Act
-commit_kept = commit_in ++ Synced 0 4 ∷ []
-
--- or is cut
-abbrev pub commit_cut : List Act
-commit_cut = commit_in ++ Crash 0 3 ∷ []
+-- an Open is cut
+abbrev pub open_cut : List Act
+open_cut = entered ++ Crash 0 1 ∷ []
 
 -- and the new Epoch is synced
-abbrev pub commit_cut_saved : List Act
-commit_cut_saved = commit_cut ++ Synced 0 4 ∷ []
+abbrev pub open_cut_saved : List Act
+open_cut_saved = open_cut ++ Synced 0 2 ∷ []
 
--- a Rollback is issued
-abbrev pub rollback_issued : List Act
-rollback_issued = updated_in ++ Issue 0 6 0 2 (RollbackItem 1) ∷ []
+-- so many Epochs, above a number
+abbrev pub epochs : ℕ → ℕ → List Entry
+epochs m zero = []
+epochs m (suc n) = Epoch (m + 1) ∷ epochs (m + 1) n
 
--- and enters
-abbrev pub rollback_in : List Act
-rollback_in = rollback_issued ++ Enter 0 (Rollback 2 2 0 1) ∷ []
-
--- and is synced
-abbrev pub rollback_kept : List Act
-rollback_kept = rollback_in ++ Synced 0 4 ∷ []
-
--- a connection breaks in a transaction
-abbrev pub updated_broke : List Act
-updated_broke = updated ++ Broke 0 0 AppEnd 0 ∷ []
-
--- for the recover time
-abbrev pub updated_late : List Act
-updated_late = updated_broke ++ Tick 100 ∷ []
-
--- and the session is lost
-abbrev pub updated_lost : List Act
-updated_lost = updated_late ++ Lose 0 0 (ByExpired 100) ∷ []
-
--- a session that a job used is closed
-abbrev pub used_closed : List Act
-used_closed = issued ++ Shut 0 2 Replaced ∷ []
-
--- and its Close is synced
-abbrev pub used_saved : List Act
-used_saved = used_closed ++ Synced 0 3 ∷ []
-
--- and it is lost
-abbrev pub used_lost : List Act
-used_lost = used_saved ++ Lose 0 0 (ByReset 3) ∷ []
-
--- and a new one is opened
-abbrev pub used_again : List Act
-used_again = used_lost ++ Enter 0 (OpenEntry 4 0) ∷ []
-
--- and synced
-abbrev pub used_again_saved : List Act
-used_again_saved = used_again ++ Synced 0 4 ∷ []
-
--- and met, while the job is barred
-abbrev pub barred : List Act
-barred = used_again_saved ++ Met 0 0 4 ∷ []
-
--- a job is barred by a loss and has another one
-abbrev pub used_no_way : List Act
-used_no_way = used_lost ++ Lose 0 0 (ByNoWay 0 1) ∷ []
-
--- a connect failed
-abbrev pub no_way : List Act
-no_way = saved ++ Lose 0 0 (ByNoWay 0 1) ∷ []
-
--- so many transaction levels of job 0, above a level
-abbrev pub levels : ℕ → ℕ → List Act
-levels m zero = []
-levels m (suc n) = Level 0 4 (m + 1) ∷ levels (m + 1) n
+-- a journal holds so many Epochs
+abbrev pub many_opened : ℕ → List Act
+many_opened n = nothing ++ Opened 0 (epochs 0 n) ∷ []

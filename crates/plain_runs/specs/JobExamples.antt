@@ -1,170 +1,193 @@
--- Examples of acts that are accepted, and of acts that are refused since one condition fails.
-use Rattle.std.specs.Prelude.{pos, [], ◌∷◌, Some, None}
-use Rattle.plain_runs.specs.Fronts.{levels}
-use Rattle.plain_orders.specs.declared.act.Act.TheVariants.{Issue, Read, Granted, GiveUp, Quit, Counted, NotWhole, Range, Committed, RolledBack, Reached, Level, Done, Refused as RefusedAct}
+-- Examples of acts that are accepted, and of acts that are refused since one condition fails: the condition is named in front of each.
+use Rattle.std.specs.Prelude.{pos, Some, None, ◌++◌, [], ◌∷◌}
+use Rattle.plain_orders.specs.declared.act.Act.TheVariants.{Issue, Read, Level, Done, Refused as RefusedAct, Died}
 use Rattle.plain_orders.specs.declared.op.Op.TheVariants.{Set, Kill, Add}
 use Rattle.plain_orders.specs.declared.item.Item.TheVariants.{Op, Commit as CommitItem, Rollback as RollbackItem}
-use Rattle.plain_orders.specs.declared.mode.Mode.TheVariants.{Exclusive}
 use Rattle.plain_orders.specs.declared.via.Via.TheVariants.{Own, Cached, Fetched}
 use Rattle.plain_orders.specs.declared.question.Question.TheVariants.{Get, Data, Next}
 use Rattle.plain_orders.specs.declared.refused.Refused.TheVariants.{NoTransaction, TooDeep, RollbackOnly, LockTimeout, Network}
-use Rattle.plain_orders.specs.declared.refused.ReasonName.TheVariants.{Reset, NoWay}
-use Rattle.plain_orders.specs.declared.refused.LinkName.TheVariants.{NotConnected, Normal, Recovery}
+use Rattle.plain_orders.specs.declared.refused.ReasonName.TheVariants.{Reset, Expired, NoWay}
+use Rattle.plain_orders.specs.declared.refused.LinkName.TheVariants.{NotConnected, Normal, Trouble, Recovery}
 use Rattle.subscript_keys.specs.declared.sub.Sub.TheVariants.{Text}
-use Rattle.plain_runs.specs.Fronts.{Accepted, Refuses, long_key, long_text, long_value, added_in, added_kept, app_broke, applied, barred, commit_cut_saved, commit_in, commit_issued, commit_kept, cut_saved, issued, kept, letter_kept, level_one, met, met_cut_saved, met_dead, nines_kept, no_way, nothing, quitted, rollback_kept, saved, updated, updated_in, updated_lost, used_no_way}
+use Rattle.plain_runs.specs.Fronts.{Accepted, FailsAt, long_key, long_text, long_value, nothing, saved, met, issued, kept, app_broke, met_dead}
+use Rattle.plain_runs.specs.JobFronts.{levels, level_one, updated, updated_in, commit_issued, updated_lost, updated_dead, barred, used_no_way, no_way, no_way_dead}
+use Rattle.plain_runs.specs.LockFronts.{quitted, quitted_dead}
 
 -- issue
 abbrev pub IssueExamples : Type 0
 IssueExamples =
     Accepted met (Issue 0 5 0 1 (Op (Set (120 ∷ 0 ∷ []) (53 ∷ []))))
-    × Refuses saved (Issue 0 5 0 1 (Op (Set (120 ∷ 0 ∷ []) (53 ∷ []))))
-    × Refuses app_broke (Issue 0 5 0 1 (Op (Set (120 ∷ 0 ∷ []) (53 ∷ []))))
-    × Refuses met (Issue 0 5 0 2 (Op (Set (120 ∷ 0 ∷ []) (53 ∷ []))))
-    × Refuses met (Issue 0 5 0 1 (Op (Kill long_key)))
-    × Refuses met (Issue 0 5 0 1 (Op (Kill [])))
-    × Refuses met (Issue 0 5 0 1 (Op (Set (120 ∷ 0 ∷ []) long_value)))
-    × Refuses met (Issue 0 5 0 1 (Op (Add (120 ∷ 0 ∷ []) (pos 1000000000000000000))))
+    -- known
+    × FailsAt 0 met (Issue 3 6 0 1 (Op (Set (120 ∷ 0 ∷ []) (53 ∷ []))))
+    -- alive
+    × FailsAt 1 met_dead (Issue 0 6 0 1 (Op (Set (120 ∷ 0 ∷ []) (53 ∷ []))))
+    -- free
+    × FailsAt 2 barred (Issue 0 6 0 1 (Op (Set (120 ∷ 0 ∷ []) (53 ∷ []))))
+    -- there
+    × FailsAt 3 saved (Issue 0 5 0 1 (Op (Set (120 ∷ 0 ∷ []) (53 ∷ []))))
+    -- unbroken
+    × FailsAt 4 app_broke (Issue 0 5 0 1 (Op (Set (120 ∷ 0 ∷ []) (53 ∷ []))))
+    -- next
+    × FailsAt 5 met (Issue 0 5 0 2 (Op (Set (120 ∷ 0 ∷ []) (53 ∷ []))))
+    -- is_key of a Set
+    × FailsAt 6 met (Issue 0 5 0 1 (Op (Set [] (53 ∷ []))))
+    -- key_may.within of a Set
+    × FailsAt 7 met (Issue 0 5 0 1 (Op (Set long_key (53 ∷ []))))
+    -- within of a Set
+    × FailsAt 8 met (Issue 0 5 0 1 (Op (Set (120 ∷ 0 ∷ []) long_value)))
+    -- is_key of a Kill
+    × FailsAt 6 met (Issue 0 5 0 1 (Op (Kill [])))
+    -- within of a Kill
+    × FailsAt 7 met (Issue 0 5 0 1 (Op (Kill long_key)))
+    -- is_key of an Add
+    × FailsAt 6 met (Issue 0 5 0 1 (Op (Add [] (pos 1))))
+    -- key_may.within of an Add
+    × FailsAt 7 met (Issue 0 5 0 1 (Op (Add long_key (pos 1))))
+    -- within of an Add
+    × FailsAt 9 met (Issue 0 5 0 1 (Op (Add (120 ∷ 0 ∷ []) (pos 1000000000000000000))))
     × Accepted updated_in (Issue 0 6 0 2 (CommitItem 1))
-    × Refuses issued (Issue 0 6 0 2 (CommitItem 0))
-    × Refuses issued (Issue 0 6 0 2 (CommitItem 1))
-    × Refuses commit_issued (Issue 0 7 0 3 (CommitItem 1))
+    -- positive of a Commit
+    × FailsAt 6 issued (Issue 0 6 0 2 (CommitItem 0))
+    -- used of a Commit: there is no such transaction
+    × FailsAt 7 issued (Issue 0 6 0 2 (CommitItem 1))
+    -- used of a Commit: it is another job's
+    × FailsAt 7 updated_in (Issue 2 6 0 2 (CommitItem 1))
+    -- unended of a Commit
+    × FailsAt 8 commit_issued (Issue 0 7 0 3 (CommitItem 1))
     × Accepted updated_in (Issue 0 6 0 2 (RollbackItem 1))
-    × Refuses issued (Issue 0 6 0 2 (RollbackItem 0))
-    × Refuses issued (Issue 0 6 0 2 (RollbackItem 1))
-    × Refuses commit_issued (Issue 0 7 0 3 (RollbackItem 1))
+    -- positive of a Rollback
+    × FailsAt 6 issued (Issue 0 6 0 2 (RollbackItem 0))
+    -- used of a Rollback: there is no such transaction
+    × FailsAt 7 issued (Issue 0 6 0 2 (RollbackItem 1))
+    -- used of a Rollback: it is another job's
+    × FailsAt 7 updated_in (Issue 2 6 0 2 (RollbackItem 1))
+    -- unended of a Rollback
+    × FailsAt 8 commit_issued (Issue 0 7 0 3 (RollbackItem 1))
 
 -- read
 abbrev pub ReadExamples : Type 0
 ReadExamples =
     Accepted kept (Read 0 6 0 3 Fetched (Get (120 ∷ 0 ∷ []) (Some (53 ∷ []))))
     × Accepted issued (Read 0 6 0 2 Own (Get (120 ∷ 0 ∷ []) (Some (53 ∷ []))))
-    × Refuses saved (Read 0 6 0 2 Fetched (Get (120 ∷ 0 ∷ []) None))
-    × Refuses kept (Read 0 6 0 1 Own (Get (120 ∷ 0 ∷ []) (Some (53 ∷ []))))
-    × Refuses kept (Read 0 6 0 4 Fetched (Get (120 ∷ 0 ∷ []) (Some (53 ∷ []))))
-    × Refuses kept (Read 0 6 0 3 Fetched (Get (120 ∷ 0 ∷ []) None))
-    × Refuses kept (Read 0 6 0 3 Own (Get (120 ∷ 0 ∷ []) (Some (53 ∷ []))))
+    -- known
+    × FailsAt 0 met (Read 3 6 0 2 Fetched (Get (120 ∷ 0 ∷ []) None))
+    -- alive
+    × FailsAt 1 met_dead (Read 0 6 0 2 Fetched (Get (120 ∷ 0 ∷ []) None))
+    -- free
+    × FailsAt 2 barred (Read 0 6 0 4 Fetched (Get (120 ∷ 0 ∷ []) None))
+    -- there
+    × FailsAt 3 saved (Read 0 6 0 2 Fetched (Get (120 ∷ 0 ∷ []) None))
+    -- no_less
+    × FailsAt 4 kept (Read 0 6 0 1 Own (Get (120 ∷ 0 ∷ []) (Some (53 ∷ []))))
+    -- within
+    × FailsAt 5 kept (Read 0 6 0 4 Fetched (Get (120 ∷ 0 ∷ []) (Some (53 ∷ []))))
+    -- result of a get
+    × FailsAt 6 kept (Read 0 6 0 3 Fetched (Get (120 ∷ 0 ∷ []) None))
+    -- by of a get: no own update touches the node
+    × FailsAt 7 kept (Read 0 6 0 3 Own (Get (120 ∷ 0 ∷ []) (Some (53 ∷ []))))
+    -- by of a get: an own update touches it
+    × FailsAt 7 issued (Read 0 6 0 2 Cached (Get (120 ∷ 0 ∷ []) (Some (53 ∷ []))))
+    -- the same
+    × FailsAt 7 issued (Read 0 6 0 2 Fetched (Get (120 ∷ 0 ∷ []) (Some (53 ∷ []))))
+    -- is_key of a get
+    × FailsAt 8 kept (Read 0 6 0 3 Fetched (Get [] None))
+    -- node.within of a get
+    × FailsAt 9 met (Read 0 6 0 2 Fetched (Get long_key None))
     × Accepted kept (Read 0 6 0 3 Cached (Data (120 ∷ 0 ∷ []) 1))
-    × Refuses kept (Read 0 6 0 3 Cached (Data (120 ∷ 0 ∷ []) 0))
-    × Refuses kept (Read 0 6 0 3 Own (Data (120 ∷ 0 ∷ []) 1))
-    × Refuses issued (Read 0 6 0 2 Cached (Data (120 ∷ 0 ∷ []) 0))
+    -- result of a data
+    × FailsAt 6 kept (Read 0 6 0 3 Cached (Data (120 ∷ 0 ∷ []) 0))
+    -- by of a data
+    × FailsAt 7 kept (Read 0 6 0 3 Own (Data (120 ∷ 0 ∷ []) 1))
+    -- entered of a data
+    × FailsAt 8 issued (Read 0 6 0 2 Cached (Data (120 ∷ 0 ∷ []) 0))
+    -- is_key of a data
+    × FailsAt 9 kept (Read 0 6 0 3 Cached (Data [] 10))
+    -- node.within of a data
+    × FailsAt 10 met (Read 0 6 0 2 Cached (Data long_key 0))
     × Accepted kept (Read 0 6 0 3 Cached (Next (120 ∷ 0 ∷ []) None None))
-    × Refuses kept (Read 0 6 0 3 Cached (Next (120 ∷ 0 ∷ []) None (Some (Text (97 ∷ [])))))
-    × Refuses kept (Read 0 6 0 3 Own (Next (120 ∷ 0 ∷ []) None None))
-    × Refuses issued (Read 0 6 0 2 Cached (Next (120 ∷ 0 ∷ []) None None))
-    × Refuses kept (Read 0 6 0 3 Fetched (Get [] None))
-    × Refuses kept (Read 0 6 0 3 Cached (Data [] 10))
-    × Refuses met (Read 0 6 0 2 Cached (Next [] None None))
-    × Refuses kept (Read 0 6 0 3 Cached (Next long_key None None))
-    × Refuses kept (Read 0 6 0 3 Cached (Next (120 ∷ 0 ∷ []) (Some (Text long_text)) None))
-
--- counted, notwhole and range
-abbrev pub CountedExamples : Type 0
-CountedExamples =
-    Accepted added_kept (Counted 0 5 0 3 (pos 1))
-    × Refuses saved (Counted 0 5 0 3 (pos 1))
-    × Refuses added_in (Counted 0 5 0 3 (pos 1))
-    × Refuses added_kept (Counted 0 6 0 3 (pos 1))
-    × Refuses added_kept (Counted 2 5 0 3 (pos 1))
-    × Refuses kept (Counted 0 5 0 3 (pos 1))
-    × Refuses added_kept (Counted 0 5 0 3 (pos 2))
-    × Accepted letter_kept (NotWhole 0 5 0 4)
-    × Refuses added_kept (NotWhole 0 5 0 3)
-    × Accepted nines_kept (Range 0 5 0 4)
-    × Refuses added_kept (Range 0 5 0 3)
-
--- committed and rolledback
-abbrev pub CommittedExamples : Type 0
-CommittedExamples =
-    Accepted commit_kept (Committed 0 6 0 4)
-    × Refuses commit_in (Committed 0 6 0 4)
-    × Refuses commit_kept (Committed 0 7 0 4)
-    × Refuses commit_kept (RolledBack 0 6 0 4)
-    × Refuses commit_cut_saved (Committed 0 6 0 4)
-    × Accepted rollback_kept (RolledBack 0 6 0 4)
-    × Refuses rollback_kept (Committed 0 6 0 4)
-
--- reached
-abbrev pub ReachedExamples : Type 0
-ReachedExamples =
-    Accepted kept (Reached 0 6 0 3)
-    × Refuses saved (Reached 0 6 0 2)
-    × Refuses applied (Reached 0 6 0 3)
-    × Refuses met_cut_saved (Reached 0 6 0 3)
-    × Refuses kept (Reached 0 6 0 2)
-    × Refuses cut_saved (Reached 0 6 0 3)
-
--- acts of jobs that are not there, whose application server died, or that are barred
-abbrev pub BarredExamples : Type 0
-BarredExamples =
-    Refuses met (Issue 3 6 0 1 (Op (Set (120 ∷ 0 ∷ []) (53 ∷ []))))
-    × Refuses met_dead (Issue 0 6 0 1 (Op (Set (120 ∷ 0 ∷ []) (53 ∷ []))))
-    × Refuses barred (Issue 0 6 0 1 (Op (Set (120 ∷ 0 ∷ []) (53 ∷ []))))
-    × Refuses met (Read 3 6 0 2 Fetched (Get (120 ∷ 0 ∷ []) None))
-    × Refuses met_dead (Read 0 6 0 2 Fetched (Get (120 ∷ 0 ∷ []) None))
-    × Refuses barred (Read 0 6 0 2 Fetched (Get (120 ∷ 0 ∷ []) None))
-    × Refuses met (Granted 3 6 0 2)
-    × Refuses met_dead (Granted 0 6 0 2)
-    × Refuses barred (Granted 0 6 0 2)
-    × Refuses met (GiveUp 3 6 0 Exclusive (120 ∷ 0 ∷ []))
-    × Refuses met_dead (GiveUp 0 6 0 Exclusive (120 ∷ 0 ∷ []))
-    × Refuses barred (GiveUp 0 6 0 Exclusive (120 ∷ 0 ∷ []))
-    × Refuses met (Quit 3 6 0 Exclusive (120 ∷ 0 ∷ []))
-    × Refuses met_dead (Quit 0 6 0 Exclusive (120 ∷ 0 ∷ []))
-    × Refuses barred (Quit 0 6 0 Exclusive (120 ∷ 0 ∷ []))
-    × Refuses met (Counted 3 6 0 2 (pos 1))
-    × Refuses met_dead (Counted 0 6 0 2 (pos 1))
-    × Refuses barred (Counted 0 6 0 2 (pos 1))
-    × Refuses met (NotWhole 3 6 0 2)
-    × Refuses met_dead (NotWhole 0 6 0 2)
-    × Refuses barred (NotWhole 0 6 0 2)
-    × Refuses met (Range 3 6 0 2)
-    × Refuses met_dead (Range 0 6 0 2)
-    × Refuses barred (Range 0 6 0 2)
-    × Refuses met (Committed 3 6 0 2)
-    × Refuses met_dead (Committed 0 6 0 2)
-    × Refuses barred (Committed 0 6 0 2)
-    × Refuses met (RolledBack 3 6 0 2)
-    × Refuses met_dead (RolledBack 0 6 0 2)
-    × Refuses barred (RolledBack 0 6 0 2)
-    × Refuses met (Reached 3 6 0 2)
-    × Refuses met_dead (Reached 0 6 0 2)
-    × Refuses barred (Reached 0 6 0 2)
+    -- result of a next
+    × FailsAt 6 kept (Read 0 6 0 3 Cached (Next (120 ∷ 0 ∷ []) None (Some (Text (97 ∷ [])))))
+    -- by of a next
+    × FailsAt 7 kept (Read 0 6 0 3 Own (Next (120 ∷ 0 ∷ []) None None))
+    -- entered of a next
+    × FailsAt 8 issued (Read 0 6 0 2 Cached (Next (120 ∷ 0 ∷ []) None None))
+    -- is_key of a next
+    × FailsAt 9 met (Read 0 6 0 2 Cached (Next [] None None))
+    -- node.within of a next: the parent alone
+    × FailsAt 10 kept (Read 0 6 0 3 Cached (Next long_key None None))
+    -- node.within of a next: the parent with the subscript
+    × FailsAt 10 kept (Read 0 6 0 3 Cached (Next (120 ∷ 0 ∷ []) (Some (Text long_text)) None))
 
 -- level
 abbrev pub LevelExamples : Type 0
 LevelExamples =
     Accepted commit_issued (Level 0 6 0)
     × Accepted nothing (Level 0 4 1)
-    × Refuses nothing (Level 3 4 1)
-    × Refuses met_dead (Level 0 4 1)
-    × Refuses nothing (Level 0 4 2)
-    × Refuses updated (Level 0 6 0)
+    -- known
+    × FailsAt 0 nothing (Level 3 4 1)
+    -- alive
+    × FailsAt 1 met_dead (Level 0 4 1)
+    -- near
+    × FailsAt 2 nothing (Level 0 4 2)
+    -- ended: there is no end
+    × FailsAt 3 updated (Level 0 6 0)
+    -- ended: it was issued at another line
+    × FailsAt 3 commit_issued (Level 0 7 0)
 
 -- done
 abbrev pub DoneExamples : Type 0
 DoneExamples =
     Accepted nothing (Done 0 4)
-    × Refuses nothing (Done 3 4)
-    × Refuses met_dead (Done 0 4)
+    -- known
+    × FailsAt 0 nothing (Done 3 4)
+    -- alive
+    × FailsAt 1 met_dead (Done 0 4)
 
 -- refused
 abbrev pub RefusedExamples : Type 0
 RefusedExamples =
     Accepted nothing (RefusedAct 0 4 NoTransaction)
-    × Refuses level_one (RefusedAct 0 4 NoTransaction)
-    × Refuses nothing (RefusedAct 0 4 TooDeep)
+    -- known
+    × FailsAt 0 nothing (RefusedAct 3 6 NoTransaction)
+    -- alive
+    × FailsAt 1 met_dead (RefusedAct 0 6 NoTransaction)
+    -- the level is 0
+    × FailsAt 2 level_one (RefusedAct 0 4 NoTransaction)
+    -- the level is 255
+    × FailsAt 2 nothing (RefusedAct 0 4 TooDeep)
     × Accepted updated_lost (RefusedAct 0 6 RollbackOnly)
-    × Refuses updated (RefusedAct 0 6 RollbackOnly)
+    -- alive
+    × FailsAt 1 updated_dead (RefusedAct 0 6 RollbackOnly)
+    -- the job can only be rolled back
+    × FailsAt 2 updated (RefusedAct 0 6 RollbackOnly)
     × Accepted quitted (RefusedAct 0 5 LockTimeout)
-    × Refuses quitted (RefusedAct 0 6 LockTimeout)
+    -- alive
+    × FailsAt 1 quitted_dead (RefusedAct 0 5 LockTimeout)
+    -- a request was given up at the line
+    × FailsAt 2 quitted (RefusedAct 0 6 LockTimeout)
     × Accepted barred (RefusedAct 0 6 (Network 0 Recovery Reset))
+    × Accepted updated_lost (RefusedAct 0 6 (Network 0 Trouble Expired))
     × Accepted no_way (RefusedAct 0 6 (Network 0 NotConnected NoWay))
-    × Refuses met (RefusedAct 0 6 (Network 0 Recovery Reset))
-    × Refuses no_way (RefusedAct 0 6 (Network 0 Normal NoWay))
-    × Refuses used_no_way (RefusedAct 0 6 (Network 0 NotConnected NoWay))
-    × Refuses nothing (RefusedAct 3 6 NoTransaction)
-    × Refuses met_dead (RefusedAct 0 6 NoTransaction)
+    -- alive
+    × FailsAt 1 no_way_dead (RefusedAct 0 6 (Network 0 NotConnected NoWay))
+    -- news: there are none
+    × FailsAt 2 met (RefusedAct 0 6 (Network 0 Recovery Reset))
+    -- news: it is another one
+    × FailsAt 2 no_way (RefusedAct 0 6 (Network 0 Recovery Reset))
+    -- bar
+    × FailsAt 3 used_no_way (RefusedAct 0 6 (Network 0 NotConnected NoWay))
+    -- its_state of a reset
+    × FailsAt 4 barred (RefusedAct 0 6 (Network 0 Trouble Reset))
+    -- its_state of an expiry
+    × FailsAt 4 updated_lost (RefusedAct 0 6 (Network 0 Recovery Expired))
+    -- its_state of no way
+    × FailsAt 4 no_way (RefusedAct 0 6 (Network 0 Normal NoWay))
 
 -- a transaction 255 levels deep goes no deeper
 abbrev pub TooDeepExamples : Type 0
-TooDeepExamples = Accepted (levels 0 255) (RefusedAct 0 4 TooDeep)
+TooDeepExamples =
+    Accepted (levels 0 255) (RefusedAct 0 4 TooDeep)
+    -- alive
+    × FailsAt 1 (levels 0 255 ++ Died 0 ∷ []) (RefusedAct 0 4 TooDeep)
+    -- the level is 255
+    × FailsAt 2 (levels 0 254) (RefusedAct 0 4 TooDeep)

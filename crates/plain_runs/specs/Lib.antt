@@ -9,10 +9,16 @@ pub mod Run
 pub mod Recording
 pub mod FirstRun
 pub mod Laws
+pub mod Together
+pub mod Conditions
 pub mod Fronts
+pub mod LockFronts
+pub mod JobFronts
 pub mod ChangeFronts
+pub mod EntryExamples
 pub mod OrderExamples
 pub mod EndExamples
 pub mod LockExamples
 pub mod JobExamples
+pub mod AnswerExamples
 pub mod ChangeExamples

@@ -1,56 +1,115 @@
--- Examples of acts that are accepted, and of acts that are refused since one condition fails.
+-- Examples of acts that are accepted, and of acts that are refused since one condition fails: the condition is named in front of each.
 use Rattle.std.specs.Prelude.{[], ◌∷◌}
 use Rattle.plain_orders.specs.declared.act.Act.TheVariants.{Release, Grant, Granted, GiveUp, Quit, Free}
 use Rattle.plain_orders.specs.declared.mode.Mode.TheVariants.{Exclusive, Shared}
-use Rattle.plain_runs.specs.Fronts.{Accepted, Refuses, answered, both_held, closed, closed_saved, crashed, given, granted, issued_quit, met, quitted, saved}
+use Rattle.plain_runs.specs.Fronts.{Accepted, Refuses, FailsAt, long_key, saved, met, crashed, closed, closed_saved, met_dead}
+use Rattle.plain_runs.specs.JobFronts.{barred, barred_granted}
+use Rattle.plain_runs.specs.LockFronts.{granted, answered, given, quitted, issued_quit, both_held, stranger_granted, granted_dead, answered_dead, given_released}
 
 -- release
 abbrev pub ReleaseExamples : Type 0
 ReleaseExamples =
     Accepted closed_saved (Release 0 2)
-    × Refuses closed (Release 0 2)
-    × Refuses met (Release 0 2)
+    -- closed: the Close is not synced
+    × FailsAt 0 closed (Release 0 2)
+    -- closed: there is no Close
+    × FailsAt 0 met (Release 0 2)
 
 -- grant
 abbrev pub GrantExamples : Type 0
 GrantExamples =
     Accepted met (Grant 0 2 0 Exclusive (120 ∷ 0 ∷ []) 2)
-    × Refuses met (Grant 0 3 0 Exclusive (120 ∷ 0 ∷ []) 2)
-    × Refuses crashed (Grant 0 2 0 Exclusive (120 ∷ 0 ∷ []) 4)
-    × Refuses met (Grant 0 2 0 Exclusive (120 ∷ 0 ∷ []) 3)
-    × Refuses both_held (Grant 0 3 1 Exclusive (120 ∷ 0 ∷ []) 3)
+    -- is_live
+    × FailsAt 0 met (Grant 0 3 0 Exclusive (120 ∷ 0 ∷ []) 2)
+    -- up
+    × FailsAt 1 crashed (Grant 0 2 0 Exclusive (120 ∷ 0 ∷ []) 4)
+    -- here
+    × FailsAt 2 met (Grant 0 2 0 Exclusive (120 ∷ 0 ∷ []) 3)
+    -- free
+    × FailsAt 3 both_held (Grant 0 3 1 Exclusive (120 ∷ 0 ∷ []) 3)
     × Accepted both_held (Grant 0 3 1 Exclusive (121 ∷ 0 ∷ []) 3)
     × Accepted quitted (Grant 0 2 0 Exclusive (120 ∷ 0 ∷ []) 2)
-    × Refuses met (Grant 0 2 0 Exclusive [] 2)
+    -- is_key
+    × FailsAt 4 met (Grant 0 2 0 Exclusive [] 2)
+    -- within
+    × FailsAt 5 met (Grant 0 2 0 Exclusive long_key 2)
 
 -- granted
 abbrev pub GrantedExamples : Type 0
 GrantedExamples =
     Accepted granted (Granted 0 5 0 2)
+    -- known
+    × FailsAt 0 stranger_granted (Granted 3 5 0 2)
+    -- alive
+    × FailsAt 1 granted_dead (Granted 0 5 0 2)
+    -- free
+    × FailsAt 2 barred_granted (Granted 0 6 0 4)
+    -- session, and with it sent
     × Refuses saved (Granted 0 5 0 2)
-    × Refuses met (Granted 0 5 0 2)
-    × Refuses both_held (Granted 0 5 0 3)
+    -- sent: there is no hold
+    × FailsAt 4 met (Granted 0 5 0 2)
+    -- sent: it is the hold of another job
+    × FailsAt 4 granted (Granted 2 5 0 2)
+    -- sent: it has another number
+    × FailsAt 4 granted (Granted 0 5 0 1)
+    -- sent: it was answered
+    × FailsAt 4 answered (Granted 0 6 0 2)
+    -- synced
+    × FailsAt 5 both_held (Granted 0 5 0 3)
 
 -- giveup
 abbrev pub GiveUpExamples : Type 0
 GiveUpExamples =
     Accepted answered (GiveUp 0 6 0 Exclusive (120 ∷ 0 ∷ []))
+    -- known, and with it answered
+    × Refuses answered (GiveUp 3 6 0 Exclusive (120 ∷ 0 ∷ []))
+    -- alive
+    × FailsAt 1 answered_dead (GiveUp 0 6 0 Exclusive (120 ∷ 0 ∷ []))
+    -- free, and with it answered
+    × Refuses barred (GiveUp 0 6 0 Exclusive (120 ∷ 0 ∷ []))
+    -- session, and with it answered
     × Refuses saved (GiveUp 0 6 0 Exclusive (120 ∷ 0 ∷ []))
-    × Refuses granted (GiveUp 0 6 0 Exclusive (120 ∷ 0 ∷ []))
-    × Refuses answered (GiveUp 0 6 0 Shared (120 ∷ 0 ∷ []))
+    -- answered: it is not
+    × FailsAt 4 granted (GiveUp 0 6 0 Exclusive (120 ∷ 0 ∷ []))
+    -- answered: it is the hold of another job
+    × FailsAt 4 answered (GiveUp 2 6 0 Exclusive (120 ∷ 0 ∷ []))
+    -- answered: it has another mode
+    × FailsAt 4 answered (GiveUp 0 6 0 Shared (120 ∷ 0 ∷ []))
+    -- answered: it is of another node
+    × FailsAt 4 answered (GiveUp 0 6 0 Exclusive (121 ∷ 0 ∷ []))
+    -- answered: it was given up
+    × FailsAt 4 given (GiveUp 0 7 0 Exclusive (120 ∷ 0 ∷ []))
 
 -- quit
 abbrev pub QuitExamples : Type 0
 QuitExamples =
     Accepted met (Quit 0 5 0 Exclusive (120 ∷ 0 ∷ []))
     × Accepted granted (Quit 0 5 0 Exclusive (120 ∷ 0 ∷ []))
-    × Refuses saved (Quit 0 5 0 Exclusive (120 ∷ 0 ∷ []))
-    × Refuses met (Quit 0 5 0 Exclusive [])
+    -- known
+    × FailsAt 0 met (Quit 3 6 0 Exclusive (120 ∷ 0 ∷ []))
+    -- alive
+    × FailsAt 1 met_dead (Quit 0 6 0 Exclusive (120 ∷ 0 ∷ []))
+    -- free
+    × FailsAt 2 barred (Quit 0 6 0 Exclusive (120 ∷ 0 ∷ []))
+    -- session
+    × FailsAt 3 saved (Quit 0 5 0 Exclusive (120 ∷ 0 ∷ []))
+    -- is_key
+    × FailsAt 4 met (Quit 0 5 0 Exclusive [])
+    -- within
+    × FailsAt 5 met (Quit 0 5 0 Exclusive long_key)
 
 -- free
 abbrev pub FreeExamples : Type 0
 FreeExamples =
     Accepted given (Free 0 2 0 Exclusive (120 ∷ 0 ∷ []))
     × Accepted quitted (Free 0 2 0 Exclusive (120 ∷ 0 ∷ []))
-    × Refuses answered (Free 0 2 0 Exclusive (120 ∷ 0 ∷ []))
-    × Refuses issued_quit (Free 0 2 0 Exclusive (120 ∷ 0 ∷ []))
+    -- given: it is not
+    × FailsAt 0 answered (Free 0 2 0 Exclusive (120 ∷ 0 ∷ []))
+    -- given: by another job
+    × FailsAt 0 given (Free 0 2 2 Exclusive (120 ∷ 0 ∷ []))
+    -- given: with another mode
+    × FailsAt 0 given (Free 0 2 0 Shared (120 ∷ 0 ∷ []))
+    -- given: it is no longer in force
+    × FailsAt 0 given_released (Free 0 2 0 Exclusive (120 ∷ 0 ∷ []))
+    -- entered
+    × FailsAt 1 issued_quit (Free 0 2 0 Exclusive (120 ∷ 0 ∷ []))

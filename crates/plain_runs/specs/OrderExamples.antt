@@ -1,66 +1,133 @@
--- Examples of acts that are accepted, and of acts that are refused since one condition fails.
-use Rattle.std.specs.Prelude.{ℕ, List, [], ◌∷◌}
-use Rattle.std.specs.Prelude.{◌<◌, ◌^◌, take}
+-- Examples of acts that are accepted, and of acts that are refused since one condition fails: the condition is named in front of each.
+use Rattle.std.specs.Prelude.{ℕ, List, ◌+◌, [], ◌∷◌, ◌≡◌, ◌<◌, ◌^◌, take}
+use Rattle.plain_orders.specs.declared.act.Act.TheVariants.{Opened, Enter, Synced, Back, Crash}
+use Rattle.plain_orders.specs.declared.op.Op.TheVariants.{Set}
 use Rattle.plain_orders.specs.declared.entry.Entry.{Entry}
+use Rattle.plain_orders.specs.declared.entry.Entry.TheVariants.{Epoch, Opened as OpenEntry, Closed, Update, Commit, Rollback}
 use Rattle.plain_orders.specs.Entries.{last_epoch}
 use Rattle.plain_runs.specs.Plain.{Plain}
 use Rattle.plain_runs.specs.Step.{MayCome}
-use Rattle.plain_orders.specs.declared.act.Act.TheVariants.{Opened, Enter, Synced, Back, Crash}
-use Rattle.plain_orders.specs.declared.op.Op.TheVariants.{Set}
-use Rattle.plain_orders.specs.declared.entry.Entry.TheVariants.{Epoch, Opened as OpenEntry, Closed, Update}
-use Rattle.plain_runs.specs.Fronts.{small, Accepted, Refuses, crashed, entered, issued, issued_closed, issued_cut, issued_more, issued_told, kept, met, nothing, opened, saved, told, told_closed}
+use Rattle.plain_runs.specs.Fronts.{small, Accepted, Refuses, FailsAt, nothing, epochs, opened, entered, saved, met, issued, kept, crashed, told, told_closed, issued_more, issued_closed, issued_cut, issued_told, found, many_opened}
+use Rattle.plain_runs.specs.JobFronts.{updated_in, commit_issued, commit_closed, commit_untold, commit_early, rollback_issued, rollback_closed, rollback_untold, rollback_early}
 
 -- opened
 abbrev pub OpenedExamples : Type 0
 OpenedExamples =
     Accepted nothing (Opened 0 [])
-    × Refuses opened (Opened 0 [])
-    × Refuses nothing (Opened 0 (Epoch 2 ∷ []))
+    -- fresh
+    × FailsAt 0 opened (Opened 0 [])
+    -- ordered
+    × FailsAt 1 nothing (Opened 0 (Epoch 2 ∷ []))
 
 -- enter
 abbrev pub EnterExamples : Type 0
 EnterExamples =
+    -- an Open
     Accepted opened (Enter 0 (OpenEntry 2 0))
-    × Refuses nothing (Enter 0 (OpenEntry 1 0))
-    × Refuses opened (Enter 0 (OpenEntry 3 0))
-    × Refuses entered (Enter 0 (OpenEntry 3 0))
-    × Refuses crashed (Enter 0 (OpenEntry 5 1))
-    × Refuses opened (Enter 0 (Epoch 2))
-    × Refuses entered (Enter 0 (Closed 2))
+    -- opened
+    × FailsAt 0 nothing (Enter 0 (OpenEntry 1 0))
+    -- place
+    × FailsAt 1 opened (Enter 0 (OpenEntry 3 0))
+    -- alone
+    × FailsAt 2 entered (Enter 0 (OpenEntry 3 0))
+    -- up
+    × FailsAt 3 crashed (Enter 0 (OpenEntry 5 1))
+    -- an Epoch
+    × FailsAt 0 opened (Enter 0 (Epoch 2))
+    -- a Close
+    × FailsAt 0 entered (Enter 0 (Closed 2))
+    -- an update
     × Accepted issued (Enter 0 (Update 2 1 0 0 (Set (120 ∷ 0 ∷ []) (53 ∷ []))))
-    × Refuses issued_closed (Enter 0 (Update 2 1 0 0 (Set (120 ∷ 0 ∷ []) (53 ∷ []))))
-    × Refuses issued_cut (Enter 0 (Update 2 1 0 0 (Set (120 ∷ 0 ∷ []) (53 ∷ []))))
-    × Refuses issued_more (Enter 0 (Update 2 2 0 0 (Set (120 ∷ 0 ∷ []) (53 ∷ []))))
-    × Refuses met (Enter 0 (Update 2 1 0 0 (Set (120 ∷ 0 ∷ []) (53 ∷ []))))
-    × Refuses issued (Enter 0 (Update 2 1 2 0 (Set (120 ∷ 0 ∷ []) (53 ∷ []))))
+    -- is_live
+    × FailsAt 0 issued_closed (Enter 0 (Update 2 1 0 0 (Set (120 ∷ 0 ∷ []) (53 ∷ []))))
+    -- told
+    × FailsAt 1 issued_cut (Enter 0 (Update 2 1 0 0 (Set (120 ∷ 0 ∷ []) (53 ∷ []))))
+    -- next
+    × FailsAt 2 issued_more (Enter 0 (Update 2 2 0 0 (Set (120 ∷ 0 ∷ []) (53 ∷ []))))
+    -- issued: nothing is
+    × FailsAt 3 met (Enter 0 (Update 2 1 0 0 (Set (120 ∷ 0 ∷ []) (53 ∷ []))))
+    -- issued: by another job
+    × FailsAt 3 issued (Enter 0 (Update 2 1 2 0 (Set (120 ∷ 0 ∷ []) (53 ∷ []))))
+    -- issued: in no transaction
+    × FailsAt 3 issued (Enter 0 (Update 2 1 0 1 (Set (120 ∷ 0 ∷ []) (53 ∷ []))))
+    -- issued: with another value
+    × FailsAt 3 issued (Enter 0 (Update 2 1 0 0 (Set (120 ∷ 0 ∷ []) (54 ∷ []))))
+    -- a Commit
+    × Accepted commit_issued (Enter 0 (Commit 2 2 0 1))
+    -- is_live
+    × FailsAt 0 commit_closed (Enter 0 (Commit 2 2 0 1))
+    -- told
+    × FailsAt 1 commit_untold (Enter 0 (Commit 2 2 0 1))
+    -- next
+    × FailsAt 2 commit_early (Enter 0 (Commit 2 2 0 1))
+    -- issued: nothing is
+    × FailsAt 3 updated_in (Enter 0 (Commit 2 2 0 1))
+    -- issued: by another job
+    × FailsAt 3 commit_issued (Enter 0 (Commit 2 2 2 1))
+    -- issued: for another transaction
+    × FailsAt 3 commit_issued (Enter 0 (Commit 2 2 0 2))
+    -- issued: the Commit
+    × FailsAt 3 commit_issued (Enter 0 (Rollback 2 2 0 1))
+    -- a Rollback
+    × Accepted rollback_issued (Enter 0 (Rollback 2 2 0 1))
+    -- is_live
+    × FailsAt 0 rollback_closed (Enter 0 (Rollback 2 2 0 1))
+    -- told
+    × FailsAt 1 rollback_untold (Enter 0 (Rollback 2 2 0 1))
+    -- next
+    × FailsAt 2 rollback_early (Enter 0 (Rollback 2 2 0 1))
+    -- issued: nothing is
+    × FailsAt 3 updated_in (Enter 0 (Rollback 2 2 0 1))
+    -- issued: by another job
+    × FailsAt 3 rollback_issued (Enter 0 (Rollback 2 2 2 1))
+    -- issued: for another transaction
+    × FailsAt 3 rollback_issued (Enter 0 (Rollback 2 2 0 2))
+    -- issued: the Rollback
+    × FailsAt 3 rollback_issued (Enter 0 (Commit 2 2 0 1))
 
 -- synced
 abbrev pub SyncedExamples : Type 0
 SyncedExamples =
     Accepted entered (Synced 0 2)
-    × Refuses nothing (Synced 0 0)
-    × Refuses saved (Synced 0 1)
-    × Refuses saved (Synced 0 3)
+    -- opened
+    × FailsAt 0 nothing (Synced 0 0)
+    -- no_less
+    × FailsAt 1 saved (Synced 0 1)
+    -- within
+    × FailsAt 2 saved (Synced 0 3)
 
 -- crash
 abbrev pub CrashExamples : Type 0
 CrashExamples =
     Accepted kept (Crash 0 3)
-    × Refuses nothing (Crash 0 0)
-    × Refuses kept (Crash 0 2)
-    × Refuses kept (Crash 0 4)
+    -- opened
+    × FailsAt 0 nothing (Crash 0 0)
+    -- no_less
+    × FailsAt 1 kept (Crash 0 2)
+    -- within
+    × FailsAt 2 kept (Crash 0 4)
 
 -- back
 abbrev pub BackExamples : Type 0
 BackExamples =
     Accepted told (Back 0)
-    × Refuses kept (Back 0)
-    × Refuses crashed (Back 0)
-    × Refuses issued_told (Back 0)
-    × Refuses told_closed (Back 0)
+    -- recovering
+    × FailsAt 0 kept (Back 0)
+    -- told: of the current order
+    × FailsAt 1 crashed (Back 0)
+    -- told: the session was not met
+    × FailsAt 1 found (Back 0)
+    -- counted
+    × FailsAt 2 issued_told (Back 0)
+    -- closes
+    × FailsAt 3 told_closed (Back 0)
 
 -- no server opens or starts again with an Epoch above 2^31
 abbrev pub EpochLimitExamples : Type 0
 EpochLimitExamples =
     ((entries : List Entry) → 2 ^ 31 < last_epoch entries → Refuses nothing (Opened 0 entries))
     × ((p : Plain) (kept : ℕ) → 2 ^ 31 < last_epoch (take kept (p.server_at 0).order) → MayCome small p (Crash 0 kept) → ⊥)
+    -- low of opened
+    × ((n : ℕ) → 2 ^ 31 < n → n < 2 ^ 32 → FailsAt 2 nothing (Opened 0 (epochs 0 n)))
+    -- low of crash
+    × ((n : ℕ) → n ≡ 2 ^ 31 → FailsAt 3 (many_opened n) (Crash 0 (n + 1)))

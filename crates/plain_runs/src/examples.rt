@@ -1,8 +1,15 @@
+ghost use Rattle.plain_runs.specs.EntryExamples.{EntryExamples};
 ghost use Rattle.plain_runs.specs.OrderExamples.{BackExamples, CrashExamples, EnterExamples, EpochLimitExamples, OpenedExamples, SyncedExamples};
 ghost use Rattle.plain_runs.specs.EndExamples.{BrokeExamples, FreeActExamples, LoseExamples, MendedExamples, MetExamples, ShutExamples, ToldExamples};
 ghost use Rattle.plain_runs.specs.LockExamples.{FreeExamples, GiveUpExamples, GrantExamples, GrantedExamples, QuitExamples, ReleaseExamples};
-ghost use Rattle.plain_runs.specs.JobExamples.{BarredExamples, CommittedExamples, CountedExamples, DoneExamples, IssueExamples, LevelExamples, ReachedExamples, ReadExamples, RefusedExamples, TooDeepExamples};
+ghost use Rattle.plain_runs.specs.JobExamples.{DoneExamples, IssueExamples, LevelExamples, ReadExamples, RefusedExamples, TooDeepExamples};
+ghost use Rattle.plain_runs.specs.AnswerExamples.{CommittedExamples, CountedExamples, NotWholeExamples, RangeExamples, ReachedExamples, RolledBackExamples};
 ghost use Rattle.plain_runs.specs.ChangeExamples.{NewsExamples, RoomExamples, SeenExamples, UnclaimedExamples};
+
+/// Examples of entries that no server opens with.
+pub fn entry_examples()
+    ensures { EntryExamples }
+{}
 
 /// Examples of opened.
 pub fn opened_examples()
@@ -109,26 +116,6 @@ pub fn read_examples()
     ensures { ReadExamples }
 {}
 
-/// Examples of counted, notwhole and range.
-pub fn counted_examples()
-    ensures { CountedExamples }
-{}
-
-/// Examples of committed and rolledback.
-pub fn committed_examples()
-    ensures { CommittedExamples }
-{}
-
-/// Examples of reached.
-pub fn reached_examples()
-    ensures { ReachedExamples }
-{}
-
-/// Examples of acts of jobs that are not there, whose application server died, or that are barred.
-pub fn barred_examples()
-    ensures { BarredExamples }
-{}
-
 /// Examples of level.
 pub fn level_examples()
     ensures { LevelExamples }
@@ -147,6 +134,36 @@ pub fn refused_examples()
 /// Examples of a transaction that is too deep.
 pub fn too_deep_examples()
     ensures { TooDeepExamples }
+{}
+
+/// Examples of counted.
+pub fn counted_examples()
+    ensures { CountedExamples }
+{}
+
+/// Examples of notwhole.
+pub fn not_whole_examples()
+    ensures { NotWholeExamples }
+{}
+
+/// Examples of range.
+pub fn range_examples()
+    ensures { RangeExamples }
+{}
+
+/// Examples of committed.
+pub fn committed_examples()
+    ensures { CommittedExamples }
+{}
+
+/// Examples of rolledback.
+pub fn rolled_back_examples()
+    ensures { RolledBackExamples }
+{}
+
+/// Examples of reached.
+pub fn reached_examples()
+    ensures { ReachedExamples }
 {}
 
 /// Examples of a release and of a free that make room for another lock.

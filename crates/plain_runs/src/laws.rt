@@ -1,4 +1,6 @@
 ghost use Rattle.plain_runs.specs.FirstRun.{FirstRunIsRun};
+ghost use Rattle.plain_runs.specs.Conditions.{NoneIsLeftOut, NoneIsLeftOutBehind};
+ghost use Rattle.plain_runs.specs.Together.{AllInOrderAreTold, AnsweredIsTold, BarredDidNothing, MetOnce, NoLaterEpoch, NoneWithoutSession, OnlyAddsSum, StrangersAreToldNothing, StrangersDidNothing};
 ghost use Rattle.plain_runs.specs.Laws.{Extended, Framed, ItemsInOrder, ItemsWereIssued, NeighboursAgree, NoConflict, SeenIsTold, SeenNeverFalls, Settled, SyncedStays};
 
 /// The trail of the worked first run is a run.
@@ -54,4 +56,47 @@ pub fn items_stand_as_they_were_issued()
 /// What a job has seen is within the order that its pair's session is told of.
 pub fn what_is_seen_was_told()
     ensures { SeenIsTold }
+{}
+
+/// An act may come where all its conditions hold, and an entry may follow a list where all of its own do.
+pub fn no_condition_is_left_out()
+    ensures acts { NoneIsLeftOut }
+    ensures entries { NoneIsLeftOutBehind }
+{}
+
+/// Where a pair has no session, no hold, no item and no Close is there that an act could mean.
+pub fn nothing_is_there_without_a_session()
+    ensures { NoneWithoutSession }
+{}
+
+/// A job that isn't there has no answered hold and no item, and is refused nothing but that it has no transaction.
+pub fn a_job_that_is_not_there_did_nothing()
+    ensures did { StrangersDidNothing }
+    ensures told { StrangersAreToldNothing }
+{}
+
+/// A job that is barred has no answered hold and no item in its pair's session.
+pub fn a_barred_job_did_nothing()
+    ensures { BarredDidNothing }
+{}
+
+/// Only an increment has a sum.
+pub fn only_increments_have_sums()
+    ensures { OnlyAddsSum }
+{}
+
+/// An item that is answered stands where it stands in the order also in the order that its session is told of.
+pub fn what_is_answered_was_told()
+    ensures answered { AnsweredIsTold }
+    ensures reached { AllInOrderAreTold }
+{}
+
+/// Only a later order has an Epoch above the last of the order that a session is told of.
+pub fn only_a_later_order_has_a_later_epoch()
+    ensures { NoLaterEpoch }
+{}
+
+/// A session that was met is its pair's still, or its Open is behind a loss of its pair.
+pub fn a_session_is_met_once()
+    ensures { MetOnce }
 {}

@@ -1,4 +1,4 @@
-use Rattle.plain_runs.proofs.JobCases.{counted_examples as proof}
+use Rattle.plain_runs.proofs.AnswerCases.{counted_examples as proof}
 use Rattle.plain_runs.proofs.examples.counted_examples.Goals as goal
 
 pub returns : goal.returns

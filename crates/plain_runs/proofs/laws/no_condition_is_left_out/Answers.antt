@@ -1,0 +1,5 @@
+use Rattle.plain_runs.proofs.ConditionLaws.{none_is_left_out, none_is_left_out_behind}
+use Rattle.plain_runs.proofs.laws.no_condition_is_left_out.Goals as goal
+
+pub returns : goal.returns
+returns c = record { acts = none_is_left_out; entries = none_is_left_out_behind }

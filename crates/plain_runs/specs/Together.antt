@@ -1,0 +1,97 @@
+-- Conditions that never fail alone: where one fails, another one of the act fails too, behind every run.
+use Rattle.std.specs.Prelude.{◌≡◌, ◌≢◌, ◌⊎◌, ℕ, Bool, true, false, ◌≤◌, ◌<◌, List, length, take, Some, None, is_some}
+use Rattle.std.specs.List.{list_any}
+use Rattle.plain_orders.specs.declared.act.Act.{Act}
+use Rattle.plain_orders.specs.declared.entry.Entry.{Entry}
+use Rattle.plain_orders.specs.declared.entry.Entry.TheVariants.{Opened, Closed}
+use Rattle.plain_orders.specs.declared.item.Item.{Item}
+use Rattle.plain_orders.specs.declared.layout.Layout.{Layout}
+use Rattle.plain_orders.specs.declared.mode.Mode.{Mode}
+use Rattle.plain_orders.specs.declared.refused.Refused.{Refused}
+use Rattle.plain_orders.specs.declared.refused.Refused.TheVariants.{NoTransaction}
+use Rattle.plain_orders.specs.declared.sum.Sum.{Sum}
+use Rattle.plain_orders.specs.declared.sum.Sum.TheVariants.{Nothing}
+use Rattle.plain_orders.specs.Answers.{sum_at}
+use Rattle.plain_orders.specs.Entries.{entry_at, last_epoch}
+use Rattle.plain_runs.specs.Plain.{Server, app_of, order_at, pair_session, session_in, told_order}
+use Rattle.plain_runs.specs.Items.{all_stand, is_add}
+use Rattle.plain_runs.specs.EndRows.{begun_by, entered_in, place_of_epoch}
+use Rattle.plain_runs.specs.LockRows.{is_kept, is_sent_at}
+use Rattle.plain_runs.specs.JobRows.{RefusedMay, answered_entry, has_session, is_answered_item, item_at, pair_issued}
+use Rattle.plain_runs.specs.Run.{IsRun, state_after}
+use Rattle.plain_runs.specs.Laws.{server_after}
+
+-- no answered hold of the job that could be given up, and no item of the job that could be answered
+pub record NothingDone (s : Server) (app job : ℕ) : Type 0 where
+  pub kept : (mode : Mode) (key : List ℕ) → list_any (is_kept (pair_session s app) job mode key) s.holds ≡ false
+  pub item : (line at : ℕ) (kind : Item → Bool) → is_answered_item job line kind (item_at s app at) ≡ false
+
+-- nor a sent hold, and no Close by which a session is lost
+pub record NothingThere (s : Server) (app : ℕ) : Type 0 where
+  pub done : (job : ℕ) → NothingDone s app job
+  pub sent : (job at : ℕ) → list_any (is_sent_at (pair_session s app) job at) s.holds ≡ false
+  pub close : (at : ℕ) → entry_at s.order at ≢ Some (Closed (pair_session s app))
+
+-- Where a pair has no session, none of these is there.
+abbrev pub NoneWithoutSession : Type 0
+NoneWithoutSession =
+    (layout : Layout) (acts : List Act) (d app : ℕ) → IsRun layout acts → has_session (server_after layout acts d) app ≡ false
+    → NothingThere (server_after layout acts d) app
+
+-- Where a job isn't there, nothing is its own.
+abbrev pub StrangersDidNothing : Type 0
+StrangersDidNothing =
+    (layout : Layout) (acts : List Act) (d job : ℕ) → IsRun layout acts → length layout.job_apps ≤ job
+    → NothingDone (server_after layout acts d) (app_of layout job) job
+
+-- A job that isn't there is refused nothing, but that it has no transaction.
+abbrev pub StrangersAreToldNothing : Type 0
+StrangersAreToldNothing =
+    (layout : Layout) (acts : List Act) (job line : ℕ) (refusal : Refused) → IsRun layout acts → length layout.job_apps ≤ job
+    → RefusedMay (state_after layout acts) job line refusal → refusal ≡ NoTransaction
+
+-- Where a job is barred, nothing in its pair's session is its own.
+abbrev pub BarredDidNothing : Type 0
+BarredDidNothing =
+    (layout : Layout) (acts : List Act) (d job : ℕ) → IsRun layout acts → job < length layout.job_apps
+    → is_some ((server_after layout acts d).known_at job).bar ≡ true → NothingDone (server_after layout acts d) (app_of layout job) job
+
+-- What adds up at a position of the order is an increment: where an item stands there, it is one.
+abbrev pub OnlyAddsSum : Type 0
+OnlyAddsSum =
+    (s : Server) (app job line at : ℕ) (sum : Sum) → sum ≢ Nothing → sum_at s.order at ≡ sum → entry_at s.order at ≡ answered_entry s app at
+    → is_answered_item job line (λ i. true) (item_at s app at) ≡ true → is_answered_item job line is_add (item_at s app at) ≡ true
+
+-- all that a job issued in its pair's session stands in a list
+abbrev pub StandsIn : Server → ℕ → ℕ → List Entry → Type 0
+StandsIn s app job es = all_stand es (pair_session s app) job 0 (pair_issued s app) ≡ true
+
+-- An answer's item that stands in the order stands there in the order that its session is told of.
+abbrev pub AnsweredIsTold : Type 0
+AnsweredIsTold =
+    (layout : Layout) (acts : List Act) (d app job line at : ℕ) (kind : Item → Bool) → IsRun layout acts
+    → is_answered_item job line kind (item_at (server_after layout acts d) app at) ≡ true
+    → entry_at (server_after layout acts d).order at ≡ answered_entry (server_after layout acts d) app at
+    → entry_at (told_order (server_after layout acts d) app) at ≡ answered_entry (server_after layout acts d) app at
+
+-- If all that a job issued in its pair's session stands among the first entries of the order, it stands among the first of the told one.
+abbrev pub AllInOrderAreTold : Type 0
+AllInOrderAreTold =
+    (layout : Layout) (acts : List Act) (d app job at : ℕ) → IsRun layout acts → has_session (server_after layout acts d) app ≡ true
+    → StandsIn (server_after layout acts d) app job (take at (server_after layout acts d).order)
+    → StandsIn (server_after layout acts d) app job (take at (told_order (server_after layout acts d) app))
+
+-- Unless it is later, an order has no Epoch above the last of the order that a pair's session is told of.
+abbrev pub NoLaterEpoch : Type 0
+NoLaterEpoch =
+    (layout : Layout) (acts : List Act) (d app session epoch : ℕ) → IsRun layout acts → ((server_after layout acts d).pair_at app).session ≡ Some session
+    → begun_by (server_after layout acts d) epoch ≤ (session_in (server_after layout acts d) session).told
+    → place_of_epoch (last_epoch (order_at (server_after layout acts d) (session_in (server_after layout acts d) session).told)) 0
+    (order_at (server_after layout acts d) (begun_by (server_after layout acts d) epoch)) ≡ None
+
+-- A session that was met is its pair's still, or its Open is behind a loss of its pair.
+abbrev pub MetOnce : Type 0
+MetOnce =
+    (layout : Layout) (acts : List Act) (d app session : ℕ) → IsRun layout acts → is_some ((server_after layout acts d).session_at session) ≡ true
+    → entry_at (server_after layout acts d).order session ≡ Some (Opened session app)
+    → (has_session (server_after layout acts d) app ≡ true) ⊎ ((entered_in (server_after layout acts d) session).lost_since ≡ true)
