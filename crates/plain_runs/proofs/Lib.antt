@@ -37,3 +37,4 @@ pub mod Epochs
 mod EpochLaws
 pub mod MetOnce
 mod MetLaws
+mod OpenTransactions

@@ -12,7 +12,9 @@ use Rattle.plain_orders.specs.declared.refused.Refused.TheVariants.{NoTransactio
 use Rattle.plain_orders.specs.declared.sum.Sum.{Sum}
 use Rattle.plain_orders.specs.declared.sum.Sum.TheVariants.{Nothing}
 use Rattle.plain_orders.specs.Answers.{sum_at}
-use Rattle.plain_orders.specs.Entries.{entry_at, last_epoch}
+use Rattle.plain_orders.specs.Entries.{entry_at, last_epoch, live}
+use Rattle.plain_orders.specs.Fold.{fold, is_begun}
+use Rattle.plain_orders.specs.Ordered.{IsOrdered}
 use Rattle.plain_runs.specs.Plain.{Server, app_of, order_at, pair_session, session_in, told_order}
 use Rattle.plain_runs.specs.Items.{all_stand, is_add}
 use Rattle.plain_runs.specs.EndRows.{begun_by, entered_in, place_of_epoch}
@@ -95,3 +97,7 @@ MetOnce =
     (layout : Layout) (acts : List Act) (d app session : ℕ) → IsRun layout acts → is_some ((server_after layout acts d).session_at session) ≡ true
     → entry_at (server_after layout acts d).order session ≡ Some (Opened session app)
     → (has_session (server_after layout acts d) app ≡ true) ⊎ ((entered_in (server_after layout acts d) session).lost_since ≡ true)
+
+-- In an ordered list the session of an open transaction is live.
+abbrev pub OpenIsLive : Type 0
+OpenIsLive = (before : List Entry) (session job txn : ℕ) → IsOrdered before → is_begun session job txn (fold before).begun ≡ true → live before session ≡ true

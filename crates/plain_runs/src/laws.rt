@@ -1,6 +1,6 @@
 ghost use Rattle.plain_runs.specs.FirstRun.{FirstRunIsRun};
 ghost use Rattle.plain_runs.specs.Conditions.{NoneIsLeftOut, NoneIsLeftOutBehind};
-ghost use Rattle.plain_runs.specs.Together.{AllInOrderAreTold, AnsweredIsTold, BarredDidNothing, MetOnce, NoLaterEpoch, NoneWithoutSession, OnlyAddsSum, StrangersAreToldNothing, StrangersDidNothing};
+ghost use Rattle.plain_runs.specs.Together.{AllInOrderAreTold, AnsweredIsTold, BarredDidNothing, MetOnce, NoLaterEpoch, NoneWithoutSession, OnlyAddsSum, OpenIsLive, StrangersAreToldNothing, StrangersDidNothing};
 ghost use Rattle.plain_runs.specs.Laws.{Extended, Framed, ItemsInOrder, ItemsWereIssued, NeighboursAgree, NoConflict, SeenIsTold, SeenNeverFalls, Settled, SyncedStays};
 
 /// The trail of the worked first run is a run.
@@ -99,4 +99,9 @@ pub fn only_a_later_order_has_a_later_epoch()
 /// A session that was met is its pair's still, or its Open is behind a loss of its pair.
 pub fn a_session_is_met_once()
     ensures { MetOnce }
+{}
+
+/// In an ordered list the session of an open transaction is live.
+pub fn an_open_transaction_is_of_a_live_session()
+    ensures { OpenIsLive }
 {}
