@@ -1,0 +1,25 @@
+-- Why a text begins with no string, no value or no node.
+use Rattle.std.specs.Prelude.{ℕ, List}
+use Rattle.global_text.specs.declared.string_error.StringError.{StringError}
+use Rattle.global_text.specs.declared.string_error.StringError.TheVariants.{Bad, Unclosed, TooLong, Memory}
+use Rattle.global_text.specs.declared.text_error.TextError.{TextError}
+use Rattle.global_text.specs.declared.text_error.TextError.TheVariants.{NoCaret, BadName, BadSubscript, Unclosed as UnclosedText, KeyTooLong, BadValue, ValueTooLong, Memory as NoMemory}
+use Rattle.global_text.specs.Strings.{IsUnclosed, IsBad, IsTooLong}
+
+-- what each fault of a string says; the fault is the first from the left
+abbrev pub HasStringFault : ℕ → List ℕ → StringError → Type 0
+HasStringFault limit text Bad = IsBad limit text
+HasStringFault limit text Unclosed = IsUnclosed limit text
+HasStringFault limit text TooLong = IsTooLong limit text
+HasStringFault limit text (Memory error) = Unit {0}
+
+-- the refusals of a value
+abbrev pub IsOfValue : TextError → Type 0
+IsOfValue UnclosedText = Unit {0}
+IsOfValue BadValue = Unit {0}
+IsOfValue ValueTooLong = Unit {0}
+IsOfValue (NoMemory error) = Unit {0}
+IsOfValue NoCaret = ⊥
+IsOfValue BadName = ⊥
+IsOfValue BadSubscript = ⊥
+IsOfValue KeyTooLong = ⊥

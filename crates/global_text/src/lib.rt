@@ -1,0 +1,16 @@
+//! The text of nodes and values: reading it from the left, and its one printed spelling. Contracts speak of the
+//! grammar, in which many texts may spell one string; what is printed is one of them and is read back.
+#![tactic(auto)]
+
+mod item;
+mod number_form;
+mod string_error;
+mod string_reader;
+mod string_writer;
+mod text_error;
+mod value_printer;
+mod value_reader;
+
+pub use text_error::TextError;
+pub use value_printer::print_value;
+pub use value_reader::read_value;
