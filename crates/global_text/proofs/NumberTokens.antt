@@ -1,5 +1,5 @@
 -- Canonical numbers, and the bytes that belong to them.
-use Rattle.std.proofs.Common.{◌≡◌, ◌≢◌, ◌⊎◌, ◌↔◌, ℕ, suc, ◌-◌, ◌<◌, Bool, true, false, not, List, [], ◌∷◌, ◌++◌, length, get_or, refl, sym, ap, subst, ◌∙◌, inl, inr, arith}
+use Rattle.std.proofs.Common.{◌≡◌, ◌≢◌, ◌⊎◌, ◌↔◌, ℕ, suc, ◌-◌, ◌<◌, Bool, true, false, not, List, [], ◌∷◌, ◌++◌, length, length-append, get_or, refl, sym, ap, subst, ◌∙◌, inl, inr, arith}
 use Rattle.std.specs.Prelude.{nat_eq, ◌==◌, ◌||◌, IsTrue}
 use Rattle.std.specs.Char.{is_ascii_digit}
 use Rattle.std.proofs.lemmas.Bool.{cases_eq, eq-eqb, ne_eqb, false≢true}
@@ -95,3 +95,14 @@ pub number-bytes : (text : List ℕ) → IsNumber text → Every is_number_byte 
 number-bytes text (inl e) = subst (λ (t : List ℕ). Every is_number_byte t) (sym e) (refl, tt)
 number-bytes text (inr (inl is)) = unsigned-bytes text is
 number-bytes text (inr (inr (u, is, e))) = subst (λ (t : List ℕ). Every is_number_byte t) (sym e) (refl, unsigned-bytes u is)
+
+unsigned-some : (text : List ℕ) → IsUnsigned text → 0 < length text
+unsigned-some [] (inl (is, some)) = absurd (some refl)
+unsigned-some (c ∷ text) (inl is) = omega arith
+unsigned-some text (inr (w, f, is, more, e)) = omega (arith, ap length e, length-append w (46 ∷ f))
+
+-- a canonical number isn't empty
+pub number-some : (text : List ℕ) → IsNumber text → 0 < length text
+number-some text (inl e) = omega (arith, ap length e)
+number-some text (inr (inl is)) = unsigned-some text is
+number-some text (inr (inr (u, is, e))) = omega (arith, ap length e)

@@ -72,3 +72,9 @@ read-at s t text rest e is =
     let P : List ℕ → Type 0 = λ r. ReadsString s text r in
     let Q : List ℕ → Type 0 = λ u. ReadsString u text rest in
     subst P (sym (rest-dropped t text rest is)) (subst Q (sym e) is)
+
+-- what was read stands in front as a spelling of its own
+pub spelling : (s text rest : List ℕ) → ReadsString s text rest → (spelled : List ℕ) × (text ≡ spelled ++ rest) × ReadsString s spelled []
+spelling s text rest (inl (is, e, n)) = (s, e, inl (is, sym (append-nil s), tt))
+spelling s text rest (inr ((items, is, e), n)) =
+    (34 ∷ (items ++ 34 ∷ []), e ∙ ap (λ x. 34 ∷ x) (sym (append_assoc items (34 ∷ []) rest)), inr ((items, is, refl), tt))

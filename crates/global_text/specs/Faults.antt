@@ -13,13 +13,24 @@ HasStringFault limit text Unclosed = IsUnclosed limit text
 HasStringFault limit text TooLong = IsTooLong limit text
 HasStringFault limit text (Memory error) = Unit {0}
 
--- the refusals of a value
-abbrev pub IsOfValue : TextError → Type 0
-IsOfValue UnclosedText = Unit {0}
-IsOfValue BadValue = Unit {0}
-IsOfValue ValueTooLong = Unit {0}
-IsOfValue (NoMemory error) = Unit {0}
-IsOfValue NoCaret = ⊥
-IsOfValue BadName = ⊥
-IsOfValue BadSubscript = ⊥
-IsOfValue KeyTooLong = ⊥
+-- what each refusal of a value says
+abbrev pub HasValueFault : List ℕ → TextError → Type 0
+HasValueFault text UnclosedText = IsUnclosed 3000 text
+HasValueFault text BadValue = IsBad 3000 text
+HasValueFault text ValueTooLong = IsTooLong 3000 text
+HasValueFault text (NoMemory error) = Unit {0}
+HasValueFault text NoCaret = ⊥
+HasValueFault text BadName = ⊥
+HasValueFault text BadSubscript = ⊥
+HasValueFault text KeyTooLong = ⊥
+
+-- memory was wanting
+abbrev pub IsMemory : TextError → Type 0
+IsMemory (NoMemory error) = Unit {0}
+IsMemory NoCaret = ⊥
+IsMemory BadName = ⊥
+IsMemory BadSubscript = ⊥
+IsMemory UnclosedText = ⊥
+IsMemory KeyTooLong = ⊥
+IsMemory BadValue = ⊥
+IsMemory ValueTooLong = ⊥

@@ -5,12 +5,14 @@
 mod item;
 mod number_form;
 mod string_error;
+mod string_laws;
 mod string_reader;
 mod string_writer;
 mod text_error;
 mod value_printer;
 mod value_reader;
 
+pub use string_laws::{printed_values_are_read, values_are_read_in_one_way};
 pub use text_error::TextError;
 pub use value_printer::print_value;
 pub use value_reader::read_value;

@@ -1,6 +1,7 @@
 //! The printed spelling of strings.
 ghost use Rattle.std.specs.Prelude.{◌≡◌, ◌++◌, ◌<◌, OnOk};
 ghost use Rattle.subscript_keys.specs.Decimal.{BeginsWith};
+ghost use Rattle.subscript_keys.specs.Key.{AreBytes};
 ghost use Rattle.global_text.specs.Strings.{hex_digit};
 ghost use Rattle.global_text.specs.Printed.{quoted_byte, quoted, IsPrinted, Appends};
 
@@ -48,6 +49,7 @@ pub fn put_quoted(to: &mut Vec<u8>, string: &[u8]) -> Result<(), AllocError>
 pub fn put_string(to: &mut Vec<u8>, string: &[u8]) -> Result<(), AllocError>
     ensures ok { OnOk result (Appends (IsPrinted string.now) to.old.items to.new.items) }
     ensures front { BeginsWith to.new.items to.old.items }
+    ensures bytes { AreBytes string.now }
 {
     if Decimal::read(string).is_some() {
         return to.extend_from_slice(string);

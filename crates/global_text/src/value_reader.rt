@@ -1,7 +1,7 @@
 //! Reading values.
-ghost use Rattle.std.specs.Prelude.{◌≡◌, ◌≤◌, length, drop, Err, IfOk, IfErr};
-ghost use Rattle.global_text.specs.Strings.{ReadsString, IsUnclosed, IsBad, IsTooLong};
-ghost use Rattle.global_text.specs.Faults.{IsOfValue};
+ghost use Rattle.std.specs.Prelude.{◌≤◌, length, drop, IfOk, IfErr};
+ghost use Rattle.global_text.specs.Strings.{ReadsString};
+ghost use Rattle.global_text.specs.Faults.{HasValueFault};
 
 use crate::string_error::StringError;
 use crate::string_reader::read_string;
@@ -15,10 +15,7 @@ pub fn read_value(alloc: Global, text: &[u8]) -> Result<(ValueBytes, usize), Tex
     ensures ok { IfOk result (λ read. ReadsString read.0 text.now (drop read.1 text.now)) }
     ensures length { IfOk result (λ read. read.1 ≤ length text.now) }
     ensures limit { IfOk result (λ read. length read.0 ≤ VALUE_LIMIT) }
-    ensures unclosed { result ≡ Err TextError.Unclosed → IsUnclosed VALUE_LIMIT text.now }
-    ensures bad_value { result ≡ Err TextError.BadValue → IsBad VALUE_LIMIT text.now }
-    ensures too_long { result ≡ Err TextError.ValueTooLong → IsTooLong VALUE_LIMIT text.now }
-    ensures others { IfErr result IsOfValue }
+    ensures err { IfErr result (HasValueFault text.now) }
 {
     match read_string(alloc, text, VALUE_LIMIT) {
         Ok((string, rest)) => Ok((ValueBytes::from_vec(string), text.len() - rest.len())),
