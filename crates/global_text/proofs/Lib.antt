@@ -5,3 +5,6 @@ pub mod ItemLaws
 pub mod StringLaws
 pub mod NumberSpellings
 pub mod PrintedReads
+pub mod KeyLengths
+pub mod NodeReads
+pub mod NodeParts

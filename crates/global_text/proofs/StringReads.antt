@@ -57,7 +57,7 @@ no-string limit text token after quote e p n none = inl record {
   no_number = λ s rest is. none (subst IsNumber (one-bare s text rest token after is e p n).0 is.0);
 }
 
-drop-behind : (spelled rest text : List ℕ) → text ≡ spelled ++ rest → drop (length text - length rest) text ≡ rest
+pub drop-behind : (spelled rest text : List ℕ) → text ≡ spelled ++ rest → drop (length text - length rest) text ≡ rest
 drop-behind spelled rest text e =
     let count : length text - length rest ≡ length spelled = omega (arith, ap length e, length-append spelled rest) in
     ap (λ n. drop n text) count ∙ ap (λ t. drop (length spelled) t) e ∙ drop-append_seam spelled rest
