@@ -8,3 +8,5 @@ pub mod PrintedReads
 pub mod KeyLengths
 pub mod NodeReads
 pub mod NodeParts
+pub mod Fronts
+pub mod NodeLaws

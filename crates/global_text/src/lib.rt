@@ -5,6 +5,7 @@
 mod item;
 mod list_reader;
 mod name_form;
+mod node_printer;
 mod node_reader;
 mod number_form;
 mod string_error;
@@ -12,11 +13,13 @@ mod string_laws;
 mod string_reader;
 mod string_writer;
 mod sub_length;
+mod sub_printer;
 mod sub_reader;
 mod text_error;
 mod value_printer;
 mod value_reader;
 
+pub use node_printer::print_node;
 pub use node_reader::read_node;
 pub use string_laws::{printed_values_are_read, values_are_read_in_one_way};
 pub use text_error::TextError;

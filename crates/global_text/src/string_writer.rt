@@ -37,6 +37,7 @@ fn put_byte(to: &mut Vec<u8>, byte: u8) -> Result<(), AllocError>
 pub fn put_quoted(to: &mut Vec<u8>, string: &[u8]) -> Result<(), AllocError>
     ensures ok { OnOk result (to.new.items ≡ to.old.items ++ quoted string.now) }
     ensures front { BeginsWith to.new.items to.old.items }
+    ensures bytes { AreBytes string.now }
 {
     to.extend_from_slice(b"\"")?;
     for byte in string {
