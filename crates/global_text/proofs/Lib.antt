@@ -10,3 +10,4 @@ pub mod NodeReads
 pub mod NodeParts
 pub mod Fronts
 pub mod NodeLaws
+pub mod NodeSpellings

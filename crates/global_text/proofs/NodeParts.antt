@@ -109,3 +109,7 @@ parts-limit name text rest subs (inr behind) = behind.within
 pub key-within : (node : Node) (name : List ℕ) → node.name ≡ name → key_length name node.subs ≤ 500 → IsWithinLimit (key_of node)
 unfolding key_of
 key-within node name e h = omega (arith, ap length e, length-append node.name (0 ∷ subs_bytes node.subs))
+
+pub key-length : (node : Node) → IsWithinLimit (key_of node) → key_length node.name node.subs ≤ 500
+unfolding key_of
+key-length node h = omega (arith, h, length-append node.name (0 ∷ subs_bytes node.subs))
