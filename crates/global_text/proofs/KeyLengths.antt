@@ -1,11 +1,10 @@
 -- How many bytes subscripts take in a key.
-use Rattle.std.proofs.Common.{◌≡◌, ◌≢◌, ◌⊎◌, ℕ, suc, ◌+◌, ◌-◌, ◌<◌, ◌≤◌, Bool, true, false, List, [], ◌∷◌, ◌++◌, length, map, get_or, drop, refl, sym, ap, subst, ◌∙◌, inl, inr, arith, append_assoc, length-append}
-use Rattle.std.specs.Prelude.{◌==◌, if◌then◌else◌, max}
-use Rattle.std.proofs.lemmas.Bool.{cases_Bool, cases_eq, eq-eqb, ne_eqb}
+use Rattle.std.proofs.Common.{◌≡◌, ◌≢◌, ℕ, ◌+◌, ◌-◌, List, [], ◌∷◌, ◌++◌, length, map, ap, ◌∙◌, inl, inr, arith, length-append}
+use Rattle.std.specs.Prelude.{if◌then◌else◌}
+use Rattle.std.proofs.lemmas.Bool.{cases_Bool, eq-eqb, ne_eqb}
 use Rattle.std.proofs.lemmas.List.{length-map}
 use Rattle.subscript_keys.specs.declared.decimal.Decimal.{Decimal}
 use Rattle.subscript_keys.specs.declared.sub.Sub.{Sub}
-use Rattle.subscript_keys.specs.declared.sub.Sub.TheVariants.{Num, Text}
 use Rattle.subscript_keys.specs.Decimal.{digits}
 use Rattle.subscript_keys.specs.Key.{escaped, negative_bytes, positive_bytes, decimal_bytes, text_bytes, sub_bytes, subs_bytes}
 

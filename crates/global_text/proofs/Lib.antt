@@ -11,3 +11,4 @@ pub mod NodeParts
 pub mod Fronts
 pub mod NodeLaws
 pub mod NodeSpellings
+pub mod NumberAgreement

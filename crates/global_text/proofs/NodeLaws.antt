@@ -1,28 +1,27 @@
 -- A text begins with one node at most, and a node that is read is refused by no fault.
-use Rattle.std.proofs.Common.{◌≡◌, ◌≢◌, ◌⊎◌, ℕ, suc, ◌+◌, ◌-◌, ◌<◌, ◌≤◌, Bool, true, false, List, [], ◌∷◌, ◌++◌, length, map, refl, sym, ap, subst, ◌∙◌, inl, inr, arith, append_assoc, length-append}
-use Rattle.std.specs.Prelude.{◌||◌, ◌==◌, if◌then◌else◌, max, IsTrue}
+use Rattle.std.proofs.Common.{◌≡◌, ◌⊎◌, ℕ, ◌+◌, ◌≤◌, Bool, true, false, List, [], ◌∷◌, ◌++◌, length, refl, sym, ap, subst, ◌∙◌, inl, inr, arith, length-append}
+use Rattle.std.specs.Prelude.{◌||◌, ◌==◌, if◌then◌else◌}
 use Rattle.std.specs.Char.{is_ascii_alphanumeric}
 use Rattle.std.proofs.lemmas.Bool.{cases_eq, eq-eqb, ne_eqb, false≢true}
 use Rattle.std.proofs.Math.Nat.{add-zero}
-use Rattle.std.proofs.lemmas.List.{append-nil, length-map}
-use Rattle.subscript_keys.specs.declared.decimal.Decimal.{Decimal}
+use Rattle.std.proofs.lemmas.List.{length-map}
 use Rattle.subscript_keys.specs.declared.node.Node.{Node}
 use Rattle.subscript_keys.specs.declared.sub.Sub.{Sub}
 use Rattle.subscript_keys.specs.declared.sub.Sub.TheVariants.{Num, Text}
-use Rattle.subscript_keys.specs.Decimal.{digits, AreCanonical, IsDecimal, IsNumberText, decimal_text, number_text, sign_text, digit_text, fraction_text}
-use Rattle.subscript_keys.specs.Key.{escaped, sub_bytes, subs_bytes, text_bytes, HasForm, IsName}
+use Rattle.subscript_keys.specs.Decimal.{AreCanonical, IsNumberText, decimal_text, number_text, digit_text}
+use Rattle.subscript_keys.specs.Key.{escaped, sub_bytes, subs_bytes, HasForm, IsName}
 use Rattle.subscript_keys.proofs.NumberTexts.{one-number, text_is_canonical}
 use Rattle.global_text.specs.declared.text_error.TextError.{TextError}
 use Rattle.global_text.specs.declared.text_error.TextError.TheVariants.{NoCaret, BadName, BadSubscript, Unclosed, KeyTooLong, BadValue, ValueTooLong, Memory}
 use Rattle.global_text.specs.Numbers.{BeginsOtherwise, is_number_byte}
-use Rattle.global_text.specs.Strings.{ReadsString, IsLineEnd, IsUnclosed, IsBad, IsTooLong}
-use Rattle.global_text.specs.Nodes.{sub_string, goes_on, room_behind, ReadsSub, ReadsSubs, key_length, BeforeSub, BehindSub, ReadsName, ReadsParts, ReadsNode}
-use Rattle.global_text.specs.Faults.{HasSubFault, HasMarkFault, NoMark, HasListFault, HasBadName, HasNodeFault, IsMemory}
+use Rattle.global_text.specs.Strings.{ReadsString, IsLineEnd}
+use Rattle.global_text.specs.Nodes.{sub_string, goes_on, room_behind, ReadsSub, ReadsSubs, key_length, ReadsParts, ReadsNode}
+use Rattle.global_text.specs.Faults.{HasSubFault, HasMarkFault, HasListFault, HasNodeFault, IsMemory}
 use Rattle.global_text.proofs.ItemLaws.{apart}
 use Rattle.global_text.proofs.NumberTokens.{one-span, number-bytes, number-some}
 use Rattle.global_text.proofs.StringLaws.{one-string, read-is-closed, read-is-good, read-is-short}
 use Rattle.global_text.proofs.NodeParts.{name-every}
-use Rattle.global_text.proofs.KeyLengths.{text-length, subs-length}
+use Rattle.global_text.proofs.KeyLengths.{text-length}
 
 one-form : (a b : Sub) → HasForm a → HasForm b → sub_string a ≡ sub_string b → a ≡ b
 one-form (Num a) (Num b) p q e = ap Num (one-number a b p q e)
@@ -97,9 +96,9 @@ list-no-fault key (f ∷ front) (s ∷ subs) last list place rest at error (afte
     let same = one-sub f s list (44 ∷ after) (44 ∷ next) first one in
     let tails : after ≡ next = let whole : 44 ∷ after ≡ 44 ∷ next = same.1 in cc in
     list-no-fault (key + length (sub_bytes f)) front subs last after place rest at error more is
-      (omega (arith, length-append (sub_bytes f) (subs_bytes (front ++ last ∷ []))))
-      (subst (λ (t : List ℕ). ReadsSubs subs t at) (sym tails) others)
-      (subst (λ (k : ℕ). HasSubFault k at error) (omega (arith, length-append (sub_bytes s) (subs_bytes subs), ap (λ x. length (sub_bytes x)) same.0)) fault)
+    (omega (arith, length-append (sub_bytes f) (subs_bytes (front ++ last ∷ []))))
+    (subst (λ (t : List ℕ). ReadsSubs subs t at) (sym tails) others)
+    (subst (λ (k : ℕ). HasSubFault k at error) (omega (arith, length-append (sub_bytes s) (subs_bytes subs), ap (λ x. length (sub_bytes x)) same.0)) fault)
 
 -- a comma or a closing parenthesis is no fault
 mark-no-fault : (c : ℕ) (rest at : List ℕ) (error : TextError) → at ≡ c ∷ rest → ((c ≡ 41) ⊎ (c ≡ 44)) → HasMarkFault at error → ⊥
@@ -180,16 +179,16 @@ no-list-fault name text rest subs error (inr read) (other, more, at, inl (before
     let same = one-name name other text (40 ∷ here.listed.0) (40 ∷ before.listed.0) here.named before.named (paren-ends here.listed.0) (paren-ends before.listed.0) here.listed.2 before.listed.2 in
     let lists : before.listed.0 ≡ here.listed.0 = let whole : 40 ∷ here.listed.0 ≡ 40 ∷ before.listed.0 = same.1 in cc in
     list-no-fault (length name + 1) read.last.0 more read.last.1 here.listed.0 read.last.2 rest at error here.listed.1 read.last.4
-      (omega (arith, read.within, ap (λ l. length (subs_bytes l)) read.last.5))
-      (subst (λ (t : List ℕ). ReadsSubs more t at) lists before.listed.1)
-      (subst (λ (n : List ℕ). HasSubFault (key_length n more) at error) (sym same.0) fault)
+    (omega (arith, read.within, ap (λ l. length (subs_bytes l)) read.last.5))
+    (subst (λ (t : List ℕ). ReadsSubs more t at) lists before.listed.1)
+    (subst (λ (n : List ℕ). HasSubFault (key_length n more) at error) (sym same.0) fault)
 no-list-fault name text rest subs error (inr read) (other, more, at, inr (behind, fault)) =
     let here = read.last.3 in
     let before = behind.last.3 in
     let same = one-name name other text (40 ∷ here.listed.0) (40 ∷ before.listed.0) here.named before.named (paren-ends here.listed.0) (paren-ends before.listed.0) here.listed.2 before.listed.2 in
     let lists : before.listed.0 ≡ here.listed.0 = let whole : 40 ∷ here.listed.0 ≡ 40 ∷ before.listed.0 = same.1 in cc in
     absurd (list-no-mark read.last.0 behind.last.0 read.last.1 behind.last.1 here.listed.0 read.last.2 rest behind.last.2 at error here.listed.1 read.last.4
-      (subst (λ (t : List ℕ). ReadsSubs behind.last.0 t behind.last.2) lists before.listed.1) behind.last.4 fault)
+    (subst (λ (t : List ℕ). ReadsSubs behind.last.0 t behind.last.2) lists before.listed.1) behind.last.4 fault)
 
 parts-name : (name text rest : List ℕ) (subs : List Sub) → ReadsParts name subs text rest → (behind : List ℕ) × IsName name × BeginsOtherwise is_ascii_alphanumeric behind × (text ≡ 94 ∷ (name ++ behind))
 parts-name name text rest subs (inl (none, (is, e, n))) = (rest, is, whole-name rest n, e)

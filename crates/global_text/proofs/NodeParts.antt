@@ -1,11 +1,9 @@
 -- What is known of a node that was read.
-use Rattle.std.proofs.Common.{◌≡◌, ◌≢◌, ◌⊎◌, ℕ, ◌+◌, ◌-◌, ◌<◌, ◌≤◌, Bool, true, false, List, [], ◌∷◌, ◌++◌, length, drop, refl, sym, ap, subst, ◌∙◌, inl, inr, arith, append_assoc, length-append}
-use Rattle.std.specs.Prelude.{◌||◌, ◌==◌, IsTrue}
+use Rattle.std.proofs.Common.{◌≡◌, ℕ, ◌-◌, ◌≤◌, Bool, true, false, List, [], ◌∷◌, ◌++◌, length, drop, refl, sym, ap, subst, ◌∙◌, inl, inr, arith, append_assoc, length-append}
+use Rattle.std.specs.Prelude.{◌||◌}
 use Rattle.std.specs.List.{AllByRecursion}
 use Rattle.std.specs.Char.{is_ascii_alphabetic, is_ascii_alphanumeric}
 use Rattle.std.specs.Int.{is_in_range}
-use Rattle.std.proofs.Math.Seq.{drop-append_seam}
-use Rattle.std.proofs.lemmas.Bool.{or_left, or_right}
 use Rattle.subscript_keys.specs.declared.sub.Sub.{Sub}
 use Rattle.subscript_keys.specs.declared.node.Node.{Node}
 use Rattle.subscript_keys.specs.Key.{subs_bytes, key_of, HasForm, IsName, IsWithinLimit}
@@ -13,7 +11,7 @@ use Rattle.global_text.specs.declared.text_error.TextError.{TextError}
 use Rattle.global_text.specs.declared.text_error.TextError.TheVariants.{NoCaret, BadName, BadSubscript, Unclosed, KeyTooLong, BadValue, ValueTooLong, Memory}
 use Rattle.global_text.specs.Numbers.{Every, BeginsOtherwise}
 use Rattle.global_text.specs.Strings.{ReadsString}
-use Rattle.global_text.specs.Nodes.{sub_string, ReadsSub, ReadsSubs, key_length, BeforeSub, BehindSub, ReadsName, ReadsParts, ReadsNode}
+use Rattle.global_text.specs.Nodes.{sub_string, ReadsSubs, key_length, ReadsParts}
 use Rattle.global_text.specs.Faults.{HasListFault, HasBadName, HasNodeFault}
 use Rattle.global_text.proofs.NumberTokens.{one-span}
 use Rattle.global_text.proofs.StringReads.{drop-behind, spelling}
@@ -71,10 +69,11 @@ parts-front name text rest subs (inr behind) =
     let place = behind.last.2 in
     let list = behind.last.3.listed.0 in
     let some = subs-front front list place behind.last.3.listed.1 in
-    let one = string-front (sub_string behind.last.1) place (41 ∷ rest) behind.last.4.1 in
-    (94 ∷ (name ++ 40 ∷ (some.0 ++ (one.0 ++ 41 ∷ []))),
-     behind.last.3.listed.2 ∙ ap (λ x. 94 ∷ (name ++ 40 ∷ x)) (some.1 ∙ ap (λ x. some.0 ++ x) one.1)
-     ∙ ap (λ x. 94 ∷ x) (ap (λ x. name ++ 40 ∷ x) (ap (λ x. some.0 ++ x) (sym (append_assoc one.0 (41 ∷ []) rest)) ∙ sym (append_assoc some.0 (one.0 ++ 41 ∷ []) rest)) ∙ sym (append_assoc name (40 ∷ (some.0 ++ (one.0 ++ 41 ∷ []))) rest)))
+    let one = string-front (sub_string behind.last.1) place (41 ∷ rest) behind.last.4.1 in (
+      94 ∷ (name ++ 40 ∷ (some.0 ++ (one.0 ++ 41 ∷ []))),
+      behind.last.3.listed.2 ∙ ap (λ x. 94 ∷ (name ++ 40 ∷ x)) (some.1 ∙ ap (λ x. some.0 ++ x) one.1)
+          ∙ ap (λ x. 94 ∷ x) (ap (λ x. name ++ 40 ∷ x) (ap (λ x. some.0 ++ x) (sym (append_assoc one.0 (41 ∷ []) rest)) ∙ sym (append_assoc some.0 (one.0 ++ 41 ∷ []) rest)) ∙ sym (append_assoc name (40 ∷ (some.0 ++ (one.0 ++ 41 ∷ []))) rest)),
+    )
 
 -- what follows a node, by its place
 pub parts-dropped : (name text rest : List ℕ) (subs : List Sub) → ReadsParts name subs text rest → drop (length text - length rest) text ≡ rest

@@ -1,9 +1,9 @@
 -- Nodes that are read from the left.
-use Rattle.std.proofs.Common.{◌≡◌, ◌≢◌, ◌⊎◌, ℕ, ◌+◌, ◌-◌, ◌<◌, ◌≤◌, List, [], ◌∷◌, ◌++◌, length, drop, refl, sym, ap, subst, ◌∙◌, inl, inr, arith, append_assoc, length-append}
+use Rattle.std.proofs.Common.{◌≡◌, ℕ, ◌+◌, ◌<◌, ◌≤◌, List, [], ◌∷◌, ◌++◌, length, refl, sym, ap, subst, inl, inr, arith, length-append}
 use Rattle.subscript_keys.specs.declared.sub.Sub.{Sub}
-use Rattle.subscript_keys.specs.Key.{sub_bytes, subs_bytes, IsName}
+use Rattle.subscript_keys.specs.Key.{sub_bytes, IsName}
 use Rattle.global_text.specs.Strings.{ReadsString}
-use Rattle.global_text.specs.Nodes.{sub_string, ReadsSub, ReadsSubs, key_length, BeforeSub, BehindSub}
+use Rattle.global_text.specs.Nodes.{ReadsSub, ReadsSubs, key_length, BeforeSub, BehindSub}
 use Rattle.global_text.specs.declared.text_error.TextError.{TextError}
 use Rattle.global_text.specs.Faults.{HasSubFault, HasMarkFault, HasListFault}
 use Rattle.global_text.proofs.KeyLengths.{subs-length}

@@ -1,6 +1,6 @@
 -- What was read of a node is a spelling of its own, and what is printed is read back.
-use Rattle.std.proofs.Common.{◌≡◌, ◌⊎◌, ℕ, ◌+◌, ◌<◌, ◌≤◌, Bool, true, false, List, [], ◌∷◌, ◌++◌, length, refl, sym, ap, subst, ◌∙◌, inl, inr, arith, append_assoc, length-append}
-use Rattle.std.specs.Prelude.{◌==◌, IsTrue}
+use Rattle.std.proofs.Common.{◌≡◌, ℕ, ◌≤◌, List, [], ◌∷◌, ◌++◌, length, refl, sym, ap, subst, ◌∙◌, inl, inr, arith, append_assoc}
+use Rattle.std.specs.Prelude.{◌==◌}
 use Rattle.std.specs.List.{AllByRecursion}
 use Rattle.std.proofs.lemmas.Bool.{false≢true}
 use Rattle.std.proofs.lemmas.List.{append-nil}
@@ -8,11 +8,11 @@ use Rattle.subscript_keys.specs.declared.sub.Sub.{Sub}
 use Rattle.subscript_keys.specs.declared.sub.Sub.TheVariants.{Num, Text}
 use Rattle.subscript_keys.specs.declared.node.Node.{Node}
 use Rattle.subscript_keys.specs.Decimal.{decimal_text}
-use Rattle.subscript_keys.specs.Key.{sub_bytes, subs_bytes, HasForm, IsName}
+use Rattle.subscript_keys.specs.Key.{subs_bytes, HasForm, IsName}
 use Rattle.subscript_keys.proofs.NumberTexts.{text_is_canonical}
 use Rattle.global_text.specs.Numbers.{BeginsOtherwise, is_number_byte}
 use Rattle.global_text.specs.Strings.{ReadsString}
-use Rattle.global_text.specs.Nodes.{sub_string, goes_on, ReadsSub, ReadsSubs, key_length, BeforeSub, BehindSub, ReadsName, ReadsParts, ReadsNode, sub_text, more_subs_text, subs_text, node_text, HasBytes}
+use Rattle.global_text.specs.Nodes.{sub_string, goes_on, ReadsSub, ReadsSubs, key_length, ReadsParts, ReadsNode, sub_text, more_subs_text, subs_text, node_text, HasBytes}
 use Rattle.global_text.proofs.NumberSpellings.{number-of-any}
 use Rattle.global_text.proofs.PrintedReads.{quoted-read}
 use Rattle.global_text.proofs.KeyLengths.{subs-length}
@@ -37,8 +37,7 @@ subs-cut : (subs : List Sub) (text rest : List ℕ) → ReadsSubs subs text rest
 subs-cut [] text rest e = ([], e, λ more. refl)
 subs-cut (s ∷ subs) text rest (after, first, more) =
     let one = string-cut (sub_string s) text after 44 first.1 in
-    let others = subs-cut subs after rest more in
-    (
+    let others = subs-cut subs after rest more in (
       one.0 ++ 44 ∷ others.0,
       one.1 ∙ ap (λ x. one.0 ++ 44 ∷ x) others.1 ∙ sym (append_assoc one.0 (44 ∷ others.0) rest),
       λ more. (others.0 ++ more, (first.0, subst (λ (t : List ℕ). ReadsString (sub_string s) t (44 ∷ (others.0 ++ more))) (sym (append_assoc one.0 (44 ∷ others.0) more)) (one.2 (others.0 ++ more))), others.2 more),
@@ -51,11 +50,10 @@ node-spelling node text rest (inr read) =
     let here = read.last.3 in
     let some = subs-cut read.last.0 here.listed.0 read.last.2 here.listed.1 in
     let one = string-cut (sub_string read.last.1) read.last.2 rest 41 read.last.4.1 in
-    let list : List ℕ = some.0 ++ (one.0 ++ 41 ∷ []) in
-    (
+    let list : List ℕ = some.0 ++ (one.0 ++ 41 ∷ []) in (
       94 ∷ (node.name ++ 40 ∷ list),
       here.listed.2 ∙ ap (λ x. 94 ∷ (node.name ++ 40 ∷ x)) (some.1 ∙ ap (λ x. some.0 ++ x) one.1)
-      ∙ ap (λ x. 94 ∷ x) (ap (λ x. node.name ++ 40 ∷ x) (ap (λ x. some.0 ++ x) (sym (append_assoc one.0 (41 ∷ []) rest)) ∙ sym (append_assoc some.0 (one.0 ++ 41 ∷ []) rest)) ∙ sym (append_assoc node.name (40 ∷ list) rest)),
+          ∙ ap (λ x. 94 ∷ x) (ap (λ x. node.name ++ 40 ∷ x) (ap (λ x. some.0 ++ x) (sym (append_assoc one.0 (41 ∷ []) rest)) ∙ sym (append_assoc some.0 (one.0 ++ 41 ∷ []) rest)) ∙ sym (append_assoc node.name (40 ∷ list) rest)),
       inr record {
         last = (read.last.0, read.last.1, one.0 ++ 41 ∷ [], record { named = here.named; listed = (list, some.2 (one.0 ++ 41 ∷ []), refl); within = here.within }, (read.last.4.0, one.2 []), read.last.5);
         within = read.within;
@@ -108,7 +106,7 @@ printed-node node rest is forms bytes within n = printed node.name node.subs res
         let read = list-read s subs rest forms bytes in
         let list : List ℕ = sub_text s ++ (more_subs_text subs ++ 41 ∷ rest) in
         let whole : (94 ∷ (name ++ subs_text (s ∷ subs))) ++ rest ≡ 94 ∷ (name ++ 40 ∷ list) =
-            ap (λ x. 94 ∷ x) (append_assoc name (40 ∷ (sub_text s ++ (more_subs_text subs ++ 41 ∷ []))) rest ∙ ap (λ x. name ++ 40 ∷ x) (append_assoc (sub_text s) (more_subs_text subs ++ 41 ∷ []) rest ∙ ap (λ x. sub_text s ++ x) (append_assoc (more_subs_text subs) (41 ∷ []) rest))) in
+        ap (λ x. 94 ∷ x) (append_assoc name (40 ∷ (sub_text s ++ (more_subs_text subs ++ 41 ∷ []))) rest ∙ ap (λ x. name ++ 40 ∷ x) (append_assoc (sub_text s) (more_subs_text subs ++ 41 ∷ []) rest ∙ ap (λ x. sub_text s ++ x) (append_assoc (more_subs_text subs) (41 ∷ []) rest))) in
         inr record {
           last = (read.front, read.last, read.place, record { named = is; listed = (list, read.read, whole); within = omega (arith, within, ap (λ l. length (subs_bytes l)) read.all, subs-length read.front read.last) }, read.closed, read.all);
           within = within;

@@ -7,7 +7,7 @@ use Rattle.std.proofs.lemmas.List.{append-nil, length-map}
 use Rattle.subscript_keys.specs.Decimal.{AreDigits, AreCanonical, BeginsAboveZero, EndsAboveZero as EndsAbove, IsNumberText, digit_text, fraction_text}
 use Rattle.global_text.specs.Numbers.{Every, BeginsOtherwise, EndsAboveZero, IsWhole, IsUnsigned, IsNumber}
 
-digits-are : (ds : List ℕ) → AreDigits ds → Every is_ascii_digit (digit_text ds)
+pub digits-are : (ds : List ℕ) → AreDigits ds → Every is_ascii_digit (digit_text ds)
 digits-are [] p = tt
 digits-are (d ∷ ds) p = let small : d < 10 = p.0 in (digit-is d small, digits-are ds p.1)
   where

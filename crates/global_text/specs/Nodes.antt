@@ -1,11 +1,11 @@
 -- Nodes as they are written, and their one printed spelling.
-use Rattle.std.specs.Prelude.{◌≡◌, ◌≢◌, ◌⊎◌, ℕ, ◌+◌, ◌-◌, ◌≤◌, ◌==◌, ◌||◌, max, Bool, List, [], ◌∷◌, ◌++◌, length}
+use Rattle.std.specs.Prelude.{◌≡◌, ◌⊎◌, ℕ, ◌+◌, ◌-◌, ◌≤◌, ◌==◌, ◌||◌, max, Bool, List, [], ◌∷◌, ◌++◌, length}
 use Rattle.std.specs.Char.{is_ascii_alphanumeric}
 use Rattle.subscript_keys.specs.declared.sub.Sub.{Sub}
 use Rattle.subscript_keys.specs.declared.sub.Sub.TheVariants.{Num, Text}
 use Rattle.subscript_keys.specs.declared.node.Node.{Node}
 use Rattle.subscript_keys.specs.Decimal.{decimal_text}
-use Rattle.subscript_keys.specs.Key.{sub_bytes, subs_bytes, AreBytes, HasForm, IsName}
+use Rattle.subscript_keys.specs.Key.{subs_bytes, AreBytes, HasForm, IsName}
 use Rattle.global_text.specs.Numbers.{BeginsOtherwise}
 use Rattle.global_text.specs.Strings.{ReadsString}
 use Rattle.global_text.specs.Printed.{quoted}

@@ -53,7 +53,11 @@ fn read_list<'a>(alloc: Global, name: &[u8], list: &'a [u8]) -> Result<(Subs, &'
 }
 
 /// The subscripts behind a name, where there are any, and what follows the node.
-pub fn read_subs<'a>(alloc: Global, name: &[u8], text: &'a [u8]) -> Result<(Subs, &'a [u8]), TextError>
+pub fn read_subs<'a>(
+    alloc: Global,
+    name: &[u8],
+    text: &'a [u8],
+) -> Result<(Subs, &'a [u8]), TextError>
     requires name { IsName name.now }
     requires whole { BeginsOtherwise is_ascii_alphanumeric text.now }
     ensures ok { IfOk result (λ read.

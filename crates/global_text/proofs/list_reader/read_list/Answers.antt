@@ -14,8 +14,8 @@ pub returns-in_err-last-clause-err : goal.returns-in_err-last-clause-err
 returns-in_err-last-clause-err c =
     let p = err_from_is_err_and c.from_residual-in_err-last.result c.from_residual-in_err-last.ensures.1 in
     rw (p.1, p.2) (fault-behind (94 ∷ (c.args.name.now ++ 40 ∷ c.args.list.now)) c.args.name.now c.in_ok-sub.after.now (c.subs.subs ++ c.in_ok-sub.sub ∷ []) c.in_err-last.field-0.0
-      (behind-sub (94 ∷ (c.args.name.now ++ 40 ∷ c.args.list.now)) c.args.name.now c.subs.rest.now c.in_ok-sub.after.now c.subs.subs c.in_ok-sub.sub c.subs.key c.in_ok-sub.longer c.subs.invariant.before c.subs.invariant.key c.in_ok-sub.ensures.ok c.in_ok-sub.ensures.key c.in_ok-sub.ensures.within)
-      c.in_err-last.ensures.err)
+    (behind-sub (94 ∷ (c.args.name.now ++ 40 ∷ c.args.list.now)) c.args.name.now c.subs.rest.now c.in_ok-sub.after.now c.subs.subs c.in_ok-sub.sub c.subs.key c.in_ok-sub.longer c.subs.invariant.before c.subs.invariant.key c.in_ok-sub.ensures.ok c.in_ok-sub.ensures.key c.in_ok-sub.ensures.within)
+    c.in_err-last.ensures.err)
 
 pub returns-then-last-clause-ok : goal.returns-then-last-clause-ok
 returns-then-last-clause-ok c =
