@@ -1,0 +1,14 @@
+pub mod Items
+pub mod NumberTokens
+pub mod StringReads
+pub mod ItemLaws
+pub mod StringLaws
+pub mod NumberSpellings
+pub mod PrintedReads
+pub mod KeyLengths
+pub mod NodeReads
+pub mod NodeParts
+pub mod Fronts
+pub mod NodeLaws
+pub mod NodeSpellings
+pub mod NumberAgreement

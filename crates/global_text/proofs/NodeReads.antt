@@ -1,0 +1,50 @@
+-- Nodes that are read from the left.
+use Rattle.std.proofs.Common.{◌≡◌, ℕ, ◌+◌, ◌<◌, ◌≤◌, List, [], ◌∷◌, ◌++◌, length, refl, sym, ap, subst, inl, inr, arith, length-append}
+use Rattle.subscript_keys.specs.declared.sub.Sub.{Sub}
+use Rattle.subscript_keys.specs.Key.{sub_bytes, IsName}
+use Rattle.global_text.specs.Strings.{ReadsString}
+use Rattle.global_text.specs.Nodes.{ReadsSub, ReadsSubs, key_length, BeforeSub, BehindSub}
+use Rattle.global_text.specs.declared.text_error.TextError.{TextError}
+use Rattle.global_text.specs.Faults.{HasSubFault, HasMarkFault, HasListFault}
+use Rattle.global_text.proofs.KeyLengths.{subs-length}
+
+-- a name has at most 31 bytes
+pub name-short : (name : List ℕ) → IsName name → length name ≤ 31
+name-short [] is = absurd is
+name-short (c ∷ name) is = let short : length name ≤ 30 = is.2 in omega arith
+
+-- no subscript yet
+pub before-none : (name list : List ℕ) → IsName name → BeforeSub (94 ∷ (name ++ 40 ∷ list)) name [] list
+before-none name list is = record { named = is; listed = (list, refl, refl); within = omega (arith, name-short name is) }
+
+longer-key : (name : List ℕ) (subs : List Sub) (s : Sub) → key_length name (subs ++ s ∷ []) ≡ key_length name subs + length (sub_bytes s)
+longer-key name subs s = omega (arith, subs-length subs s)
+
+-- one subscript more
+pub behind-sub : (text name place rest : List ℕ) (subs : List Sub) (s : Sub) (key longer : ℕ) → BeforeSub text name subs place → key ≡ key_length name subs → ReadsSub s place rest → longer ≡ key + length (sub_bytes s) → longer ≤ 500 → BehindSub text name (subs ++ s ∷ []) rest
+behind-sub text name place rest subs s key longer before e is k within =
+    record { last = (subs, s, place, before, is, refl); within = omega (arith, longer-key name subs s) }
+
+subs-push : (subs : List Sub) (s : Sub) (text place next : List ℕ) → ReadsSubs subs text place → ReadsSub s place (44 ∷ next) → ReadsSubs (subs ++ s ∷ []) text next
+subs-push [] s text place next e is = (next, subst (λ (t : List ℕ). ReadsSub s t (44 ∷ next)) (sym e) is, refl)
+subs-push (t ∷ subs) s text place next (after, first, more) is = (after, first, subs-push subs s after place next more is)
+
+-- and its comma
+pub before-next : (text name place next : List ℕ) (subs : List Sub) (s : Sub) (key longer : ℕ) → BeforeSub text name subs place → key ≡ key_length name subs → ReadsSub s place (44 ∷ next) → longer ≡ key + length (sub_bytes s) → longer ≤ 500 → BeforeSub text name (subs ++ s ∷ []) next × (longer ≡ key_length name (subs ++ s ∷ []))
+before-next text name place next subs s key longer before e is k within = (
+  record { named = before.named; listed = (before.listed.0, subs-push subs s before.listed.0 place next before.listed.1 is, before.listed.2); within = omega (arith, longer-key name subs s) },
+  omega (arith, longer-key name subs s),
+)
+
+-- less is left behind a string and a byte
+pub string-shorter : (s text next : List ℕ) (c : ℕ) → ReadsString s text (c ∷ next) → length next < length text
+string-shorter s text next c (inl (is, e, n)) = omega (arith, ap length e, length-append s (c ∷ next))
+string-shorter s text next c (inr ((items, is, e), n)) = omega (arith, ap length e, length-append items (34 ∷ c ∷ next))
+
+-- a fault before a subscript
+pub fault-before : (text name rest : List ℕ) (subs : List Sub) (key : ℕ) (error : TextError) → BeforeSub text name subs rest → key ≡ key_length name subs → HasSubFault key rest error → HasListFault text error
+fault-before text name rest subs key error before e fault = (name, subs, rest, inl (before, subst (λ (k : ℕ). HasSubFault k rest error) e fault))
+
+-- a fault behind one
+pub fault-behind : (text name rest : List ℕ) (subs : List Sub) (error : TextError) → BehindSub text name subs rest → HasMarkFault rest error → HasListFault text error
+fault-behind text name rest subs error behind fault = (name, subs, rest, inr (behind, fault))

@@ -1,0 +1,87 @@
+-- Why a text begins with no string, no value or no node.
+use Rattle.std.specs.Prelude.{◌≡◌, ◌≢◌, ◌⊎◌, ℕ, ◌+◌, ◌<◌, ◌==◌, List, [], ◌∷◌, ◌++◌, length}
+use Rattle.std.specs.Char.{is_ascii_alphanumeric}
+use Rattle.subscript_keys.specs.declared.sub.Sub.{Sub}
+use Rattle.subscript_keys.specs.Key.{sub_bytes, IsName}
+use Rattle.global_text.specs.Numbers.{BeginsOtherwise}
+use Rattle.global_text.specs.Nodes.{ReadsSub, key_length, room_behind, BeforeSub, BehindSub}
+use Rattle.global_text.specs.declared.string_error.StringError.{StringError}
+use Rattle.global_text.specs.declared.string_error.StringError.TheVariants.{Bad, Unclosed, TooLong, Memory}
+use Rattle.global_text.specs.declared.text_error.TextError.{TextError}
+use Rattle.global_text.specs.declared.text_error.TextError.TheVariants.{NoCaret, BadName, BadSubscript, Unclosed as UnclosedText, KeyTooLong, BadValue, ValueTooLong, Memory as NoMemory}
+use Rattle.global_text.specs.Strings.{IsLineEnd, IsUnclosed, IsBad, IsTooLong}
+
+-- what each fault of a string says; the fault is the first from the left
+abbrev pub HasStringFault : ℕ → List ℕ → StringError → Type 0
+HasStringFault limit text Bad = IsBad limit text
+HasStringFault limit text Unclosed = IsUnclosed limit text
+HasStringFault limit text TooLong = IsTooLong limit text
+HasStringFault limit text (Memory error) = Unit {0}
+
+-- what each refusal of a value says
+abbrev pub HasValueFault : List ℕ → TextError → Type 0
+HasValueFault text UnclosedText = IsUnclosed 3000 text
+HasValueFault text BadValue = IsBad 3000 text
+HasValueFault text ValueTooLong = IsTooLong 3000 text
+HasValueFault text (NoMemory error) = Unit {0}
+HasValueFault text NoCaret = ⊥
+HasValueFault text BadName = ⊥
+HasValueFault text BadSubscript = ⊥
+HasValueFault text KeyTooLong = ⊥
+
+-- memory was wanting
+abbrev pub IsMemory : TextError → Type 0
+IsMemory (NoMemory error) = Unit {0}
+IsMemory NoCaret = ⊥
+IsMemory BadName = ⊥
+IsMemory BadSubscript = ⊥
+IsMemory UnclosedText = ⊥
+IsMemory KeyTooLong = ⊥
+IsMemory BadValue = ⊥
+IsMemory ValueTooLong = ⊥
+
+-- what each refusal says where a subscript must stand, behind a key of this length
+abbrev pub HasSubFault : ℕ → List ℕ → TextError → Type 0
+HasSubFault key text UnclosedText = IsLineEnd text ⊎ IsUnclosed (room_behind key) text
+HasSubFault key text BadSubscript = (IsLineEnd text → ⊥) × IsBad (room_behind key) text
+HasSubFault key text KeyTooLong = IsTooLong (room_behind key) text ⊎ ((sub : Sub) × (rest : List ℕ) × ReadsSub sub text rest × (500 < key + length (sub_bytes sub)))
+HasSubFault key text (NoMemory error) = Unit {0}
+HasSubFault key text NoCaret = ⊥
+HasSubFault key text BadName = ⊥
+HasSubFault key text BadValue = ⊥
+HasSubFault key text ValueTooLong = ⊥
+
+-- a byte stands here that is neither a comma, a parenthesis nor the line's end
+abbrev pub NoMark : List ℕ → Type 0
+NoMark [] = ⊥
+NoMark (b ∷ bytes) = (b ≢ 44) × (b ≢ 41) × (b ≢ 10)
+
+-- and behind a subscript
+abbrev pub HasMarkFault : List ℕ → TextError → Type 0
+HasMarkFault text UnclosedText = IsLineEnd text
+HasMarkFault text BadSubscript = NoMark text
+HasMarkFault text NoCaret = ⊥
+HasMarkFault text BadName = ⊥
+HasMarkFault text KeyTooLong = ⊥
+HasMarkFault text BadValue = ⊥
+HasMarkFault text ValueTooLong = ⊥
+HasMarkFault text (NoMemory error) = ⊥
+
+-- the subscripts have a fault, and all before it is read
+abbrev pub HasListFault : List ℕ → TextError → Type 0
+HasListFault text error = (name : List ℕ) × (subs : List Sub) × (rest : List ℕ) × ((BeforeSub text name subs rest × HasSubFault (key_length name subs) rest error) ⊎ (BehindSub text name subs rest × HasMarkFault rest error))
+
+-- no letter stands behind the caret, or more than 31 letters and digits
+abbrev pub HasBadName : List ℕ → Type 0
+HasBadName text = (behind : List ℕ) × (text ≡ 94 ∷ behind) × ((name rest : List ℕ) → IsName name → BeginsOtherwise is_ascii_alphanumeric rest → behind ≢ name ++ rest)
+
+-- what each refusal of a node says
+abbrev pub HasNodeFault : List ℕ → TextError → Type 0
+HasNodeFault text NoCaret = BeginsOtherwise (λ b. b == 94) text
+HasNodeFault text BadName = HasBadName text
+HasNodeFault text BadSubscript = HasListFault text BadSubscript
+HasNodeFault text UnclosedText = HasListFault text UnclosedText
+HasNodeFault text KeyTooLong = HasListFault text KeyTooLong
+HasNodeFault text (NoMemory error) = Unit {0}
+HasNodeFault text BadValue = ⊥
+HasNodeFault text ValueTooLong = ⊥

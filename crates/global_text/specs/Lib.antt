@@ -1,0 +1,5 @@
+pub mod Numbers
+pub mod Strings
+pub mod Printed
+pub mod Nodes
+pub mod Faults

@@ -1,0 +1,84 @@
+-- Nodes as they are written, and their one printed spelling.
+use Rattle.std.specs.Prelude.{◌≡◌, ◌⊎◌, ℕ, ◌+◌, ◌-◌, ◌≤◌, ◌==◌, ◌||◌, max, Bool, List, [], ◌∷◌, ◌++◌, length}
+use Rattle.std.specs.Char.{is_ascii_alphanumeric}
+use Rattle.subscript_keys.specs.declared.sub.Sub.{Sub}
+use Rattle.subscript_keys.specs.declared.sub.Sub.TheVariants.{Num, Text}
+use Rattle.subscript_keys.specs.declared.node.Node.{Node}
+use Rattle.subscript_keys.specs.Decimal.{decimal_text}
+use Rattle.subscript_keys.specs.Key.{subs_bytes, AreBytes, HasForm, IsName}
+use Rattle.global_text.specs.Numbers.{BeginsOtherwise}
+use Rattle.global_text.specs.Strings.{ReadsString}
+use Rattle.global_text.specs.Printed.{quoted}
+
+-- the string of a subscript
+abbrev pub sub_string : Sub → List ℕ
+sub_string (Num number) = decimal_text number
+sub_string (Text text) = text
+
+-- a text begins with a spelling of the subscript; a string that is a number is that number, however it is spelled
+abbrev pub ReadsSub : Sub → List ℕ → List ℕ → Type 0
+ReadsSub sub text rest = HasForm sub × ReadsString (sub_string sub) text rest
+
+-- subscripts, a comma behind each
+abbrev pub ReadsSubs : List Sub → List ℕ → List ℕ → Type 0
+ReadsSubs [] text rest = text ≡ rest
+ReadsSubs (s ∷ subs) text rest = (after : List ℕ) × ReadsSub s text (44 ∷ after) × ReadsSubs subs after rest
+
+-- how many bytes the key of a name and subscripts has
+abbrev pub key_length : List ℕ → List Sub → ℕ
+key_length name subs = length name + 1 + length (subs_bytes subs)
+
+-- how long a string may be behind a key of this length: a text takes three bytes more, a number has at most 20 characters
+abbrev pub room_behind : ℕ → ℕ
+room_behind key = max 20 (497 - key)
+
+-- reading stands before a subscript, behind a caret, a name, a parenthesis and subscripts with their commas
+pub record BeforeSub (text name : List ℕ) (subs : List Sub) (rest : List ℕ) : Type 0 where
+  pub named : IsName name
+  pub listed : (list : List ℕ) × ReadsSubs subs list rest × (text ≡ 94 ∷ (name ++ 40 ∷ list))
+  pub within : key_length name subs ≤ 500
+
+-- reading stands behind a subscript
+pub record BehindSub (text name : List ℕ) (subs : List Sub) (rest : List ℕ) : Type 0 where
+  pub last : (front : List Sub) × (sub : Sub) × (place : List ℕ) × BeforeSub text name front place × ReadsSub sub place rest × (subs ≡ front ++ sub ∷ [])
+  pub within : key_length name subs ≤ 500
+
+-- a byte that would belong to a name or begin its subscripts
+abbrev pub goes_on : ℕ → Bool
+goes_on b = is_ascii_alphanumeric b || b == 40
+
+-- a name alone: all letters and digits that follow belong to it, and no parenthesis stands behind
+abbrev pub ReadsName : List ℕ → List ℕ → List ℕ → Type 0
+ReadsName name text rest = IsName name × (text ≡ 94 ∷ (name ++ rest)) × BeginsOtherwise goes_on rest
+
+-- a text begins with a spelling of the node with this name and these subscripts, and rest follows
+abbrev pub ReadsParts : List ℕ → List Sub → List ℕ → List ℕ → Type 0
+ReadsParts name subs text rest = ((subs ≡ []) × ReadsName name text rest) ⊎ BehindSub text name subs (41 ∷ rest)
+
+-- a text begins with a spelling of the node, and rest follows
+abbrev pub ReadsNode : Node → List ℕ → List ℕ → Type 0
+ReadsNode node text rest = ReadsParts node.name node.subs text rest
+
+-- a printed subscript
+abbrev pub sub_text : Sub → List ℕ
+sub_text (Num number) = decimal_text number
+sub_text (Text text) = quoted text
+
+-- printed subscripts, a comma before each but the first
+abbrev pub more_subs_text : List Sub → List ℕ
+more_subs_text [] = []
+more_subs_text (s ∷ subs) = 44 ∷ (sub_text s ++ more_subs_text subs)
+
+-- printed subscripts in parentheses, or nothing
+abbrev pub subs_text : List Sub → List ℕ
+subs_text [] = []
+subs_text (s ∷ subs) = 40 ∷ (sub_text s ++ (more_subs_text subs ++ 41 ∷ []))
+
+-- the printed node: its caret, its name, its subscripts
+abbrev pub node_text : Node → List ℕ
+node_text node = 94 ∷ (node.name ++ subs_text node.subs)
+
+-- each element of a text is a byte
+abbrev pub HasBytes : Sub → Type 0
+HasBytes (Num number) = Unit {0}
+HasBytes (Text text) = AreBytes text

@@ -1,0 +1,57 @@
+//! How many bytes a subscript takes in a key.
+ghost use Rattle.std.specs.Prelude.{◌≡◌, ◌≤◌, length};
+ghost use Rattle.subscript_keys.specs.Decimal.{digits};
+ghost use Rattle.subscript_keys.specs.Key.{decimal_bytes, text_bytes, sub_bytes};
+ghost use Rattle.global_text.specs.Nodes.{sub_string};
+
+use subscript_keys::{Decimal, Sub};
+
+/// How many decimal digits a number has; 0 has none.
+fn digit_count(number: u64) -> usize
+    ensures value { result ≡ length (digits number) }
+    ensures within { result ≤ 20 }
+{
+    let mut count = 0;
+    let mut rest = number;
+    while rest > 0 {
+        rest /= 10;
+        count += 1;
+    }
+    count
+}
+
+/// How many bytes a number takes in a key.
+fn number_length(number: &Decimal) -> usize
+    ensures value { result ≡ length (decimal_bytes number.now) }
+    ensures within { result ≤ 23 }
+{
+    if number.digits == 0 {
+        return 1;
+    }
+    3 + digit_count(number.digits)
+}
+
+/// How many bytes a text takes in a key; a zero byte takes two.
+fn text_length(text: &[u8]) -> usize
+    requires { length text.now ≤ 500 }
+    ensures value { result ≡ length (text_bytes text.now) }
+    ensures within { result ≤ 1003 }
+{
+    let mut count = 3;
+    for byte in text {
+        count += if *byte == 0x00 { 2 } else { 1 };
+    }
+    count
+}
+
+/// How many bytes a subscript takes in a key.
+pub fn sub_length(sub: &Sub) -> usize
+    requires { length (sub_string sub.now) ≤ 500 }
+    ensures value { result ≡ length (sub_bytes sub.now) }
+    ensures within { result ≤ 1003 }
+{
+    match sub {
+        Sub::Num(number) => number_length(number),
+        Sub::Text(text) => text_length(text.as_slice()),
+    }
+}

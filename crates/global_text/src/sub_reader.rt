@@ -1,0 +1,84 @@
+//! Reading a subscript.
+ghost use Rattle.std.specs.Prelude.{◌≡◌, ◌≤◌, ◌+◌, ◌↔◌, length, IfOk, IfErr, IsTrue};
+ghost use Rattle.subscript_keys.specs.Key.{sub_bytes, HasForm};
+ghost use Rattle.global_text.specs.Strings.{ReadsString, IsLineEnd};
+ghost use Rattle.global_text.specs.Nodes.{sub_string, room_behind, ReadsSub};
+ghost use Rattle.global_text.specs.Faults.{HasSubFault};
+
+use crate::string_error::StringError;
+use crate::string_reader::read_string;
+use crate::sub_length::sub_length;
+use crate::text_error::TextError;
+use std::alloc::Global;
+use std::cmp::max;
+use subscript_keys::{Decimal, KEY_LIMIT, Sub, SubText};
+
+/// How many characters a number has at most that is no text: a sign, a point and 18 digits.
+const NUMBER_ROOM: usize = 20;
+
+/// How many bytes a text takes in a key beside its own: its tag and its end.
+const TEXT_MARKS: usize = 3;
+
+/// How long a string may be behind a key of this length.
+fn room_behind(key: usize) -> usize
+    ensures value { result ≡ room_behind key }
+    ensures within { result ≤ 500 }
+{
+    max(NUMBER_ROOM, (KEY_LIMIT - TEXT_MARKS).saturating_sub(key))
+}
+
+/// Whether the text ends here, or its line does.
+pub fn is_line_end(text: &[u8]) -> bool
+    ensures { IsTrue result ↔ IsLineEnd text.now }
+{
+    match text {
+        [first, ..] => *first == b'\n',
+        [] => true,
+    }
+}
+
+/// The subscript of a string: a number, where the string is one of at most 18 digits.
+fn sub_of(string: Vec<u8>) -> Sub
+    ensures form { HasForm result }
+    ensures string { sub_string result ≡ string.items }
+{
+    match Decimal::read(string.as_slice()) {
+        Some(number) => Sub::Num(number),
+        None => Sub::Text(SubText::from_vec(string)),
+    }
+}
+
+/// The string of a subscript behind a key of this length, and what follows it.
+fn read_sub_string(alloc: Global, text: &[u8], key: usize) -> Result<(Vec<u8>, &[u8]), TextError>
+    ensures ok { IfOk result (λ read. ReadsString read.0.items text.now read.1.now) }
+    ensures limit { IfOk result (λ read. length read.0.items ≤ 500) }
+    ensures err { IfErr result (HasSubFault key text.now) }
+{
+    if is_line_end(text) {
+        return Err(TextError::Unclosed);
+    }
+    match read_string(alloc, text, room_behind(key)) {
+        Ok(read) => Ok(read),
+        Err(StringError::Bad) => Err(TextError::BadSubscript),
+        Err(StringError::Unclosed) => Err(TextError::Unclosed),
+        Err(StringError::TooLong) => Err(TextError::KeyTooLong),
+        Err(StringError::Memory(error)) => Err(TextError::Memory(error)),
+    }
+}
+
+/// The subscript behind a key of this length, how long the key is with it, and what follows the subscript.
+pub fn read_sub(alloc: Global, text: &[u8], key: usize) -> Result<(Sub, usize, &[u8]), TextError>
+    requires { key ≤ 500 }
+    ensures ok { IfOk result (λ read. ReadsSub read.0 text.now read.2.now) }
+    ensures key { IfOk result (λ read. read.1 ≡ key + length (sub_bytes read.0)) }
+    ensures within { IfOk result (λ read. read.1 ≤ 500) }
+    ensures err { IfErr result (HasSubFault key text.now) }
+{
+    let (string, rest) = read_sub_string(alloc, text, key)?;
+    let sub = sub_of(string);
+    let longer = key + sub_length(&sub);
+    if longer > KEY_LIMIT {
+        return Err(TextError::KeyTooLong);
+    }
+    Ok((sub, longer, rest))
+}
