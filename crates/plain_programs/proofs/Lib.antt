@@ -1,3 +1,6 @@
+pub mod SearchLemmas
 pub mod NumberLemmas
 pub mod SpanLemmas
 pub mod BegunLemmas
+pub mod KeyLemmas
+pub mod OrderKeys

@@ -1,8 +1,11 @@
 //! Plain, slow programs whose contracts are the definitions of `plain_orders`: the store is the fold of the
-//! entries that it took, the order check says whether an entry may follow, and `touches` whether an update
-//! changes something in a span. They scan lists and keep no index.
+//! entries that it took and answers on it, the order check says whether an entry may follow, and `touches`
+//! whether an update changes something in a span. The store finds keys by their order; the others scan lists
+//! and keep no index.
 #![tactic(auto)]
 
+mod child_keys;
+mod laws;
 mod limits;
 mod order_check;
 mod plain_store;
@@ -13,6 +16,7 @@ mod touched;
 mod transaction_name;
 mod whole_number;
 
+pub use laws::{order_has_keys, under_is_at_or_below};
 pub use order_check::OrderCheck;
 pub use plain_store::PlainStore;
 pub use touched::touches;

@@ -1,17 +1,23 @@
-ghost use Rattle.std.specs.Prelude.{◌≡◌, ◌+ℤ◌, [], OnOk, OnErr, IfOk};
+ghost use Rattle.std.specs.Prelude.{◌≡◌, ◌+ℤ◌, [], OnOk, OnErr, IfOk, IfSome, IsTrue};
 ghost use Rattle.std.specs.Option.{option_copied};
-ghost use Rattle.plain_orders.specs.PairMap.{value_at, put, remove_under};
+ghost use Rattle.std.specs.List.{list_any};
+ghost use Rattle.subscript_keys.specs.Key.{IsKey, IsSub};
+ghost use Rattle.plain_orders.specs.PairMap.{value_at, put, remove_under, is_under};
 ghost use Rattle.plain_orders.specs.Fold.{nothing_folded, sum_of, sum_with, with_sum, op_sum, op_after, fold_step};
-ghost use Rattle.plain_orders.specs.Answers.{entry_sum};
+ghost use Rattle.plain_orders.specs.Answers.{entry_sum, data_at, data_code, is_descendant, next_key, IsSubIn};
 ghost use Rattle.plain_orders.specs.Spans.{entry_spans, IsAlone};
+ghost use Rattle.plain_programs.specs.Keys.{HasKeys};
+ghost use Rattle.plain_programs.specs.Search.{descendant_behind};
 
+use crate::child_keys::{end_of_child, sub_behind};
 use crate::touched::op_spans;
 use crate::whole_number::{decimal_value, whole_of};
 use plain_orders::{Applied, Entry, Op, Spans, Sum};
 use std::alloc::{AllocError, Global};
 use std::collections::BTreeMap;
 use std::marker::Model;
-use subscript_keys::{KeyBytes, ValueBytes};
+use std::ops::Bound;
+use subscript_keys::{KeyBytes, Sub, ValueBytes};
 
 /// The least number with more than 18 digits.
 const LIMIT: i64 = 1_000_000_000_000_000_000;
@@ -47,6 +53,77 @@ impl PlainStore {
         ensures { option_copied result ≡ value_at self.now.pairs key.now }
     {
         self.pairs.get(key)
+    }
+
+    /// What stands at and below the node with this key: 1 for a value and 10 for descendants, both, or 0.
+    pub fn shape(&self, key: &KeyBytes) -> u8
+        ensures { result ≡ data_at self.now.pairs key.now }
+    {
+        data_code(self.get(key).is_some(), self.has_descendants(key))
+    }
+
+    /// Whether a descendant of the node has a value.
+    #[tactic(auto, using(crate::proofs::SearchLemmas::under_itself))]
+    fn has_descendants(&self, node: &KeyBytes) -> bool
+        ensures { result ≡ list_any (is_descendant node.now) self.now.pairs }
+    {
+        self.descendant_behind(node, node).is_some()
+    }
+
+    /// The next subscript below the parent: that of its first descendant, or of its first descendant behind
+    /// this subscript with all that is below it. None where there is no such descendant.
+    pub fn next_sub(
+        &self,
+        alloc: Global,
+        parent: &KeyBytes,
+        sub: Option<&Sub>,
+    ) -> Result<Option<Sub>, AllocError>
+        requires parent { IsKey parent.now }
+        requires sub { IfSome (option_copied sub) IsSub }
+        requires keys { HasKeys self.now.pairs }
+        ensures { IfOk result (λ found. IsSubIn parent.now
+            (next_key self.now.pairs parent.now (option_copied sub.entry)) found) }
+    {
+        match self.next_key(alloc, parent, sub)? {
+            None => Ok(None),
+            Some(key) => sub_behind(alloc, parent, key),
+        }
+    }
+
+    /// The key of that descendant.
+    #[tactic(auto, using(crate::proofs::SearchLemmas::under_itself, crate::proofs::KeyLemmas::under_end))]
+    fn next_key(
+        &self,
+        alloc: Global,
+        parent: &KeyBytes,
+        sub: Option<&Sub>,
+    ) -> Result<Option<&KeyBytes>, AllocError>
+        requires parent { IsKey parent.now }
+        requires sub { IfSome (option_copied sub) IsSub }
+        requires keys { HasKeys self.now.pairs }
+        ensures { IfOk result (λ key. option_copied key
+            ≡ next_key self.now.pairs parent.now (option_copied sub.entry)) }
+    {
+        match sub {
+            None => Ok(self.descendant_behind(parent, parent)),
+            Some(sub) => {
+                let end = end_of_child(alloc, parent, sub)?;
+                Ok(self.descendant_behind(parent, &end))
+            }
+        }
+    }
+
+    /// The first key of the node's descendants that stands behind these bytes.
+    fn descendant_behind(&self, node: &KeyBytes, bytes: &KeyBytes) -> Option<&KeyBytes>
+        requires { IsTrue (is_under node.now bytes.now) }
+        ensures { option_copied result ≡ descendant_behind self.now.pairs node.now bytes.now }
+    {
+        let behind = (Bound::Excluded(bytes), Bound::Unbounded);
+        let (key, _value) = self.pairs.range(behind).next()?;
+        if !key.as_slice().starts_with(node.as_slice()) {
+            return None;
+        }
+        Some(key)
     }
 
     /// Takes one entry more. Where memory is wanting nothing changes.
@@ -141,6 +218,18 @@ impl PlainStore {
             self.set(key, value)?;
         }
         Ok(sum)
+    }
+}
+
+/// The code of what stands at and below a node.
+fn data_code(has_value: bool, has_descendants: bool) -> u8
+    ensures { result ≡ data_code has_value has_descendants }
+{
+    match (has_descendants, has_value) {
+        (true, true) => 11,
+        (true, false) => 10,
+        (false, true) => 1,
+        (false, false) => 0,
     }
 }
 

@@ -1,0 +1,16 @@
+use Rattle.std.proofs.Common.{◌≡◌, ◌++◌, ◌∙◌, sym, refl, rules}
+use Rattle.subscript_keys.specs.Key.{sub_bytes, IsSub}
+use Rattle.subscript_keys.specs.Span.{span_hi}
+use Rattle.plain_programs.proofs.SearchLemmas.{next_key-first}
+use Rattle.plain_programs.proofs.KeyLemmas.{child_key, next_key-behind}
+use Rattle.plain_programs.proofs.plain_store.PlainStore.next_key.Goals as goal
+
+pub returns-in-None : goal.returns-in-None
+returns-in-None c = rw c.in-None.is (c.descendant_behind.ensures ∙ sym (next_key-first c.args.self.now.pairs c.args.parent.now))
+
+pub returns-in_ok-end-in-Some : goal.returns-in_ok-end-in-Some
+returns-in_ok-end-in-Some c =
+    let sub : IsSub c.in-Some.sub.now = rw c.in-Some.is at c.requires.sub in
+    let end : c.in_ok-end-in-Some.end ≡ span_hi (c.args.parent.now ++ sub_bytes c.in-Some.sub.now) = search rules in
+    rw (c.in-Some.is, c.descendant_behind-in-Some.ensures, end)
+    (sym (next_key-behind c.args.parent.now c.in-Some.sub.now _ refl (child_key c.args.parent.now c.in-Some.sub.now c.requires.parent sub) c.args.self.now.pairs c.requires.keys))
