@@ -1,0 +1,2 @@
+pub mod NumberFields
+pub mod PrefixFree
