@@ -1,12 +1,13 @@
 -- Bytes that begin with a field do so in one way.
-use Rattle.std.proofs.Common.{append_assoc, ◌≡◌, ℕ, ◌^◌, ◌<◌, List, ◌++◌, length, take, drop, refl, sym, ap, ◌∙◌, arith, ℤ, to_z, of_z, Fits}
+use Rattle.std.proofs.Common.{subst, append_assoc, ◌≡◌, ◌≢◌, ℕ, ◌^◌, ◌<◌, List, ◌++◌, length, take, drop, refl, sym, ap, ◌∙◌, arith, ℤ, to_z, of_z, Fits}
 use Rattle.std.specs.Int.{w16, w32, w64, from_be_bytes}
 use Rattle.std.proofs.lemmas.List.{take_at, drop_at, length-append}
 use Rattle.std.proofs.lemmas.Nat.{from_be_bytes-to_be_bytes_2, from_be_bytes-to_be_bytes_4, from_be_bytes-to_be_bytes_8}
 use Rattle.std.proofs.lemmas.Int.{to_z-of_z}
 use Rattle.std.proofs.Math.Facts.{Fits-of_z}
 use Rattle.plain_orders.specs.declared.op.Op.TheVariants.{Set, Kill, Add}
-use Rattle.field_bytes.specs.Fields.{op_bytes, IsOpField, u8_bytes, u16_bytes, u32_bytes, u64_bytes, i64_bytes, list_bytes, IsU8, IsU16, IsU32, IsU64, IsI64, IsShortList, NoneAhead, IsPrefixFree}
+use Rattle.subscript_keys.specs.Key.{IsKey}
+use Rattle.field_bytes.specs.Fields.{IsKeyField, op_bytes, IsOpField, u8_bytes, u16_bytes, u32_bytes, u64_bytes, i64_bytes, list_bytes, IsU8, IsU16, IsU32, IsU64, IsI64, IsShortList, NoneAhead, IsPrefixFree}
 
 -- two lists of one length that begin the same bytes are one, and so is what follows them
 pub one-front : (a b r s : List ℕ) → length a ≡ length b → a ++ r ≡ b ++ s → (a ≡ b) × (r ≡ s)
@@ -84,6 +85,9 @@ no_list bytes rest n short stands few x s p e =
     let count = u16_prefix_free n (length x) rest (x ++ s) short p whole in
     absurd (omega (arith, count.0, ap length count.1, length-append x s))
 
+pub key_prefix_free : IsPrefixFree list_bytes IsKeyField
+key_prefix_free x y r s p q e = list_prefix_free x y r s p.1 q.1 e
+
 pub op_prefix_free : IsPrefixFree op_bytes IsOpField
 op_prefix_free (Set k v) (Set l w) r s p q e =
     let tail : (list_bytes k ++ list_bytes v) ++ r ≡ (list_bytes l ++ list_bytes w) ++ s = cc in
@@ -119,3 +123,13 @@ both_prefix_free a b May Can first second x x' y y' r s p p' q q' e =
 -- what follows a field of known bytes: none of them ahead, or what follows is theirs
 pub behind : {A : Type 0} (a : A → List ℕ) (May : A → Type 0) → IsPrefixFree a May → (bytes rest r : List ℕ) (x y : A) → May x → May y → bytes ≡ a x ++ rest → bytes ≡ a y ++ r → (x ≡ y) × (rest ≡ r)
 behind a May free bytes rest r x y p q e k = free x y rest r p q (sym e ∙ k)
+
+-- where the second of two fields isn't ahead behind the first, the two aren't
+pub no_second : {A B : Type 0} (a : A → List ℕ) (b : B → List ℕ) (May : A → Type 0) (Can : B → Type 0) → IsPrefixFree a May → (bytes rest : List ℕ) (x : A) → May x → bytes ≡ a x ++ rest → NoneAhead b Can rest → (y : A) (z : B) (r : List ℕ) → May y → Can z → bytes ≢ a y ++ (b z ++ r)
+no_second a b May Can free bytes rest x p e none y z r q k f = none z r k (free x y rest (b z ++ r) p q (sym e ∙ f)).1
+
+-- where the bytes of a list are no key, no key is ahead
+pub no_key : (bytes part rest : List ℕ) → bytes ≡ list_bytes part ++ rest → IsShortList part → (IsKey part → ⊥) → NoneAhead list_bytes IsKeyField bytes
+no_key bytes part rest stands short none x s p e =
+    let one = list_prefix_free x part s rest p.1 short (sym e ∙ stands) in
+    none (subst IsKey one.0 p.0)
