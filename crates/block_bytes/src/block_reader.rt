@@ -76,10 +76,10 @@ fn take_pairs(alloc: Global, count: u16, bytes: &[u8]) -> Result<Option<Pairs>, 
         pairs.push(pair)?;
         rest = after;
     }
-    if !rest.is_empty() {
-        return Ok(None);
+    if rest.is_empty() {
+        return Ok(Some(pairs));
     }
-    Ok(Some(pairs))
+    Ok(None)
 }
 
 /// The run whose bytes these are, if it is short, in whatever order its keys are.
