@@ -1,0 +1,3 @@
+pub mod NumberFields
+pub mod PrefixFree
+pub mod FieldLengths
