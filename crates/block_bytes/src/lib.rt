@@ -10,8 +10,6 @@ mod block_room;
 mod block_writer;
 mod one_run;
 mod run_check;
-#[cfg(test)]
-mod tests;
 
 pub use block::Block;
 pub use block_error::BlockError;

@@ -3,6 +3,10 @@
 #![tactic(auto)]
 
 #[cfg(test)]
+mod blocks;
+#[cfg(test)]
+mod fields;
+#[cfg(test)]
 mod frames;
 #[cfg(test)]
 mod queues;

@@ -1,4 +1,4 @@
-use super::*;
+use block_bytes::*;
 use std::alloc::{AllocError, Global};
 use std::test::*;
 use subscript_keys::{KeyBytes, Pair, Pairs, Run, Span, ValueBytes};

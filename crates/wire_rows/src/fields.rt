@@ -1,7 +1,7 @@
 ghost use Rattle.std.specs.Prelude.{IfOk};
 ghost use Rattle.field_bytes.specs.Fields.{HasShortLists};
 
-use super::*;
+use field_bytes::*;
 use plain_orders::Op;
 use std::alloc::{AllocError, Global};
 use std::test::*;
