@@ -1,0 +1,6 @@
+pub mod Changed
+pub mod Counts
+pub mod Lines
+pub mod Marks
+pub mod Net
+pub mod Told
