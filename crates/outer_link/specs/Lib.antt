@@ -3,4 +3,5 @@ pub mod Counts
 pub mod Lines
 pub mod Marks
 pub mod Net
+pub mod ServerState
 pub mod Told

@@ -5,7 +5,11 @@
 //! all, and fails at the listed calls alone. No clause says that a net that may hold back ever delivers.
 #![tactic(auto)]
 
+mod connection;
+mod data_server;
 mod end;
+mod line;
+mod lines;
 mod moved;
 mod net;
 mod net_maker;
