@@ -1,1 +1,5 @@
 pub mod ChangedLemmas
+pub mod ListSteps
+pub mod MarkSteps
+pub mod KeptSteps
+pub mod TableSteps

@@ -4,4 +4,5 @@ pub mod Lines
 pub mod Marks
 pub mod Net
 pub mod ServerState
+pub mod TableState
 pub mod Told

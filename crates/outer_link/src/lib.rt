@@ -5,6 +5,7 @@
 //! all, and fails at the listed calls alone. No clause says that a net that may hold back ever delivers.
 #![tactic(auto)]
 
+mod conn_table;
 mod connection;
 mod data_server;
 mod end;
