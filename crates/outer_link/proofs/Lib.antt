@@ -3,3 +3,4 @@ pub mod ListSteps
 pub mod MarkSteps
 pub mod KeptSteps
 pub mod TableSteps
+pub mod PositionSteps

@@ -1,19 +1,22 @@
 -- What each change of the table's parts does to what it tells, and that the parts stay as they must be.
-use Rattle.std.proofs.Common.{◌≡◌, ℕ, ◌<◌, ◌≤◌, ◌^◌, zero, suc, Some, None, List, [], ◌∷◌, ◌++◌, length, get_or, set, take, replicate, refl, ap, ◌∙◌, sym, subst, arith, Bool, true, false, not, ◌&&◌, ◌||◌, inl, inr}
+use Rattle.std.proofs.Common.{◌≡◌, ℕ, ◌<◌, ◌≤◌, ◌^◌, zero, suc, Some, None, List, [], ◌∷◌, ◌++◌, length, get_or, set, take, replicate, refl, ap, ◌∙◌, sym, subst, arith, add-zero, Bool, true, false, not, ◌&&◌, ◌||◌, inl, inr}
 use Rattle.std.specs.Prelude.{slice_get, All, map, nat_lt}
 use Rattle.std.specs.Option.{option_map_or}
 use Rattle.std.proofs.lemmas.Bool.{cases_eq, true≢false, le-ltb}
 use Rattle.std.proofs.lemmas.List.{length-map, length-set, length-replicate, map-append, map-id, map-set}
 use Rattle.std.proofs.lemmas.List.Elements.{All-nil, All-replicate, All-set}
-use Rattle.std.proofs.lemmas.Option.{slice_get_within, slice_get-get_or, slice_get-map}
+use Rattle.std.proofs.lemmas.Option.{slice_get_read, slice_get-get_or, slice_get-map}
 use Rattle.outer_link.specs.Changed.{changed}
 use Rattle.outer_link.specs.declared.connection.Connection.{Connection}
 use Rattle.outer_link.specs.ServerState.{ServerState, fresh_pair, fresh_server, reach_of, has_cut, joined_pair, shut_server, parted_server, joined_server}
 use Rattle.outer_link.specs.TableState.{IsKept, CutsWithin, SeesNone, NoneWaits, conn_told, told_of, fresh_told, is_marked}
-use Rattle.outer_link.specs.Told.{ConnTold, ServerTold, Told, is_waiting, cut_where, is_of_server, is_of_pair, with_listening, with_parted, fresh_conn, after_listen, after_shut, after_part, after_join, after_connect}
+use Rattle.outer_link.specs.Told.{ConnTold, ServerTold, Told, is_waiting, cut_where, is_of_server, is_of_pair, with_listening, with_parted, fresh_conn, conn_with, conn_without, coming, undelivered, is_cut_at, after_take, after_listen, after_shut, after_part, after_join, after_connect, after_put}
+use Rattle.outer_link.specs.Lines.{fresh_lines, left, line_to, put_into, taken_from}
+use Rattle.outer_link.specs.declared.end.End.TheVariants.{App, Server}
+use Rattle.outer_link.specs.declared.end.End.{End}
 use Rattle.outer_link.proofs.ChangedLemmas.{changed_at, changed_read}
 use Rattle.outer_link.proofs.KeptSteps.{kept_server, kept_more, sees_map}
-use Rattle.outer_link.proofs.ListSteps.{got_same, got_other, map_changed, changed_same, all_at}
+use Rattle.outer_link.proofs.ListSteps.{got_same, got_other, map_changed, changed_same, changed_nothing, all_at}
 use Rattle.outer_link.proofs.MarkSteps.{cut_shut, cut_part, cut_none}
 
 -- a data server that is told of is there
@@ -24,6 +27,21 @@ server_within servers conns t s is within = subst (λ n. s < n) (length-map serv
 pub conn_within : (servers : List ServerState) (conns : List Connection) (t : Told) (n : ℕ) → told_of servers conns ≡ t → n < length t.conns → n < length conns
 conn_within servers conns t n is within = subst (λ m. n < m) (length-map conns (conn_told servers)) (subst (λ (x : Told). n < length x.conns) (sym is) within)
 
+-- what was read of the data servers
+pub server_at : (servers : List ServerState) (conns : List Connection) (t : Told) (s : ℕ) (v : ServerState) → told_of servers conns ≡ t → s < length t.servers
+    → v ≡ get_or servers s v → slice_get servers s ≡ Some v
+server_at servers conns t s v is within read = slice_get_read servers (length servers) s v refl (server_within servers conns t s is within) read
+
+-- what was read of the connections
+pub conn_at : (servers : List ServerState) (conns : List Connection) (t : Told) (n : ℕ) (c : Connection) → told_of servers conns ≡ t → n < length t.conns
+    → c ≡ get_or conns n c → slice_get conns n ≡ Some c
+conn_at servers conns t n c is within read = slice_get_read conns (length conns) n c refl (conn_within servers conns t n is within) read
+
+-- an application server has its pair with each data server
+pub pair_within : (apps : ℕ) (servers : List ServerState) (conns : List Connection) (a s : ℕ) (v : ServerState) → IsKept apps servers conns
+    → slice_get servers s ≡ Some v → a < apps → a < length v.pairs
+pair_within apps servers conns a s v kept at within = rw (all_at (λ x. length x.pairs ≡ apps) servers s v at kept.pairs) within
+
 same_told : {a b : List ConnTold} {c d : List ServerTold} → a ≡ b → c ≡ d → (let x : Told = record { conns = a; servers = c } in x) ≡ record { conns = b; servers = d }
 same_told e f = rw (e, f) refl
 
@@ -33,6 +51,12 @@ still_cut false accepted is_cut more e = refl
 still_cut true true is_cut more e = refl
 still_cut true false true more e = refl
 still_cut true false false more e = absurd (true≢false e)
+
+-- a connection that is cut doesn't wait
+pub cut_waits : (at accepted : Bool) → (at && not (accepted || true)) ≡ false
+cut_waits false accepted = refl
+cut_waits true false = refl
+cut_waits true true = refl
 
 -- a change of a data server that cuts nothing
 kept_quiet : (apps : ℕ) (servers : List ServerState) (conns : List Connection) (s : ℕ) (v w : ServerState)
@@ -177,6 +201,62 @@ unmarked servers c made cuts is =
         let low : v.cut_before ≤ made = within.0 in
         rw (le-ltb c.made v.cut_before (omega arith)) (no_pair v within.1)
 
-pub told_connect : (apps : ℕ) (servers : List ServerState) (conns : List Connection) (c : Connection) → IsKept apps servers conns → c.made ≡ length conns
-    → (c.is_cut ≡ false) → conn_told servers c ≡ record (conn_told servers c) { is_cut = false }
-told_connect apps servers conns c kept is uncut = rw (unmarked servers c (length conns) kept.cuts is, uncut) refl
+pub told_connect : (apps : ℕ) (servers : List ServerState) (conns : List Connection) (a s : ℕ) (c : Connection) → IsKept apps servers conns
+    → c.app ≡ a → c.server ≡ s → c.made ≡ length conns → c.is_cut ≡ false → c.is_accepted ≡ false → c.lines ≡ fresh_lines
+    → told_of servers (conns ++ c ∷ []) ≡ after_connect (told_of servers conns) a s
+told_connect apps servers conns a s c kept of_app of_server made uncut unaccepted lines =
+    same_told (map-append (conn_told servers) conns (c ∷ []) ∙ ap (λ x. map (conn_told servers) conns ++ x ∷ []) fresh) refl
+  where
+    fresh : conn_told servers c ≡ fresh_conn a s
+    fresh = rw (unmarked servers c (length conns) kept.cuts made, of_app, of_server, uncut, unaccepted, lines) refl
+
+-- one connection is changed
+pub told_conn : (servers : List ServerState) (conns : List Connection) (n : ℕ) (c d : Connection) (f : ConnTold → ConnTold) → slice_get conns n ≡ Some c
+    → conn_told servers d ≡ f (conn_told servers c) → told_of servers (set conns n d) ≡ record (told_of servers conns) { conns = changed f n (map (conn_told servers) conns) }
+told_conn servers conns n c d f at is = same_told (map_changed (conn_told servers) f n conns c d at is) refl
+
+-- what is told of one connection
+pub told_at : (servers : List ServerState) (conns : List Connection) (n : ℕ) (c : Connection) → slice_get conns n ≡ Some c
+    → slice_get (told_of servers conns).conns n ≡ Some (conn_told servers c)
+told_at servers conns n c at = rw (slice_get-map (conn_told servers) conns n, at) refl
+
+-- whether it is cut
+pub cut_at : (servers : List ServerState) (conns : List Connection) (n : ℕ) (c : Connection) (b : Bool) → slice_get conns n ≡ Some c
+    → is_cut_at (told_of servers conns) n ≡ b → (conn_told servers c).is_cut ≡ b
+cut_at servers conns n c b at is = ap (λ o. option_map_or (λ (x : ConnTold). x.is_cut) o false) (sym (told_at servers conns n c at)) ∙ is
+
+-- what is to be taken there, where it isn't cut
+pub left_at : (servers : List ServerState) (conns : List Connection) (n : ℕ) (c : Connection) (end : End) → slice_get conns n ≡ Some c
+    → is_cut_at (told_of servers conns) n ≡ false → undelivered (told_of servers conns) n end ≡ left (line_to c.lines end)
+left_at servers conns n c end at uncut =
+    ap (λ o. option_map_or (coming end) o []) (told_at servers conns n c at) ∙ rw (cut_at servers conns n c false at uncut) refl
+
+-- bytes put on a connection that is cut change nothing
+pub put_on_cut : (t : Told) (n : ℕ) (end : End) (bytes : List ℕ) → is_cut_at t n ≡ true → after_put t n end bytes ≡ t
+put_on_cut t n end bytes cut =
+    same_told (changed_nothing (conn_with end bytes) n t.conns (λ c at. rw (is_cut c at) refl)) refl
+  where
+    is_cut : (c : ConnTold) → slice_get t.conns n ≡ Some c → c.is_cut ≡ true
+    is_cut c at = ap (λ o. option_map_or (λ (x : ConnTold). x.is_cut) o false) (sym at) ∙ cut
+
+-- bytes put on another
+pub told_put : (servers : List ServerState) (conns : List Connection) (n : ℕ) (c : Connection) (end : End) (bytes : List ℕ) → slice_get conns n ≡ Some c
+    → is_cut_at (told_of servers conns) n ≡ false
+    → told_of servers (set conns n (record c { lines = put_into c.lines end bytes })) ≡ after_put (told_of servers conns) n end bytes
+told_put servers conns n c end bytes at uncut =
+    told_conn servers conns n c (record c { lines = put_into c.lines end bytes }) (conn_with end bytes) at
+    (rw (cut_at servers conns n c false at uncut) refl)
+
+-- no byte taken
+pub take_none : (t : Told) (n : ℕ) (end : End) → after_take t n end 0 ≡ t
+take_none t n end = same_told (changed_nothing (conn_without end 0) n t.conns (λ c _. nothing c end)) refl
+  where
+    nothing : (c : ConnTold) (e : End) → conn_without e 0 c ≡ c
+    nothing c App = rw add-zero refl
+    nothing c Server = rw add-zero refl
+
+-- bytes taken
+pub told_take : (servers : List ServerState) (conns : List Connection) (n : ℕ) (c : Connection) (end : End) (count : ℕ) → slice_get conns n ≡ Some c
+    → told_of servers (set conns n (record c { lines = taken_from c.lines end count })) ≡ after_take (told_of servers conns) n end count
+told_take servers conns n c end count at =
+    told_conn servers conns n c (record c { lines = taken_from c.lines end count }) (conn_without end count) at refl
