@@ -4,3 +4,4 @@ pub mod MarkSteps
 pub mod KeptSteps
 pub mod TableSteps
 pub mod PositionSteps
+pub mod MarksSteps

@@ -1,16 +1,17 @@
 -- What each change of the table's parts does to what it tells, and that the parts stay as they must be.
 use Rattle.std.proofs.Common.{◌≡◌, ℕ, ◌<◌, ◌≤◌, ◌^◌, zero, suc, Some, None, List, [], ◌∷◌, ◌++◌, length, get_or, set, take, replicate, refl, ap, ◌∙◌, sym, subst, arith, add-zero, Bool, true, false, not, ◌&&◌, ◌||◌, inl, inr}
-use Rattle.std.specs.Prelude.{slice_get, All, map, nat_lt}
+use Rattle.std.specs.Prelude.{slice_get, All, map, nat_lt, if◌then◌else◌}
 use Rattle.std.specs.Option.{option_map_or}
 use Rattle.std.proofs.lemmas.Bool.{cases_eq, true≢false, le-ltb}
-use Rattle.std.proofs.lemmas.List.{length-map, length-set, length-replicate, map-append, map-id, map-set}
+use Rattle.std.proofs.lemmas.List.{length-map, length-set, length-replicate, append-nil, map-append, map-id, map-set}
 use Rattle.std.proofs.lemmas.List.Elements.{All-nil, All-replicate, All-set}
-use Rattle.std.proofs.lemmas.Option.{slice_get_read, slice_get-get_or, slice_get-map}
+use Rattle.std.proofs.lemmas.Option.{slice_get_read, slice_get_within, slice_get-get_or, slice_get-map}
 use Rattle.outer_link.specs.Changed.{changed}
 use Rattle.outer_link.specs.declared.connection.Connection.{Connection}
+use Rattle.outer_link.specs.declared.data_server.Pair.{Pair}
 use Rattle.outer_link.specs.ServerState.{ServerState, fresh_pair, fresh_server, reach_of, has_cut, joined_pair, shut_server, parted_server, joined_server}
 use Rattle.outer_link.specs.TableState.{IsKept, CutsWithin, SeesNone, NoneWaits, conn_told, told_of, fresh_told, is_marked}
-use Rattle.outer_link.specs.Told.{ConnTold, ServerTold, Told, is_waiting, cut_where, is_of_server, is_of_pair, with_listening, with_parted, fresh_conn, conn_with, conn_without, coming, undelivered, is_cut_at, after_take, after_listen, after_shut, after_part, after_join, after_connect, after_put}
+use Rattle.outer_link.specs.Told.{ConnTold, ServerTold, Told, is_waiting, cut_where, is_of_server, is_of_pair, with_listening, with_parted, fresh_conn, conn_with, conn_without, coming, undelivered, is_cut_at, is_parted, after_take, after_listen, after_shut, after_part, after_join, after_connect, after_put}
 use Rattle.outer_link.specs.Lines.{fresh_lines, left, line_to, put_into, taken_from}
 use Rattle.outer_link.specs.declared.end.End.TheVariants.{App, Server}
 use Rattle.outer_link.specs.declared.end.End.{End}
@@ -116,6 +117,13 @@ told_part servers conns a s v within at made =
     same_told (cut_part servers conns a s (length conns) v at within made)
     (map_changed reach_of (with_parted a true) s servers v (parted_server v a (length conns)) at
      (ap (λ ps. let x : ServerTold = record { listens = v.listens; parted = ps } in x) (map-set (λ p. p.parted) v.pairs a (record { parted = true; cut_before = length conns }))))
+
+pub parted_apart : (servers : List ServerState) (conns : List Connection) (a s made : ℕ) (v : ServerState) → a < length v.pairs → slice_get servers s ≡ Some v
+    → is_parted (told_of (set servers s (parted_server v a made)) conns) a s ≡ true
+parted_apart servers conns a s made v within at =
+    let p : Pair = record { parted = true; cut_before = made } in
+    rw (slice_get-map reach_of (set servers s (parted_server v a made)) s, got_same servers s (parted_server v a made) (slice_get_within servers s v at),
+      slice_get-map (λ (x : Pair). x.parted) (set v.pairs a p) a, got_same v.pairs a p within) refl
 
 -- the pair is joined
 joined_cut : (v : ServerState) (a app made : ℕ) → a < length v.pairs → has_cut (joined_server v a) app made ≡ has_cut v app made
@@ -246,6 +254,17 @@ pub told_put : (servers : List ServerState) (conns : List Connection) (n : ℕ) 
 told_put servers conns n c end bytes at uncut =
     told_conn servers conns n c (record c { lines = put_into c.lines end bytes }) (conn_with end bytes) at
     (rw (cut_at servers conns n c false at uncut) refl)
+
+-- no byte put
+pub put_none : (t : Told) (n : ℕ) (end : End) → after_put t n end [] ≡ t
+put_none t n end = same_told (changed_nothing (conn_with end []) n t.conns (λ c _. nothing c end)) refl
+  where
+    on_open : (c : ConnTold) (e : End) → (let x : ConnTold = record c { lines = put_into c.lines e [] } in x) ≡ c
+    on_open c App = rw append-nil refl
+    on_open c Server = rw append-nil refl
+    nothing : (c : ConnTold) (e : End) → conn_with e [] c ≡ c
+    nothing c e =
+        elim c.is_cut as (λ b. (if b then c else record c { lines = put_into c.lines e [] }) ≡ c) [ true ↦ refl | false ↦ on_open c e ]
 
 -- no byte taken
 pub take_none : (t : Told) (n : ℕ) (end : End) → after_take t n end 0 ≡ t

@@ -3,6 +3,7 @@ pub mod Counts
 pub mod Lines
 pub mod Marks
 pub mod Net
+pub mod NetState
 pub mod ServerState
 pub mod TableState
 pub mod Told

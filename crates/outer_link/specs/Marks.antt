@@ -1,5 +1,7 @@
 -- What is known of connection numbers, also of a net that does not tell what stands on its connections.
-use Rattle.std.specs.Prelude.{ℕ, ◌≡◌, Bool, true, false, ◌&&◌, ◌||◌, ◌==◌, if◌then◌else◌}
+use Rattle.std.specs.Prelude.{ℕ, ◌≡◌, Bool, true, false, ◌&&◌, ◌||◌, ◌==◌, if◌then◌else◌, length, nat_lt, slice_get}
+use Rattle.std.specs.Option.{option_map_or}
+use Rattle.outer_link.specs.Told.{ConnTold, Told, is_cut_at, is_parted}
 
 pub record Marks : Type 0 where
   pub known : ℕ → Bool  -- a connect or an accept answered this number
@@ -59,3 +61,18 @@ pub record IsFresh (m : Marks) : Type 0 where
   pub unknown : (n : ℕ) → m.known n ≡ false
   pub unaccepted : (n : ℕ) → m.accepted n ≡ false
   pub joined : (app server : ℕ) → m.parted app server ≡ false
+
+-- something of a connection by number, and the default where there is none
+abbrev pub of_conn : {A : Type 0} → (ConnTold → A) → Told → ℕ → A → A
+of_conn part t n none = option_map_or part (slice_get t.conns n) none
+
+-- what is known of a net that tells
+abbrev pub marks_of : Told → Marks
+marks_of t = record {
+  known = λ n. nat_lt n (length t.conns);
+  accepted = λ n. of_conn (λ c. c.accepted) t n false;
+  app = λ n. of_conn (λ c. c.app) t n 0;
+  server = λ n. of_conn (λ c. c.server) t n 0;
+  cut = is_cut_at t;
+  parted = is_parted t;
+}

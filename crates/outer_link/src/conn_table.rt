@@ -1,8 +1,8 @@
-ghost use Rattle.std.specs.Prelude.{◌≡◌, ◌<◌, ◌≤◌, ◌^◌, false, None, min, length, take, position, replicate, IfOk, OnOk, IfNone, OnErr};
+ghost use Rattle.std.specs.Prelude.{◌≡◌, ◌<◌, ◌≤◌, ◌^◌, true, false, None, min, length, take, position, replicate, IfOk, OnOk, IfNone, OnErr};
 ghost use Rattle.outer_link.specs.Net.{AcceptedAs, TookAs};
 ghost use Rattle.outer_link.specs.ServerState.{fresh_server};
 ghost use Rattle.outer_link.specs.TableState.{conn_told, fresh_told, NoneWaits, answer_to_take};
-ghost use Rattle.outer_link.specs.Told.{is_cut_at, is_open, is_waiting, undelivered, after_listen, after_shut, after_part, after_join, after_connect, after_accept, after_put, after_take, after_cut};
+ghost use Rattle.outer_link.specs.Told.{is_cut_at, is_open, is_parted, is_waiting, undelivered, after_listen, after_shut, after_part, after_join, after_connect, after_accept, after_put, after_take, after_cut};
 
 use crate::connection::Connection;
 use crate::data_server::DataServer;
@@ -66,7 +66,8 @@ impl ConnTable {
     pub fn part(&mut self, app: u8, server: u8)
         requires app { app < self.old.apps }
         requires server { server < length self.old.told.servers }
-        ensures { self.new ≡ record self.old { told = after_part self.old.told app server } }
+        ensures next { self.new ≡ record self.old { told = after_part self.old.told app server } }
+        ensures apart { is_parted self.new.told app server ≡ true }
     {
         let made = self.conns.len();
         let server = &mut self.servers[server as usize];

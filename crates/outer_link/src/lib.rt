@@ -11,12 +11,15 @@ mod data_server;
 mod end;
 mod line;
 mod lines;
+mod mem_net;
 mod moved;
 mod net;
+mod net_counts;
 mod net_maker;
 mod node_name;
 
 pub use end::End;
+pub use mem_net::MemNet;
 pub use moved::{Put, Took};
 pub use net::Net;
 pub use net_maker::NetMaker;

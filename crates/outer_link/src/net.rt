@@ -1,7 +1,7 @@
 ghost use Rattle.std.specs.Prelude.{◌≡◌, ◌≢◌, ℕ, ◌<◌, ◌⊎◌, Option, None, Some, true, false, ◌==◌, [], length, position, if◌then◌else◌, is_ok, IsErr, IfOk, IfErr, IfSome, OnErr, MatchResult};
 ghost use Rattle.outer_io.specs.Causes.{Rose};
 ghost use Rattle.outer_link.specs.Counts.{Counts, NoneFell};
-ghost use Rattle.outer_link.specs.Marks.{Marks, Marked, Keeps, or_cut, of_server, of_pair, parted_with, IsConnected, IsAccepted};
+ghost use Rattle.outer_link.specs.Marks.{Marks, Marked, Keeps, or_cut, of_server, of_pair, parted_with, IsConnected, IsAccepted, marks_of};
 ghost use Rattle.outer_link.specs.Net.{Shape, IfTold, AcceptedAs, PutAs, PutSome, PutWithin, TookAs, TookWithin};
 ghost use Rattle.outer_link.specs.Told.{Told, after_listen, after_shut, after_part, after_join, after_connect, after_cut, is_open, is_waiting, undelivered};
 
@@ -159,4 +159,7 @@ pub trait Net {
     /// How many connects failed.
     fn failed(&self) -> u64
         ensures { result ≡ (counts self.now).failed };
+
+    /// Of a net that tells, what is known of the numbers is what it tells.
+    ghost agrees: { (x : Self) (t : Told) → told x ≡ Some t → marks x ≡ marks_of t };
 }
