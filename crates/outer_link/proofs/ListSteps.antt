@@ -1,7 +1,7 @@
 -- Lists of which one element, or each, is another.
-use Rattle.std.proofs.Common.{◌≡◌, ℕ, ◌<◌, zero, suc, Some, None, List, [], ◌∷◌, length, get_or, set, refl, ap, ◌∙◌, sym, subst, arith, length-set, get_or-set_same}
-use Rattle.std.specs.Prelude.{slice_get, slice_set, All, map}
-use Rattle.std.proofs.lemmas.Option.{slice_get_read, slice_get_within, get_or_from_slice_get, slice_get-map, same_Some}
+use Rattle.std.proofs.Common.{◌≡◌, ℕ, ◌<◌, zero, suc, Some, None, List, [], ◌∷◌, length, set, refl, ap, ◌∙◌, sym, subst, length-set, get_or-set_same}
+use Rattle.std.specs.Prelude.{slice_get, All, map}
+use Rattle.std.proofs.lemmas.Option.{slice_get_read, slice_get_within, get_or_from_slice_get, slice_get-map}
 use Rattle.std.proofs.lemmas.List.{map-set, set-get_or}
 use Rattle.std.proofs.lemmas.List.Elements.{All-head, All-tail, All-get_or}
 use Rattle.outer_link.specs.Changed.{changed}
@@ -40,16 +40,16 @@ changed_same f n xs x at is =
 pub changed_nothing : {A : Type 0} → (f : A → A) (n : ℕ) (xs : List A) → ((x : A) → slice_get xs n ≡ Some x → f x ≡ x) → changed f n xs ≡ xs
 changed_nothing f n xs leaves =
     elim (slice_get xs n) as (λ o. slice_get xs n ≡ o → changed f n xs ≡ xs) [
-      None ↦ λ e. changed_none f n xs e
-    | Some x ↦ λ e. changed_same f n xs x e (leaves x e)
+      | None ↦ λ e. changed_none f n xs e
+      | Some x ↦ λ e. changed_same f n xs x e (leaves x e)
     ] refl
 
 -- a change keeps the length
 pub length_changed : {A : Type 0} → (f : A → A) (n : ℕ) (xs : List A) → length (changed f n xs) ≡ length xs
 length_changed f n xs =
     elim (slice_get xs n) as (λ o. slice_get xs n ≡ o → length (changed f n xs) ≡ length xs) [
-      None ↦ λ e. ap length (changed_none f n xs e)
-    | Some x ↦ λ e. ap length (changed_at f n xs x e) ∙ length-set xs n (f x)
+      | None ↦ λ e. ap length (changed_none f n xs e)
+      | Some x ↦ λ e. ap length (changed_at f n xs x e) ∙ length-set xs n (f x)
     ] refl
 
 -- what is true of each is true of the one at n

@@ -1,7 +1,6 @@
 -- Connections that are cut all at once, by a count of those that were made.
 use Rattle.std.proofs.Common.{◌≡◌, ℕ, ◌<◌, Some, List, length, set, refl, ap, ◌∙◌, sym, true, false, ◌&&◌, ◌||◌, Bool, inl, inr}
-use Rattle.std.proofs.lemmas.Grind.{common_steps}
-use Rattle.std.specs.Prelude.{slice_get, All, map, nat_lt, ◌==◌}
+use Rattle.std.specs.Prelude.{slice_get, All, map, ◌==◌}
 use Rattle.std.proofs.lemmas.Bool.{cases_eq, lt-ltb, eq-eqb, ne_eqb, and_left, and_right}
 use Rattle.std.proofs.Math.Bool.{or_assoc, or-true}
 use Rattle.std.proofs.lemmas.Simd.{map-map}
@@ -35,8 +34,8 @@ pub marked_by : (servers : List ServerState) (s : ℕ) (v w : ServerState) (test
     → is_marked (set servers s w) c ≡ (is_marked servers c || test c)
 marked_by servers s v w test c at inside outside =
     elim (cases_eq c.server s) [
-      inl here ↦ let m = marked_here servers s v w c at here in m.1 ∙ inside here ∙ ap (λ b. b || test c) (sym m.0)
-    | inr apart ↦ marked_there servers s w c apart ∙ or_nothing (is_marked servers c) (test c) (outside apart)
+      | inl here ↦ let m = marked_here servers s v w c at here in m.1 ∙ inside here ∙ ap (λ b. b || test c) (sym m.0)
+      | inr apart ↦ marked_there servers s w c apart ∙ or_nothing (is_marked servers c) (test c) (outside apart)
     ]
 
 -- a data server that is shut has cut all of its connections that were made
@@ -50,13 +49,13 @@ part_inside : (a s : ℕ) (v : ServerState) (made : ℕ) (c : Connection) → c.
     → has_cut (parted_server v a made) c.app c.made ≡ (has_cut v c.app c.made || ((c.app == a) && (c.server == s)))
 part_inside a s v made c before within here =
     elim (cases_eq c.app a) [
-      inl same ↦
-        or_both (has_cut v c.app c.made) _ _
-        (rw (same, got_same v.pairs a (record { parted = true; cut_before = made }) within, lt-ltb c.made made before, or-true) refl)
-        (rw (eq-eqb c.app a same, eq-eqb c.server s here) refl)
-    | inr apart ↦
-        rw (got_other v.pairs a c.app (record { parted = true; cut_before = made }) apart)
-        (or_nothing (has_cut v c.app c.made) ((c.app == a) && (c.server == s)) (and_left (c.app == a) (c.server == s) (ne_eqb c.app a apart)))
+      | inl same ↦
+          or_both (has_cut v c.app c.made) _ _
+          (rw (same, got_same v.pairs a (record { parted = true; cut_before = made }) within, lt-ltb c.made made before, or-true) refl)
+          (rw (eq-eqb c.app a same, eq-eqb c.server s here) refl)
+      | inr apart ↦
+          rw (got_other v.pairs a c.app (record { parted = true; cut_before = made }) apart)
+          (or_nothing (has_cut v c.app c.made) ((c.app == a) && (c.server == s)) (and_left (c.app == a) (c.server == s) (ne_eqb c.app a apart)))
     ]
 
 -- what is told of connections, behind a change of marks
@@ -81,7 +80,7 @@ pub cut_part : (servers : List ServerState) (conns : List Connection) (a s made 
 cut_part servers conns a s made v at within before =
     cut_all servers (set servers s (parted_server v a made)) conns (is_of_pair a s) made before
     (λ c b. marked_by servers s v (parted_server v a made) (λ x. (x.app == a) && (x.server == s)) c at (part_inside a s v made c b within)
-      (λ apart. and_right (c.app == a) (c.server == s) (ne_eqb c.server s apart)))
+    (λ apart. and_right (c.app == a) (c.server == s) (ne_eqb c.server s apart)))
 
 -- a data server that cuts no more
 pub cut_none : (servers : List ServerState) (conns : List Connection) (s : ℕ) (v w : ServerState) → slice_get servers s ≡ Some v

@@ -1,14 +1,14 @@
 -- What each call does to what is known of connection numbers.
-use Rattle.std.proofs.Common.{◌≡◌, ℕ, ◌+◌, ◌<◌, ◌≤◌, zero, suc, Option, Some, None, List, [], ◌∷◌, ◌++◌, length, get_or, set, refl, ap, ◌∙◌, sym, subst, arith, Bool, true, false, not, ◌&&◌, ◌||◌, inl, inr}
+use Rattle.std.proofs.Common.{◌≡◌, ℕ, ◌+◌, ◌<◌, zero, suc, Option, Some, None, List, [], ◌∷◌, ◌++◌, length, refl, ap, ◌∙◌, sym, subst, arith, Bool, true, false, not, ◌||◌, inl, inr}
 use Rattle.std.specs.Prelude.{slice_get, slice_set, map, nat_lt, position, unwrap_or, ◌==◌, if◌then◌else◌}
 use Rattle.std.specs.Option.{option_map, option_map_or}
-use Rattle.std.proofs.lemmas.Bool.{cases_eq, ltb-true, lt-ltb, le-ltb, eq-eqb, ne_eqb, eqb-true, and_parts, and_left, and_right, not-true, true≢false}
+use Rattle.std.proofs.lemmas.Bool.{cases_eq, ltb-true, lt-ltb, le-ltb, eq-eqb, ne_eqb, eqb-true, and_parts, and_right, not-true, true≢false}
 use Rattle.std.proofs.Math.Bool.{or-true}
 use Rattle.std.proofs.lemmas.List.{length-map, length_push}
 use Rattle.std.proofs.lemmas.List.Quantifiers.{position-Some}
-use Rattle.std.proofs.lemmas.Option.{slice_get-map, slice_get_past, slice_get_within, get_or_from_slice_get}
+use Rattle.std.proofs.lemmas.Option.{slice_get-map, slice_get_within, get_or_from_slice_get}
 use Rattle.outer_link.specs.Changed.{changed}
-use Rattle.outer_link.specs.Marks.{Marks, Marked, Keeps, IsConnected, IsAccepted, or_cut, of_server, of_pair, parted_with, marks_of, of_conn}
+use Rattle.outer_link.specs.Marks.{Marked, Keeps, IsConnected, IsAccepted, or_cut, of_server, of_pair, parted_with, marks_of, of_conn}
 use Rattle.outer_link.specs.Told.{ConnTold, ServerTold, Told, accepted_conn, conn_with, cut_conn, cut_where, fresh_conn, is_cut_at, is_of_pair, is_of_server, is_parted, is_waiting, with_listening, with_parted, after_listen, after_shut, after_part, after_join, after_connect, after_accept, after_put, after_take, after_cut}
 use Rattle.outer_link.specs.Lines.{LinesTold, put_into, taken_from}
 use Rattle.outer_link.specs.Net.{TookAs}
@@ -26,8 +26,8 @@ part_at g xs j d = option_map_or g (slice_get xs j) d
 at_other : {A B : Type 0} → (g : A → B) (f : A → A) (n j : ℕ) (xs : List A) (d : B) → (j ≡ n → ⊥) → part_at g (changed f n xs) j d ≡ part_at g xs j d
 at_other g f n j xs d apart =
     elim (slice_get xs n) as (λ o. slice_get xs n ≡ o → part_at g (changed f n xs) j d ≡ part_at g xs j d) [
-      None ↦ λ e. rw (changed_none f n xs e) refl
-    | Some x ↦ λ e. rw (changed_at f n xs x e, got_other xs n j (f x) apart) refl
+      | None ↦ λ e. rw (changed_none f n xs e) refl
+      | Some x ↦ λ e. rw (changed_at f n xs x e, got_other xs n j (f x) apart) refl
     ] refl
 
 -- behind a change here
@@ -38,38 +38,38 @@ at_here g f n xs x d e = rw (changed_at f n xs x e, got_same xs n (f x) (slice_g
 at_same : {A B : Type 0} → (g : A → B) (f : A → A) (n j : ℕ) (xs : List A) (d : B) → ((x : A) → g (f x) ≡ g x) → part_at g (changed f n xs) j d ≡ part_at g xs j d
 at_same g f n j xs d same =
     elim (cases_eq j n) [
-      inl here ↦ subst (λ i. part_at g (changed f n xs) i d ≡ part_at g xs i d) (sym here) there
-    | inr apart ↦ at_other g f n j xs d apart
+      | inl here ↦ subst (λ i. part_at g (changed f n xs) i d ≡ part_at g xs i d) (sym here) there
+      | inr apart ↦ at_other g f n j xs d apart
     ]
   where
     there : part_at g (changed f n xs) n d ≡ part_at g xs n d
     there =
         elim (slice_get xs n) as (λ o. slice_get xs n ≡ o → part_at g (changed f n xs) n d ≡ part_at g xs n d) [
-          None ↦ λ e. rw (changed_none f n xs e) refl
-        | Some x ↦ λ e. at_here g f n xs x d e ∙ same x ∙ rw e refl
+          | None ↦ λ e. rw (changed_none f n xs e) refl
+          | Some x ↦ λ e. at_here g f n xs x d e ∙ same x ∙ rw e refl
         ] refl
 
 -- behind a change that leaves it true
 at_still : {A : Type 0} → (g : A → Bool) (f : A → A) (n j : ℕ) (xs : List A) → ((x : A) → g x ≡ true → g (f x) ≡ true) → part_at g xs j false ≡ true → part_at g (changed f n xs) j false ≡ true
 at_still g f n j xs still holds =
     elim (cases_eq j n) [
-      inl here ↦ subst (λ i. part_at g (changed f n xs) i false ≡ true) (sym here) (there (subst (λ i. part_at g xs i false ≡ true) here holds))
-    | inr apart ↦ at_other g f n j xs false apart ∙ holds
+      | inl here ↦ subst (λ i. part_at g (changed f n xs) i false ≡ true) (sym here) (there (subst (λ i. part_at g xs i false ≡ true) here holds))
+      | inr apart ↦ at_other g f n j xs false apart ∙ holds
     ]
   where
     there : part_at g xs n false ≡ true → part_at g (changed f n xs) n false ≡ true
     there h =
         elim (slice_get xs n) as (λ o. slice_get xs n ≡ o → part_at g (changed f n xs) n false ≡ true) [
-          None ↦ λ e. absurd (let no : false ≡ true = ap (λ o. option_map_or g o false) (sym e) ∙ h in true≢false (sym no))
-        | Some x ↦ λ e. at_here g f n xs x false e ∙ still x (ap (λ o. option_map_or g o false) (sym e) ∙ h)
+          | None ↦ λ e. absurd (let no : false ≡ true = ap (λ o. option_map_or g o false) (sym e) ∙ h in true≢false (sym no))
+          | Some x ↦ λ e. at_here g f n xs x false e ∙ still x (ap (λ o. option_map_or g o false) (sym e) ∙ h)
         ] refl
 
 -- a connection that is known is there
 known_conn : (t : Told) (n : ℕ) → nat_lt n (length t.conns) ≡ true → (c : ConnTold) × (slice_get t.conns n ≡ Some c)
 known_conn t n known =
     elim (slice_get t.conns n) as (λ o. slice_get t.conns n ≡ o → (c : ConnTold) × (slice_get t.conns n ≡ Some c)) [
-      None ↦ λ e. absurd (missing t.conns n e (ltb-true n (length t.conns) known))
-    | Some c ↦ λ e. (c, e)
+      | None ↦ λ e. absurd (missing t.conns n e (ltb-true n (length t.conns) known))
+      | Some c ↦ λ e. (c, e)
     ] refl
   where
     missing : (xs : List ConnTold) (k : ℕ) → slice_get xs k ≡ None → k < length xs → ⊥
@@ -102,15 +102,15 @@ keeps_put t n end bytes =
     put_keeps : {A : Type 0} → (g : ConnTold → A) (c : ConnTold) → ((l : LinesTold) → g (record c { lines = l }) ≡ g c) → g (conn_with end bytes c) ≡ g c
     put_keeps g c same =
         elim c.is_cut as (λ b. g (if b then c else record c { lines = put_into c.lines end bytes }) ≡ g c) [
-          true ↦ refl
-        | false ↦ same (put_into c.lines end bytes)
+          | true ↦ refl
+          | false ↦ same (put_into c.lines end bytes)
         ]
 
 pub keeps_take : (t : Told) (n : ℕ) (end : End) (count : ℕ) → Keeps (marks_of t) (marks_of (after_take t n end count))
 keeps_take t n end count = keeps_conn t n (λ c. record c { lines = taken_from c.lines end count }) (λ _. refl) (λ _. refl) (λ _. refl) (λ _ e. e)
 
 keeps_same : (t : Told) → Keeps (marks_of t) (marks_of t)
-keeps_same t = record { known = λ _ e. e; accepted = λ _ e. e; app = λ _ _. refl; server = λ _ _. refl; cut = λ _ _. refl; parted = λ _ _. refl; }
+keeps_same t = record { known = λ _ e. e; accepted = λ _ e. e; app = λ _ _. refl; server = λ _ _. refl; cut = λ _ _. refl; parted = λ _ _. refl }
 
 pub keeps_took : (t now : Told) (n : ℕ) (end : End) (buf : List ℕ) (r : Took) → TookAs t now n end buf r → Keeps (marks_of t) (marks_of now)
 keeps_took t now n end buf (Bytes count) took = subst (λ x. Keeps (marks_of t) (marks_of x)) (sym took.2) (keeps_take t n end count)
@@ -134,11 +134,11 @@ marked_cut t n = record {
     cut : (k : ℕ) → nat_lt k (length t.conns) ≡ true → is_cut_at (after_cut t n) k ≡ (is_cut_at t k || (k == n))
     cut k known =
         elim (cases_eq k n) [
-          inl here ↦
-            let c = known_conn t k known in
-            subst (λ i. is_cut_at (after_cut t i) k ≡ true) here (at_here (λ x. x.is_cut) cut_conn k t.conns c.0 false c.1)
-            ∙ sym (rw (eq-eqb k n here, or-true) refl)
-        | inr apart ↦ at_other (λ x. x.is_cut) cut_conn n k t.conns false apart ∙ or_none (is_cut_at t k) (k == n) (ne_eqb k n apart)
+          | inl here ↦
+              let c = known_conn t k known in
+              subst (λ i. is_cut_at (after_cut t i) k ≡ true) here (at_here (λ x. x.is_cut) cut_conn k t.conns c.0 false c.1)
+              ∙ sym (rw (eq-eqb k n here, or-true) refl)
+          | inr apart ↦ at_other (λ x. x.is_cut) cut_conn n k t.conns false apart ∙ or_none (is_cut_at t k) (k == n) (ne_eqb k n apart)
         ]
 
 -- something of a connection, behind cuts
@@ -190,17 +190,17 @@ parted_now : (t : Told) (a s : ℕ) (is_apart : Bool) (conns : List ConnTold)
     → (b i : ℕ) → is_parted (let x : Told = record { conns = conns; servers = changed (with_parted a is_apart) s t.servers } in x) b i ≡ parted_with (marks_of t) a s is_apart b i
 parted_now t a s is_apart conns now b i =
     elim (cases_eq i s) [
-      inl here ↦ elim (cases_eq b a) [
-          inl same ↦
+      | inl here ↦ elim (cases_eq b a) [
+        | inl same ↦
             rw (here, same, eq-eqb a a refl, eq-eqb s s refl) now
         | inr apart ↦
             at_same (λ x. unwrap_or (slice_get x.parted b) false) (with_parted a is_apart) s i t.servers false
             (λ x. ap (λ o. unwrap_or o false) (got_other x.parted a b is_apart apart))
             ∙ sym (rw (ne_eqb b a apart) refl)
-        ]
-    | inr apart ↦
-        at_other (λ x. unwrap_or (slice_get x.parted b) false) (with_parted a is_apart) s i t.servers false apart
-        ∙ sym (rw (ne_eqb i s apart, and_right (b == a) false refl) refl)
+      ]
+      | inr apart ↦
+          at_other (λ x. unwrap_or (slice_get x.parted b) false) (with_parted a is_apart) s i t.servers false apart
+          ∙ sym (rw (ne_eqb i s apart, and_right (b == a) false refl) refl)
     ]
 
 pub marked_part : (t : Told) (a s : ℕ) → is_parted (after_part t a s) a s ≡ true
@@ -213,8 +213,8 @@ marked_part t a s now =
 joined_now : (t : Told) (a s : ℕ) → is_parted (after_join t a s) a s ≡ false
 joined_now t a s =
     elim (slice_get t.servers s) as (λ o. slice_get t.servers s ≡ o → is_parted (after_join t a s) a s ≡ false) [
-      None ↦ λ e. rw (changed_none (with_parted a false) s t.servers e, e) refl
-    | Some x ↦ λ e. at_here (λ y. unwrap_or (slice_get y.parted a) false) (with_parted a false) s t.servers x false e ∙ cleared x.parted a
+      | None ↦ λ e. rw (changed_none (with_parted a false) s t.servers e, e) refl
+      | Some x ↦ λ e. at_here (λ y. unwrap_or (slice_get y.parted a) false) (with_parted a false) s t.servers x false e ∙ cleared x.parted a
     ] refl
   where
     cleared : (row : List Bool) (k : ℕ) → unwrap_or (slice_get (slice_set row k false) k) false ≡ false
@@ -245,7 +245,7 @@ got_last (x ∷ xs) y = got_last xs y
 pub keeps_connect : (t : Told) (a s : ℕ) → Keeps (marks_of t) (marks_of (after_connect t a s))
 keeps_connect t a s = record {
   known = λ k e. let short : k < length t.conns = ltb-true k (length t.conns) e in
-    rw (length_push t.conns (fresh_conn a s)) (lt-ltb k (length t.conns + 1) (omega arith));
+      rw (length_push t.conns (fresh_conn a s)) (lt-ltb k (length t.conns + 1) (omega arith));
   accepted = λ k e. accepted k e;
   app = λ k e. front (λ c. c.app) k 0 e;
   server = λ k e. front (λ c. c.server) k 0 e;
@@ -255,11 +255,12 @@ keeps_connect t a s = record {
   where
     front : {A : Type 0} → (g : ConnTold → A) (k : ℕ) (d : A) → nat_lt k (length t.conns) ≡ true → of_conn g (after_connect t a s) k d ≡ of_conn g t k d
     front g k d e = rw (got_front t.conns (fresh_conn a s) k (ltb-true k (length t.conns) e)) refl
+
     accepted : (k : ℕ) → of_conn (λ c. c.accepted) t k false ≡ true → of_conn (λ c. c.accepted) (after_connect t a s) k false ≡ true
     accepted k e =
         elim (slice_get t.conns k) as (λ o. slice_get t.conns k ≡ o → of_conn (λ c. c.accepted) (after_connect t a s) k false ≡ true) [
-          None ↦ λ none. absurd (let no : false ≡ true = ap (λ o. option_map_or (λ (c : ConnTold). c.accepted) o false) (sym none) ∙ e in true≢false (sym no))
-        | Some c ↦ λ some. front (λ x. x.accepted) k false (lt-ltb k (length t.conns) (slice_get_within t.conns k c some)) ∙ e
+          | None ↦ λ none. absurd (let no : false ≡ true = ap (λ o. option_map_or (λ (c : ConnTold). c.accepted) o false) (sym none) ∙ e in true≢false (sym no))
+          | Some c ↦ λ some. front (λ x. x.accepted) k false (lt-ltb k (length t.conns) (slice_get_within t.conns k c some)) ∙ e
         ] refl
 
 pub is_connected : (t : Told) (a s n : ℕ) → n ≡ length t.conns → IsConnected (marks_of t) (marks_of (after_connect t a s)) a s n
@@ -276,18 +277,19 @@ is_connected t a s n is =
 first_waits : (t : Told) (s n : ℕ) → position (is_waiting s) t.conns ≡ Some n → (c : ConnTold) × (slice_get t.conns n ≡ Some c) × (c.server ≡ s) × (c.accepted ≡ false) × (c.is_cut ≡ false)
 first_waits t s n first =
     elim (slice_get t.conns n) as (λ o. slice_get t.conns n ≡ o → (c : ConnTold) × (slice_get t.conns n ≡ Some c) × (c.server ≡ s) × (c.accepted ≡ false) × (c.is_cut ≡ false)) [
-      None ↦ λ e. absurd (gone e)
-    | Some c ↦ λ e.
-        let facts = position-Some (is_waiting s) t.conns n c first in
-        let waits : is_waiting s c ≡ true = ap (is_waiting s) (sym (get_or_from_slice_get t.conns n c c e)) ∙ facts.1 in
-        let parts = and_parts (c.server == s) (not (c.accepted || c.is_cut)) waits in
-        let neither = both_false c.accepted c.is_cut (not-true (c.accepted || c.is_cut) parts.1) in
-        (c, e, eqb-true c.server s parts.0, neither.0, neither.1)
+      | None ↦ λ e. absurd (gone e)
+      | Some c ↦ λ e.
+          let facts = position-Some (is_waiting s) t.conns n c first in
+          let waits : is_waiting s c ≡ true = ap (is_waiting s) (sym (get_or_from_slice_get t.conns n c c e)) ∙ facts.1 in
+          let parts = and_parts (c.server == s) (not (c.accepted || c.is_cut)) waits in
+          let neither = both_false c.accepted c.is_cut (not-true (c.accepted || c.is_cut) parts.1) in
+          (c, e, eqb-true c.server s parts.0, neither.0, neither.1)
     ] refl
   where
     both_false : (a b : Bool) → (a || b) ≡ false → (a ≡ false) × (b ≡ false)
     both_false true b e = absurd (true≢false e)
     both_false false b e = (refl, e)
+
     gone : slice_get t.conns n ≡ None → ⊥
     gone e =
         let within = (position-Some (is_waiting s) t.conns n (fresh_conn 0 0) first).0 in

@@ -1,5 +1,5 @@
 -- The first connection that waits, where the first so many are known not to.
-use Rattle.std.proofs.Common.{◌≡◌, ℕ, ◌+◌, ◌<◌, ◌≤◌, zero, suc, Option, Some, None, List, [], ◌∷◌, ◌++◌, length, get_or, set, take, drop, refl, ap, ◌∙◌, sym, subst, arith, inl, inr, Bool, true, false, cond, min, add-zero}
+use Rattle.std.proofs.Common.{◌≡◌, ℕ, ◌+◌, ◌<◌, zero, suc, Option, Some, None, List, [], ◌∷◌, length, get_or, take, drop, refl, ap, ◌∙◌, sym, arith, inl, inr, Bool, true, false, cond, min, add-zero}
 use Rattle.std.specs.Prelude.{slice_get, All, map, position, ◌==◌}
 use Rattle.std.specs.List.{position_from, position_or_len}
 use Rattle.std.specs.Option.{option_map}
@@ -27,14 +27,14 @@ first_behind p f (suc k) i [] none = refl
 first_behind p f (suc k) i (x ∷ xs) none =
     rw (All-head (λ y. p y ≡ false) (f x) (take k (map f xs)) none)
     (first_behind p f k (i + 1) xs (All-tail (λ y. p y ≡ false) (f x) (take k (map f xs)) none)
-     ∙ ap (λ j. position_from (λ y. p (f y)) j (drop k xs)) (omega arith))
+    ∙ ap (λ j. position_from (λ y. p (f y)) j (drop k xs)) (omega arith))
 
 first_from : {A : Type 0} → (q : A → Bool) (i j : ℕ) (xs : List A) → position_from q (i + j) xs ≡ option_map (λ n. i + n) (position_from q j xs)
 first_from q i j [] = refl
 first_from q i j (x ∷ xs) =
     elim (q x) as (λ b. cond b (Some (i + j)) (position_from q (i + j + 1) xs) ≡ option_map (λ n. i + n) (cond b (Some j) (position_from q (j + 1) xs))) [
-      true ↦ refl
-    | false ↦ ap (λ m. position_from q m xs) (omega arith) ∙ first_from q i (j + 1) xs
+      | true ↦ refl
+      | false ↦ ap (λ m. position_from q m xs) (omega arith) ∙ first_from q i (j + 1) xs
     ]
 
 -- the first that passes, where the first k do not, is the first behind those
@@ -60,10 +60,10 @@ next_first apps servers given conns unseen t s k v r kept is at seen same rest f
 pub none_waits : (server k : ℕ) (xs : List ConnTold) → position (is_waiting server) xs ≡ None → NoneWaits server (take k xs)
 none_waits server k xs none =
     All-take (λ c. is_waiting server c ≡ false) k xs (λ j d within.
-      elim (cases_lt (position_or_len (is_waiting server) xs) (length xs)) [
-        inl there ↦ absurd (found there)
+    elim (cases_lt (position_or_len (is_waiting server) xs) (length xs)) [
+      | inl there ↦ absurd (found there)
       | inr past ↦ fails_before_first (is_waiting server) xs j d (omega arith)
-      ])
+    ])
   where
     found : position_or_len (is_waiting server) xs < length xs → ⊥
     found there =
@@ -76,20 +76,22 @@ pub none_waits_now : (server n : ℕ) (xs : List ConnTold) → position (is_wait
     → (n < length xs) × NoneWaits server (take (n + 1) (changed accepted_conn n xs))
 none_waits_now server n xs first =
     elim xs as (λ ys. position (is_waiting server) ys ≡ Some n → (n < length ys) × NoneWaits server (take (n + 1) (changed accepted_conn n ys))) [
-      [] ↦ λ e. absurd (let no : ◌≡◌ {A = Option ℕ} None (Some n) = e in cc)
-    | y ∷ ys ↦ λ e. one (y ∷ ys) y e
+      | [] ↦ λ e. absurd (let no : ◌≡◌ {A = Option ℕ} None (Some n) = e in cc)
+      | y ∷ ys ↦ λ e. one (y ∷ ys) y e
     ] first
   where
     before : (ys : List ConnTold) (d : ConnTold) → ((k : ℕ) → k < n → is_waiting server (get_or ys k d) ≡ false) → (k : ℕ) → k < length (take n ys) → is_waiting server (get_or (take n ys) k d) ≡ false
     before ys d fails k within =
         let short : k < min n (length ys) = rw length-take at within in
         rw (get_or-take n ys k d (omega arith)) (fails k (omega arith))
+
     one : (ys : List ConnTold) (d : ConnTold) → position (is_waiting server) ys ≡ Some n → (n < length ys) × NoneWaits server (take (n + 1) (changed accepted_conn n ys))
     one ys d e =
         let facts = position-Some (is_waiting server) ys n d e in
-        let x = get_or ys n d in
-        (facts.0,
-         rw (changed_read accepted_conn n ys x facts.0 (get_or_default ys n d x facts.0), take_more_set ys n (accepted_conn x) facts.0)
-         (All-push (λ c. is_waiting server c ≡ false) (take n ys) (accepted_conn x)
-          (All-from_get_or (λ c. is_waiting server c ≡ false) (take n ys) d (before ys d facts.2))
-          (and_right (x.server == server) false refl)))
+        let x = get_or ys n d in (
+          facts.0,
+          rw (changed_read accepted_conn n ys x facts.0 (get_or_default ys n d x facts.0), take_more_set ys n (accepted_conn x) facts.0)
+              (All-push (λ c. is_waiting server c ≡ false) (take n ys) (accepted_conn x)
+              (All-from_get_or (λ c. is_waiting server c ≡ false) (take n ys) d (before ys d facts.2))
+              (and_right (x.server == server) false refl)),
+        )

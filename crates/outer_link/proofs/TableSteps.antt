@@ -1,5 +1,5 @@
 -- What each change of the table's parts does to what it tells, and that the parts stay as they must be.
-use Rattle.std.proofs.Common.{◌≡◌, ℕ, ◌<◌, ◌≤◌, ◌^◌, zero, suc, Some, None, List, [], ◌∷◌, ◌++◌, length, get_or, set, take, replicate, refl, ap, ◌∙◌, sym, subst, arith, add-zero, Bool, true, false, not, ◌&&◌, ◌||◌, inl, inr}
+use Rattle.std.proofs.Common.{◌≡◌, ℕ, ◌<◌, ◌≤◌, zero, suc, Some, None, List, [], ◌∷◌, ◌++◌, length, get_or, set, take, replicate, refl, ap, ◌∙◌, sym, subst, arith, add-zero, Bool, true, false, not, ◌&&◌, ◌||◌, inl, inr}
 use Rattle.std.specs.Prelude.{slice_get, All, map, nat_lt, if◌then◌else◌}
 use Rattle.std.specs.Option.{option_map_or}
 use Rattle.std.proofs.lemmas.Bool.{cases_eq, true≢false, le-ltb}
@@ -15,8 +15,8 @@ use Rattle.outer_link.specs.Told.{ConnTold, ServerTold, Told, is_waiting, cut_wh
 use Rattle.outer_link.specs.Lines.{fresh_lines, left, line_to, put_into, taken_from}
 use Rattle.outer_link.specs.declared.end.End.TheVariants.{App, Server}
 use Rattle.outer_link.specs.declared.end.End.{End}
-use Rattle.outer_link.proofs.ChangedLemmas.{changed_at, changed_read}
-use Rattle.outer_link.proofs.KeptSteps.{kept_server, kept_more, sees_map}
+use Rattle.outer_link.proofs.ChangedLemmas.{changed_at}
+use Rattle.outer_link.proofs.KeptSteps.{kept_server, sees_map}
 use Rattle.outer_link.proofs.ListSteps.{got_same, got_other, map_changed, changed_same, changed_nothing, all_at}
 use Rattle.outer_link.proofs.MarkSteps.{cut_shut, cut_part, cut_none}
 
@@ -86,7 +86,7 @@ pub kept_shut : (apps : ℕ) (servers : List ServerState) (conns : List Connecti
 kept_shut apps servers conns s v kept at =
     let w : ServerState = shut_server v (length conns) in
     let still : (n : ℕ) (c : ConnTold) → is_waiting n c ≡ false → is_waiting n (cut_where (is_of_server s) c) ≡ false =
-        λ n c e. still_cut _ c.accepted c.is_cut _ e in
+    λ n c e. still_cut _ c.accepted c.is_cut _ e in
     kept_server apps servers conns s v w (cut_where (is_of_server s)) kept at refl
     (omega arith, (all_at (CutsWithin (length conns)) servers s v at kept.cuts).1)
     (cut_shut servers conns s (length conns) v at kept.made) still
@@ -105,7 +105,7 @@ kept_part apps servers conns a s v within kept at =
     let w : ServerState = parted_server v a (length conns) in
     let cuts = all_at (CutsWithin (length conns)) servers s v at kept.cuts in
     let still : (n : ℕ) (c : ConnTold) → is_waiting n c ≡ false → is_waiting n (cut_where (is_of_pair a s) c) ≡ false =
-        λ n c e. still_cut _ c.accepted c.is_cut _ e in
+    λ n c e. still_cut _ c.accepted c.is_cut _ e in
     kept_server apps servers conns s v w (cut_where (is_of_pair a s)) kept at (length-set v.pairs a (record { parted = true; cut_before = length conns }))
     (cuts.0, All-set (λ p. p.cut_before ≤ length conns) v.pairs a (record { parted = true; cut_before = length conns }) (omega arith) cuts.1)
     (cut_part servers conns a s (length conns) v at within kept.made) still
@@ -116,14 +116,18 @@ pub told_part : (servers : List ServerState) (conns : List Connection) (a s : �
 told_part servers conns a s v within at made =
     same_told (cut_part servers conns a s (length conns) v at within made)
     (map_changed reach_of (with_parted a true) s servers v (parted_server v a (length conns)) at
-     (ap (λ ps. let x : ServerTold = record { listens = v.listens; parted = ps } in x) (map-set (λ p. p.parted) v.pairs a (record { parted = true; cut_before = length conns }))))
+    (ap (λ ps. let x : ServerTold = record { listens = v.listens; parted = ps } in x) (map-set (λ p. p.parted) v.pairs a (record { parted = true; cut_before = length conns }))))
 
 pub parted_apart : (servers : List ServerState) (conns : List Connection) (a s made : ℕ) (v : ServerState) → a < length v.pairs → slice_get servers s ≡ Some v
     → is_parted (told_of (set servers s (parted_server v a made)) conns) a s ≡ true
 parted_apart servers conns a s made v within at =
     let p : Pair = record { parted = true; cut_before = made } in
-    rw (slice_get-map reach_of (set servers s (parted_server v a made)) s, got_same servers s (parted_server v a made) (slice_get_within servers s v at),
-      slice_get-map (λ (x : Pair). x.parted) (set v.pairs a p) a, got_same v.pairs a p within) refl
+    rw (
+      slice_get-map reach_of (set servers s (parted_server v a made)) s,
+      got_same servers s (parted_server v a made) (slice_get_within servers s v at),
+      slice_get-map (λ (x : Pair). x.parted) (set v.pairs a p) a,
+      got_same v.pairs a p within,
+    ) refl
 
 -- the pair is joined
 joined_cut : (v : ServerState) (a app made : ℕ) → a < length v.pairs → has_cut (joined_server v a) app made ≡ has_cut v app made
@@ -132,8 +136,8 @@ joined_cut v a app made within =
     let at : slice_get v.pairs a ≡ Some d = slice_get-get_or v.pairs a fresh_pair within in
     rw (changed_at joined_pair a v.pairs d at)
     (elim (cases_eq app a) [
-      inl here ↦ rw (here, got_same v.pairs a (joined_pair d) within, at) refl
-    | inr apart ↦ rw (got_other v.pairs a app (joined_pair d) apart) refl
+      | inl here ↦ rw (here, got_same v.pairs a (joined_pair d) within, at) refl
+      | inr apart ↦ rw (got_other v.pairs a app (joined_pair d) apart) refl
     ])
 
 pub kept_join : (apps : ℕ) (servers : List ServerState) (conns : List Connection) (a s : ℕ) (v : ServerState) → a < length v.pairs
@@ -154,8 +158,8 @@ told_join servers conns a s v within at =
     let there : slice_get v.pairs a ≡ Some d = slice_get-get_or v.pairs a fresh_pair within in
     same_told (cut_none servers conns s v (joined_server v a) at (λ app made. joined_cut v a app made within))
     (map_changed reach_of (with_parted a false) s servers v (joined_server v a) at
-     (ap (λ ps. let x : ServerTold = record { listens = v.listens; parted = ps } in x)
-      (ap (map (λ p. p.parted)) (changed_at joined_pair a v.pairs d there) ∙ map-set (λ p. p.parted) v.pairs a (joined_pair d))))
+    (ap (λ ps. let x : ServerTold = record { listens = v.listens; parted = ps } in x)
+    (ap (map (λ p. p.parted)) (changed_at joined_pair a v.pairs d there) ∙ map-set (λ p. p.parted) v.pairs a (joined_pair d))))
 
 -- the data server has seen so many connections
 pub kept_see : (apps : ℕ) (servers : List ServerState) (conns : List Connection) (s k : ℕ) (v : ServerState)
@@ -169,7 +173,7 @@ pub told_see : (servers : List ServerState) (conns : List Connection) (s k : ℕ
 told_see servers conns s k v at =
     same_told (cut_none servers conns s v (record v { seen = k }) at (λ _ _. refl))
     (map_changed reach_of (λ r. r) s servers v (record v { seen = k }) at refl
-     ∙ changed_same (λ r. r) s (map reach_of servers) (reach_of v) (rw (slice_get-map reach_of servers s, at) refl) refl)
+    ∙ changed_same (λ r. r) s (map reach_of servers) (reach_of v) (rw (slice_get-map reach_of servers s, at) refl) refl)
 
 -- a new table
 all_fresh : (n : ℕ) (s : ServerState) → map reach_of (replicate n s) ≡ replicate n (reach_of s)
@@ -186,24 +190,25 @@ kept_fresh apps servers = record {
   made = All-nil (λ c. c.made < 0);
   cuts = All-replicate (CutsWithin 0) servers (fresh_server apps) (omega arith, All-replicate (λ p. p.cut_before ≤ 0) apps fresh_pair (omega arith));
   seen = λ n s there.
-    let none : s.seen ≡ 0 = all_at (λ x. x.seen ≡ 0) (replicate servers (fresh_server apps)) n s there (All-replicate (λ x. x.seen ≡ 0) servers (fresh_server apps) refl) in
-    (omega arith, rw none (All-nil (λ c. is_waiting n c ≡ false)));
+      let none : s.seen ≡ 0 = all_at (λ x. x.seen ≡ 0) (replicate servers (fresh_server apps)) n s there (All-replicate (λ x. x.seen ≡ 0) servers (fresh_server apps) refl) in
+      (omega arith, rw none (All-nil (λ c. is_waiting n c ≡ false)));
 }
 
 -- a new connection, behind all others, is not cut
 unmarked : (servers : List ServerState) (c : Connection) (made : ℕ) → All (CutsWithin made) servers → c.made ≡ made → is_marked servers c ≡ false
 unmarked servers c made cuts is =
     elim (slice_get servers c.server) as (λ o. slice_get servers c.server ≡ o → option_map_or (λ s. has_cut s c.app c.made) o false ≡ false) [
-      None ↦ λ _. refl
-    | Some v ↦ λ at. no_cut v (all_at (CutsWithin made) servers c.server v at cuts)
+      | None ↦ λ _. refl
+      | Some v ↦ λ at. no_cut v (all_at (CutsWithin made) servers c.server v at cuts)
     ] refl
   where
     no_pair : (v : ServerState) → All (λ p. p.cut_before ≤ made) v.pairs → option_map_or (λ p. nat_lt c.made p.cut_before) (slice_get v.pairs c.app) false ≡ false
     no_pair v all =
         elim (slice_get v.pairs c.app) as (λ o. slice_get v.pairs c.app ≡ o → option_map_or (λ p. nat_lt c.made p.cut_before) o false ≡ false) [
-          None ↦ λ _. refl
-        | Some p ↦ λ at. let low : p.cut_before ≤ made = all_at (λ x. x.cut_before ≤ made) v.pairs c.app p at all in le-ltb c.made p.cut_before (omega arith)
+          | None ↦ λ _. refl
+          | Some p ↦ λ at. let low : p.cut_before ≤ made = all_at (λ x. x.cut_before ≤ made) v.pairs c.app p at all in le-ltb c.made p.cut_before (omega arith)
         ] refl
+
     no_cut : (v : ServerState) → CutsWithin made v → has_cut v c.app c.made ≡ false
     no_cut v within =
         let low : v.cut_before ≤ made = within.0 in
@@ -262,6 +267,7 @@ put_none t n end = same_told (changed_nothing (conn_with end []) n t.conns (λ c
     on_open : (c : ConnTold) (e : End) → (let x : ConnTold = record c { lines = put_into c.lines e [] } in x) ≡ c
     on_open c App = rw append-nil refl
     on_open c Server = rw append-nil refl
+
     nothing : (c : ConnTold) (e : End) → conn_with e [] c ≡ c
     nothing c e =
         elim c.is_cut as (λ b. (if b then c else record c { lines = put_into c.lines e [] }) ≡ c) [ true ↦ refl | false ↦ on_open c e ]

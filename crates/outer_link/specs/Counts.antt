@@ -15,6 +15,10 @@ pub record NoneFell (old now : Counts) : Type 0 where
   pub idle_takes : old.idle_takes ≤ now.idle_takes
   pub idle_puts : old.idle_puts ≤ now.idle_puts
 
+-- of a net that was just made
+abbrev pub no_counts : Counts
+no_counts = record { faults = 0; failed = 0; idle_takes = 0; idle_puts = 0 }
+
 abbrev pub with_fault : Counts → Counts
 with_fault c = record c { faults = one_more c.faults }
 

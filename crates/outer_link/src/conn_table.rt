@@ -45,6 +45,25 @@ impl ConnTable {
         })
     }
 
+    pub fn apps(&self) -> u8
+        ensures { result ≡ self.now.apps }
+    {
+        self.apps
+    }
+
+    pub fn servers(&self) -> usize
+        ensures { result ≡ length self.now.told.servers }
+    {
+        self.servers.len()
+    }
+
+    /// How many connections were made.
+    pub fn made(&self) -> usize
+        ensures { result ≡ length self.now.told.conns }
+    {
+        self.conns.len()
+    }
+
     pub fn listen(&mut self, server: u8)
         requires { server < length self.old.told.servers }
         ensures { self.new ≡ record self.old { told = after_listen self.old.told server } }
@@ -259,7 +278,5 @@ fn waits(servers: &[DataServer], conn: &Connection, server: u8) -> bool
 fn first_waiting(servers: &[DataServer], conns: &[Connection], server: u8) -> Option<usize>
     ensures { result ≡ position (λ conn. is_waiting server (conn_told servers.now conn)) conns.now }
 {
-    conns
-        .iter()
-        .position(|conn| waits(servers, conn, server))
+    conns.iter().position(|conn| waits(servers, conn, server))
 }

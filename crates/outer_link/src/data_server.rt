@@ -29,10 +29,10 @@ impl Model for DataServer {
     ghost Value = { ServerState };
 
     ghost view = { λ s. record {
-        listens = s.listens;
-        cut_before = s.cut_before;
-        seen = s.seen;
-        pairs = s.pairs.items;
+      listens = s.listens;
+      cut_before = s.cut_before;
+      seen = s.seen;
+      pairs = s.pairs.items;
     } };
 }
 

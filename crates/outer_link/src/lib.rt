@@ -17,6 +17,8 @@ mod net;
 mod net_counts;
 mod net_maker;
 mod node_name;
+#[cfg(test)]
+mod tests;
 
 pub use end::End;
 pub use mem_net::MemNet;

@@ -1,7 +1,7 @@
-ghost use Rattle.std.specs.Prelude.{◌≡◌, IfOk, if◌then◌else◌};
+ghost use Rattle.std.specs.Prelude.{◌≡◌, IfOk, if◌then◌else◌, length};
 ghost use Rattle.outer_io.specs.Plan.{is_due};
 ghost use Rattle.outer_io.specs.Told.{fresh_plan};
-ghost use Rattle.outer_link.specs.Counts.{NoneFell, with_fault};
+ghost use Rattle.outer_link.specs.Counts.{NoneFell, no_counts, with_fault};
 ghost use Rattle.outer_link.specs.NetState.{called};
 ghost use Rattle.outer_link.specs.TableState.{fresh_told};
 
@@ -29,10 +29,10 @@ impl Model for MemNet {
     ghost Value = { NetState };
 
     ghost view = { λ n. record {
-        apps = n.table.apps;
-        told = n.table.told;
-        counts = n.counts;
-        plan = n.plan;
+      apps = n.table.apps;
+      told = n.table.told;
+      counts = n.counts;
+      plan = n.plan;
     } };
 }
 
@@ -42,6 +42,7 @@ impl MemNet {
     pub fn new(alloc: Global, apps: u8, servers: u8, fail: Vec<u64>) -> Result<MemNet, AllocError>
         ensures apps { IfOk result (λ n. n.apps ≡ apps) }
         ensures told { IfOk result (λ n. n.told ≡ fresh_told apps servers) }
+        ensures counts { IfOk result (λ n. n.counts ≡ no_counts) }
         ensures plan { IfOk result (λ n. n.plan ≡ fresh_plan fail.items) }
     {
         Ok(MemNet {
@@ -49,6 +50,27 @@ impl MemNet {
             counts: NetCounts::new(),
             plan: FaultPlan::new(fail),
         })
+    }
+
+    /// How many application servers it joins.
+    pub fn apps(&self) -> u8
+        ensures { result ≡ self.now.apps }
+    {
+        self.table.apps()
+    }
+
+    /// How many data servers it joins.
+    pub fn servers(&self) -> usize
+        ensures { result ≡ length self.now.told.servers }
+    {
+        self.table.servers()
+    }
+
+    /// How many connections were made. Their numbers are those below.
+    pub fn made(&self) -> usize
+        ensures { result ≡ length self.now.told.conns }
+    {
+        self.table.made()
     }
 
     /// Counts a call that is no connect, and answers whether it is to fail.
@@ -260,7 +282,11 @@ impl Net for MemNet {
         self.table.cut(conn);
     }
 
-    fn wait(&mut self) {}
+    fn wait(&mut self)
+        ensures next { self.new ≡ self.old }
+        ensures counts { NoneFell self.old.counts self.new.counts }
+        ensures marks { Keeps (marks_of self.old.told) (marks_of self.new.told) }
+    {}
 
     fn failed(&self) -> u64 {
         self.counts.failed()

@@ -1,5 +1,5 @@
 ghost use Rattle.std.specs.Prelude.{◌≡◌};
-ghost use Rattle.outer_link.specs.Counts.{NoneFell, with_fault, with_failed, with_idle_take, with_idle_put};
+ghost use Rattle.outer_link.specs.Counts.{NoneFell, no_counts, with_fault, with_failed, with_idle_take, with_idle_put};
 
 use std::marker::Model;
 
@@ -18,16 +18,16 @@ impl Model for NetCounts {
     ghost Value = { Counts };
 
     ghost view = { λ c. record {
-        faults = c.faults;
-        failed = c.failed;
-        idle_takes = c.idle_takes;
-        idle_puts = c.idle_puts;
+      faults = c.faults;
+      failed = c.failed;
+      idle_takes = c.idle_takes;
+      idle_puts = c.idle_puts;
     } };
 }
 
 impl NetCounts {
     pub fn new() -> NetCounts
-        ensures { result ≡ record { faults = 0; failed = 0; idle_takes = 0; idle_puts = 0 } }
+        ensures { result ≡ no_counts }
     {
         NetCounts {
             faults: 0,

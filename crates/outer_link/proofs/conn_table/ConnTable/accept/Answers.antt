@@ -1,4 +1,4 @@
-use Rattle.std.proofs.Common.{◌≡◌, ◌+◌, ◌≤◌, length, map, arith, sym, subst}
+use Rattle.std.proofs.Common.{◌+◌, arith, sym, subst}
 use Rattle.std.specs.Prelude.{take}
 use Rattle.outer_link.specs.TableState.{TableState, NoneWaits}
 use Rattle.outer_link.specs.Told.{accepted_conn}

@@ -17,4 +17,4 @@ returns-clause-ok c =
     let made : c.len-made.result ≡ length t.conns.items = search rules in
     rw (← c.self.view_is, c.in_ok-push.ensures.items)
     (ap (λ x. let y : TableState = record { apps = t.apps; told = x } in y)
-     (told_connect t.apps t.servers.items t.conns.items c.args.app c.args.server _ c.self.invariant refl refl made refl refl c.new.ensures))
+    (told_connect t.apps t.servers.items t.conns.items c.args.app c.args.server _ c.self.invariant refl refl made refl refl c.new.ensures))

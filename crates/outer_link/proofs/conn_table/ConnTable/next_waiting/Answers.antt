@@ -11,12 +11,12 @@ returns-in-None-clause-next c =
     let is = ap (λ (x : TableState). x.told) c.self.view_is in
     let same = c.as_slice-servers.ensures.value in
     let read : c.index-servers-server.result ≡ get_or t.servers.items c.args.server c.index-servers-server.result =
-      subst (λ xs. c.index-servers-server.result ≡ get_or xs c.args.server c.index-servers-server.result) same c.index-servers-server.is in
+    subst (λ xs. c.index-servers-server.result ≡ get_or xs c.args.server c.index-servers-server.result) same c.index-servers-server.is in
     let at = server_at t.servers.items t.conns.items c.args.self.now.told c.args.server c.index-servers-server.result is c.requires read in
     let rest : take (length c.deref.result.now - c.seen-seen.result) (drop c.seen-seen.result c.deref.result.now) ≡ drop c.seen-seen.result t.conns.items =
-      take_rest c.deref.result.now c.seen-seen.result ∙ ap (drop c.seen-seen.result) c.deref.ensures.value in
+    take_rest c.deref.result.now c.seen-seen.result ∙ ap (drop c.seen-seen.result) c.deref.ensures.value in
     next_first t.apps t.servers.items c.as_slice-servers.result.now t.conns.items _ c.args.self.now.told c.args.server c.seen-seen.result
-      c.index-servers-server.result None c.self.invariant is at c.seen-seen.ensures same rest c.in-None.ensures
+    c.index-servers-server.result None c.self.invariant is at c.seen-seen.ensures same rest c.in-None.ensures
 
 pub returns-in-Some-clause-next : goal.returns-in-Some-clause-next
 returns-in-Some-clause-next c =
@@ -24,9 +24,9 @@ returns-in-Some-clause-next c =
     let is = ap (λ (x : TableState). x.told) c.self.view_is in
     let same = c.as_slice-servers.ensures.value in
     let read : c.index-servers-server.result ≡ get_or t.servers.items c.args.server c.index-servers-server.result =
-      subst (λ xs. c.index-servers-server.result ≡ get_or xs c.args.server c.index-servers-server.result) same c.index-servers-server.is in
+    subst (λ xs. c.index-servers-server.result ≡ get_or xs c.args.server c.index-servers-server.result) same c.index-servers-server.is in
     let at = server_at t.servers.items t.conns.items c.args.self.now.told c.args.server c.index-servers-server.result is c.requires read in
     let rest : take (length c.deref.result.now - c.seen-seen.result) (drop c.seen-seen.result c.deref.result.now) ≡ drop c.seen-seen.result t.conns.items =
-      take_rest c.deref.result.now c.seen-seen.result ∙ ap (drop c.seen-seen.result) c.deref.ensures.value in
+    take_rest c.deref.result.now c.seen-seen.result ∙ ap (drop c.seen-seen.result) c.deref.ensures.value in
     next_first t.apps t.servers.items c.as_slice-servers.result.now t.conns.items _ c.args.self.now.told c.args.server c.seen-seen.result
-      c.index-servers-server.result (Some c.in-Some.place) c.self.invariant is at c.seen-seen.ensures same rest c.in-Some.ensures
+    c.index-servers-server.result (Some c.in-Some.place) c.self.invariant is at c.seen-seen.ensures same rest c.in-Some.ensures

@@ -1,6 +1,6 @@
-use Rattle.std.proofs.Common.{◌≡◌, ◌∙◌, ap, refl, false, sym, subst}
+use Rattle.std.proofs.Common.{◌≡◌, ◌∙◌, ap, refl, false, sym}
 use Rattle.std.proofs.lemmas.Result.{on_ok_weaker}
-use Rattle.outer_link.specs.Lines.{LinesTold, put_into}
+use Rattle.outer_link.specs.Lines.{put_into}
 use Rattle.outer_link.specs.TableState.{TableState, told_of}
 use Rattle.outer_link.specs.Told.{is_cut_at}
 use Rattle.outer_link.proofs.KeptSteps.{kept_conn}
@@ -17,7 +17,7 @@ pub invariant_of-self : goal.invariant_of-self
 invariant_of-self c =
     let t = c.self.inside in
     let at = conn_at t.servers.items t.conns.items c.args.self.now.told c.args.conn c.index_mut-conn.result.now
-      (ap (λ (x : TableState). x.told) c.self.view_is) c.requires c.index_mut-conn.ensures.value in
+    (ap (λ (x : TableState). x.told) c.self.view_is) c.requires c.index_mut-conn.ensures.value in
     kept_conn t.apps t.servers.items t.conns.items c.args.conn c.index_mut-conn.result.now (record c.index_mut-conn.result.now { lines = c.put.new.self })
     c.self.invariant at refl (λ n e. e)
 
@@ -25,12 +25,12 @@ pub returns-clause-ok : goal.returns-clause-ok
 returns-clause-ok c =
     let t = c.self.inside in
     let at = conn_at t.servers.items t.conns.items c.args.self.now.told c.args.conn c.index_mut-conn.result.now
-      (ap (λ (x : TableState). x.told) c.self.view_is) c.requires c.index_mut-conn.ensures.value in
+    (ap (λ (x : TableState). x.told) c.self.view_is) c.requires c.index_mut-conn.ensures.value in
     let open' : is_cut_at (told_of t.servers.items t.conns.items) c.args.conn ≡ false =
-      ap (λ (x : TableState). is_cut_at x.told c.args.conn) c.self.view_is ∙ sym c.is_cut_at.ensures ∙ c.if-is_cut_at.false in
+    ap (λ (x : TableState). is_cut_at x.told c.args.conn) c.self.view_is ∙ sym c.is_cut_at.ensures ∙ c.if-is_cut_at.false in
     on_ok_weaker c.put.result
     (λ (e : c.put.new.self ≡ put_into c.index_mut-conn.result.now.lines c.args.end c.args.part.now).
-      rw (← c.self.view_is, e)
-      (ap (λ x. let y : TableState = record { apps = t.apps; told = x } in y)
-       (told_put t.servers.items t.conns.items c.args.conn c.index_mut-conn.result.now c.args.end c.args.part.now at open')))
+    rw (← c.self.view_is, e)
+    (ap (λ x. let y : TableState = record { apps = t.apps; told = x } in y)
+    (told_put t.servers.items t.conns.items c.args.conn c.index_mut-conn.result.now c.args.end c.args.part.now at open')))
     c.put.ensures.ok

@@ -2,7 +2,6 @@ use Rattle.std.proofs.Common.{◌≡◌, ◌∙◌, ap, false, subst, sym}
 use Rattle.std.specs.Prelude.{position}
 use Rattle.outer_link.specs.Marks.{IsAccepted, Keeps, marks_of}
 use Rattle.outer_link.specs.NetState.{NetState}
-use Rattle.outer_link.specs.TableState.{TableState}
 use Rattle.outer_link.specs.Told.{Told, after_accept, is_cut_at, is_waiting}
 use Rattle.outer_link.proofs.MarksSteps.{accepted_uncut, is_accepted, keeps_accept}
 use Rattle.outer_link.proofs.mem_net.MemNetNet.accept.Goals as goal

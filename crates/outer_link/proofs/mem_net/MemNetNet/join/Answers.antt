@@ -20,5 +20,5 @@ returns-clause-shape c =
     let at = ap (λ (x : NetState). x.told) c.self.view_is in
     let apps = ap (λ (t : TableState). t.apps) c.join.ensures ∙ ap (λ (x : NetState). x.apps) c.self.view_is in
     let servers = ap (λ (t : TableState). length t.told.servers) c.join.ensures ∙ ap (λ t. length (after_join t c.args.app c.args.server).servers) at
-      ∙ length_changed (with_parted c.args.app false) c.args.server now.told.servers in
+    ∙ length_changed (with_parted c.args.app false) c.args.server now.told.servers in
     rw (apps, servers) refl

@@ -20,5 +20,5 @@ returns-clause-shape c =
     let at = ap (λ (x : NetState). x.told) c.self.view_is ∙ ap (λ (x : NetState). x.told) c.if-fails.ensures.next in
     let apps = ap (λ (t : TableState). t.apps) c.listen.ensures ∙ ap (λ (x : NetState). x.apps) c.self.view_is ∙ ap (λ (x : NetState). x.apps) c.if-fails.ensures.next in
     let servers = ap (λ (t : TableState). length t.told.servers) c.listen.ensures ∙ ap (λ t. length (after_listen t c.args.server).servers) at
-      ∙ length_changed (with_listening true) c.args.server now.told.servers in
+    ∙ length_changed (with_listening true) c.args.server now.told.servers in
     rw (apps, servers) refl

@@ -1,4 +1,4 @@
-use Rattle.std.proofs.Common.{◌≡◌, ◌∙◌, ap, subst, sym}
+use Rattle.std.proofs.Common.{◌∙◌, ap, subst, sym}
 use Rattle.outer_link.specs.Marks.{Keeps, marks_of}
 use Rattle.outer_link.specs.NetState.{NetState}
 use Rattle.outer_link.specs.TableState.{TableState}
