@@ -1,7 +1,7 @@
 pub mod ChangedLemmas
 pub mod ListSteps
-pub mod MarkSteps
+pub mod CutSteps
 pub mod KeptSteps
 pub mod TableSteps
 pub mod PositionSteps
-pub mod MarksSteps
+pub mod KnownSteps

@@ -3,14 +3,14 @@ use Rattle.std.proofs.Common.{◌≡◌, ℕ, ◌<◌, ◌≤◌, zero, suc, Som
 use Rattle.std.specs.Prelude.{slice_get, All, map, nat_lt, if◌then◌else◌}
 use Rattle.std.specs.Option.{option_map_or}
 use Rattle.std.proofs.lemmas.Bool.{cases_eq, true≢false, le-ltb}
-use Rattle.std.proofs.lemmas.List.{length-map, length-set, length-replicate, append-nil, map-append, map-id, map-set}
-use Rattle.std.proofs.lemmas.List.Elements.{All-nil, All-replicate, All-set}
+use Rattle.std.proofs.lemmas.List.{length-map, length-set, append-nil, map-append, map-id, map-set}
+use Rattle.std.proofs.lemmas.List.Elements.{All-set}
 use Rattle.std.proofs.lemmas.Option.{slice_get_read, slice_get_within, slice_get-get_or, slice_get-map}
 use Rattle.outer_link.specs.Changed.{changed}
 use Rattle.outer_link.specs.declared.connection.Connection.{Connection}
 use Rattle.outer_link.specs.declared.data_server.Pair.{Pair}
 use Rattle.outer_link.specs.ServerState.{ServerState, fresh_pair, fresh_server, reach_of, has_cut, joined_pair, shut_server, parted_server, joined_server}
-use Rattle.outer_link.specs.TableState.{IsKept, CutsWithin, SeesNone, NoneWaits, conn_told, told_of, fresh_told, is_marked}
+use Rattle.outer_link.specs.TableState.{IsKept, CutsWithin, SeesNone, NoneWaits, conn_told, told_of, fresh_told, is_cut_together}
 use Rattle.outer_link.specs.Told.{ConnTold, ServerTold, Told, is_waiting, cut_where, is_of_server, is_of_pair, with_listening, with_parted, fresh_conn, conn_with, conn_without, coming, undelivered, is_cut_at, is_parted, after_take, after_listen, after_shut, after_part, after_join, after_connect, after_put}
 use Rattle.outer_link.specs.Lines.{fresh_lines, left, line_to, put_into, taken_from}
 use Rattle.outer_link.specs.declared.end.End.TheVariants.{App, Server}
@@ -18,7 +18,7 @@ use Rattle.outer_link.specs.declared.end.End.{End}
 use Rattle.outer_link.proofs.ChangedLemmas.{changed_at}
 use Rattle.outer_link.proofs.KeptSteps.{kept_server, sees_map}
 use Rattle.outer_link.proofs.ListSteps.{got_same, got_other, map_changed, changed_same, changed_nothing, all_at}
-use Rattle.outer_link.proofs.MarkSteps.{cut_shut, cut_part, cut_none}
+use Rattle.outer_link.proofs.CutSteps.{cut_shut, cut_part, cut_none}
 
 -- a data server that is told of is there
 pub server_within : (servers : List ServerState) (conns : List Connection) (t : Told) (s : ℕ) → told_of servers conns ≡ t → s < length t.servers → s < length servers
@@ -183,19 +183,8 @@ all_fresh (suc n) s = ap (λ xs. reach_of s ∷ xs) (all_fresh n s)
 pub told_fresh : (apps servers : ℕ) → told_of (replicate servers (fresh_server apps)) [] ≡ fresh_told apps servers
 told_fresh apps servers = same_told refl (all_fresh servers (fresh_server apps))
 
-pub kept_fresh : (apps servers : ℕ) → IsKept apps (replicate servers (fresh_server apps)) []
-kept_fresh apps servers = record {
-  pairs = All-replicate (λ s. length s.pairs ≡ apps) servers (fresh_server apps) (length-replicate apps fresh_pair);
-  numbers = omega arith;
-  made = All-nil (λ c. c.made < 0);
-  cuts = All-replicate (CutsWithin 0) servers (fresh_server apps) (omega arith, All-replicate (λ p. p.cut_before ≤ 0) apps fresh_pair (omega arith));
-  seen = λ n s there.
-      let none : s.seen ≡ 0 = all_at (λ x. x.seen ≡ 0) (replicate servers (fresh_server apps)) n s there (All-replicate (λ x. x.seen ≡ 0) servers (fresh_server apps) refl) in
-      (omega arith, rw none (All-nil (λ c. is_waiting n c ≡ false)));
-}
-
 -- a new connection, behind all others, is not cut
-unmarked : (servers : List ServerState) (c : Connection) (made : ℕ) → All (CutsWithin made) servers → c.made ≡ made → is_marked servers c ≡ false
+unmarked : (servers : List ServerState) (c : Connection) (made : ℕ) → All (CutsWithin made) servers → c.made ≡ made → is_cut_together servers c ≡ false
 unmarked servers c made cuts is =
     elim (slice_get servers c.server) as (λ o. slice_get servers c.server ≡ o → option_map_or (λ s. has_cut s c.app c.made) o false ≡ false) [
       | None ↦ λ _. refl

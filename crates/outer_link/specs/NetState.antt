@@ -1,7 +1,7 @@
 -- What the net in memory is.
 use Rattle.std.specs.Prelude.{ℕ, Bool, false, ◌||◌, not, length}
 use Rattle.outer_io.specs.Plan.{Plan, is_due, after_call}
-use Rattle.outer_link.specs.Counts.{Counts}
+use Rattle.outer_link.specs.Counts.{Counts, with_fault}
 use Rattle.outer_link.specs.Net.{Shape}
 use Rattle.outer_link.specs.Told.{Told, is_open}
 
@@ -15,6 +15,10 @@ pub record NetState : Type 0 where
 -- a call that may fail was made, and the net told and counted this
 abbrev pub called : NetState → Told → Counts → NetState
 called n told counts = record n { told = told; counts = counts; plan = after_call n.plan }
+
+-- a call that was no connect failed, and did nothing else
+abbrev pub faulted : NetState → NetState
+faulted n = called n n.told (with_fault n.counts)
 
 -- the next call, a connect of this pair, fails
 abbrev pub is_refused : NetState → ℕ → ℕ → Bool

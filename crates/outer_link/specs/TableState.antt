@@ -14,15 +14,15 @@ pub record TableState : Type 0 where
   pub told : Told
 
 -- the connection was cut with its pair or its data server
-abbrev pub is_marked : List ServerState → Connection → Bool
-is_marked servers c = option_map_or (λ s. has_cut s c.app c.made) (slice_get servers c.server) false
+abbrev pub is_cut_together : List ServerState → Connection → Bool
+is_cut_together servers c = option_map_or (λ s. has_cut s c.app c.made) (slice_get servers c.server) false
 
 -- what is told of a connection
 abbrev pub conn_told : List ServerState → Connection → ConnTold
 conn_told servers c = record {
   app = c.app;
   server = c.server;
-  is_cut = c.is_cut || is_marked servers c;
+  is_cut = c.is_cut || is_cut_together servers c;
   accepted = c.is_accepted;
   lines = c.lines;
 }

@@ -115,7 +115,8 @@ impl ConnTable {
     /// Makes a connection, and answers its number. Where no number is left it answers as where memory is wanting.
     pub fn connect(&mut self, app: u8, server: u8) -> Result<u32, AllocError>
         ensures number { IfOk result (λ n. n ≡ length self.old.told.conns) }
-        ensures ok { OnOk result (self.new ≡ record self.old { told = after_connect self.old.told app server }) }
+        ensures ok { OnOk result (self.new
+            ≡ record self.old { told = after_connect self.old.told app server }) }
         ensures err { OnErr result (self.new ≡ self.old) }
     {
         let made = self.conns.len();
@@ -144,7 +145,8 @@ impl ConnTable {
     /// Puts the bytes at this end. On a connection that is cut they are lost.
     pub fn put(&mut self, conn: u32, end: End, part: &[u8]) -> Result<(), AllocError>
         requires { conn < length self.old.told.conns }
-        ensures ok { OnOk result (self.new ≡ record self.old { told = after_put self.old.told conn end part.now }) }
+        ensures ok { OnOk result (self.new
+            ≡ record self.old { told = after_put self.old.told conn end part.now }) }
         ensures err { OnErr result (self.new ≡ self.old) }
     {
         if self.is_cut_at(conn) {
@@ -175,9 +177,11 @@ impl ConnTable {
     fn take_open(&mut self, conn: u32, end: End, buf: &mut [u8]) -> usize
         requires known { conn < length self.old.told.conns }
         requires uncut { is_cut_at self.old.told conn ≡ false }
-        ensures count { result ≡ min (length (undelivered self.old.told conn end)) (length buf.old) }
+        ensures count { result
+            ≡ min (length (undelivered self.old.told conn end)) (length buf.old) }
         ensures bytes { take result buf.new ≡ take result (undelivered self.old.told conn end) }
-        ensures next { self.new ≡ record self.old { told = after_take self.old.told conn end result } }
+        ensures next { self.new
+            ≡ record self.old { told = after_take self.old.told conn end result } }
     {
         let conn = &mut self.conns[conn as usize];
         conn.lines.take(end, buf)

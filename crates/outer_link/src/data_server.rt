@@ -59,7 +59,7 @@ impl DataServer {
         self.listens = true;
     }
 
-    /// Cuts all of its connections, of which `made` and others had been made, and listens no more.
+    /// Cuts all of its connections, `made` being how many were made in all, and listens no more.
     pub fn shut(&mut self, made: usize)
         ensures { self.new ≡ shut_server self.old made }
     {
@@ -67,7 +67,7 @@ impl DataServer {
         self.cut_before = made;
     }
 
-    /// Cuts all connections of the pair, of which `made` and others had been made, and keeps it apart.
+    /// Cuts all connections of the pair, `made` being how many were made in all, and keeps it apart.
     pub fn part(&mut self, app: u8, made: usize)
         requires { app < length self.old.pairs }
         ensures { self.new ≡ parted_server self.old app made }

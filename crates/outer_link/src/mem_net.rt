@@ -94,7 +94,7 @@ impl Net for MemNet {
     ghost use Rattle.outer_link.specs.Counts.{NoneFell, with_fault, with_failed, with_idle_put, with_idle_take};
     ghost use Rattle.outer_link.specs.Marks.{Keeps, Marked, IsAccepted, IsConnected, marks_of, of_pair, of_server, or_cut, parted_with};
     ghost use Rattle.outer_link.specs.Net.{PutAs, PutSome, TookAs, TookWithin};
-    ghost use Rattle.outer_link.specs.NetState.{called, is_refused, shape_of};
+    ghost use Rattle.outer_link.specs.NetState.{called, faulted, is_refused, shape_of};
     ghost use Rattle.outer_link.specs.TableState.{answer_to_take};
     ghost use Rattle.outer_link.specs.Told.{after_listen, after_shut, after_part, after_join, after_connect, after_accept, after_put, after_cut, is_cut_at, is_parted, is_waiting, undelivered};
 
@@ -111,10 +111,10 @@ impl Net for MemNet {
     fn listen(&mut self, server: u8) -> Result<(), Stop>
         requires { server < length self.old.told.servers }
         ensures due { IsErr result ↔ IsTrue (is_due self.old.plan) }
-        ensures ok { OnOk result (self.new ≡ called self.old (after_listen self.old.told server)
-            self.old.counts) }
+        ensures ok { OnOk result (self.new
+            ≡ called self.old (after_listen self.old.told server) self.old.counts) }
         ensures failed { IfErr result (λ stop. stop ≡ Stop.Failed) }
-        ensures err { OnErr result (self.new ≡ called self.old self.old.told (with_fault self.old.counts)) }
+        ensures err { OnErr result (self.new ≡ faulted self.old) }
         ensures counts { NoneFell self.old.counts self.new.counts }
         ensures marks { Keeps (marks_of self.old.told) (marks_of self.new.told) }
         ensures shape { shape_of self.new ≡ shape_of self.old }
@@ -142,8 +142,9 @@ impl Net for MemNet {
         requires server { server < length self.old.told.servers }
         ensures next { self.new ≡ record self.old { told = after_part self.old.told app server } }
         ensures counts { NoneFell self.old.counts self.new.counts }
-        ensures marks { let old = marks_of self.old.told in Marked old
-            (or_cut old (of_pair old app server)) (parted_with old app server true) (marks_of self.new.told) }
+        ensures marks { let old = marks_of self.old.told in
+            Marked old (or_cut old (of_pair old app server)) (parted_with old app server true)
+            (marks_of self.new.told) }
         ensures shape { shape_of self.new ≡ shape_of self.old }
     {
         self.table.part(app, server);
@@ -166,8 +167,8 @@ impl Net for MemNet {
         requires server { server < length self.old.told.servers }
         ensures refused { (result ≡ Err Stop.Failed) ↔ IsTrue (is_refused self.old app server) }
         ensures number { IfOk result (λ n. n ≡ length self.old.told.conns) }
-        ensures ok { OnOk result (self.new ≡ called self.old (after_connect self.old.told app server)
-            self.old.counts) }
+        ensures ok { OnOk result (self.new
+            ≡ called self.old (after_connect self.old.told app server) self.old.counts) }
         ensures failed { result ≡ Err Stop.Failed
             → self.new ≡ called self.old self.old.told (with_failed self.old.counts) }
         ensures memory { result ≡ Err Stop.Memory
@@ -198,7 +199,7 @@ impl Net for MemNet {
         ensures none { result ≡ Ok None → (position (is_waiting server) self.old.told.conns ≡ None)
             × (self.new ≡ called self.old self.old.told (with_idle_put self.old.counts)) }
         ensures failed { IfErr result (λ stop. stop ≡ Stop.Failed) }
-        ensures err { OnErr result (self.new ≡ called self.old self.old.told (with_fault self.old.counts)) }
+        ensures err { OnErr result (self.new ≡ faulted self.old) }
         ensures new_number { IfOk result (λ got. IfSome got
             (IsAccepted (marks_of self.old.told) (marks_of self.new.told) server)) }
         ensures uncut { IfOk result (λ got. IfSome got (λ n. is_cut_at self.new.told n ≡ false)) }
@@ -223,10 +224,10 @@ impl Net for MemNet {
         requires some { 0 < length part.now }
         ensures due { (result ≡ Err Stop.Failed) ↔ IsTrue (is_due self.old.plan) }
         ensures whole { IfOk result (λ put. put ≡ Put.Bytes (length part.now)) }
-        ensures ok { OnOk result (self.new ≡ called self.old (after_put self.old.told conn end part.now)
-            self.old.counts) }
+        ensures ok { OnOk result (self.new
+            ≡ called self.old (after_put self.old.told conn end part.now) self.old.counts) }
         ensures failed { result ≡ Err Stop.Failed
-            → self.new ≡ called self.old self.old.told (with_fault self.old.counts) }
+            → self.new ≡ faulted self.old }
         ensures memory { result ≡ Err Stop.Memory
             → self.new ≡ called self.old self.old.told self.old.counts }
         ensures told { MatchResult result (PutAs self.old.told self.new.told conn end part.now)
@@ -248,10 +249,11 @@ impl Net for MemNet {
         requires known { conn < length self.old.told.conns }
         requires some { 0 < length buf.old }
         ensures due { IsErr result ↔ IsTrue (is_due self.old.plan) }
-        ensures answer { IfOk result (λ took. took ≡ answer_to_take self.old.told conn end (length buf.old)) }
+        ensures answer { IfOk result (λ took.
+            took ≡ answer_to_take self.old.told conn end (length buf.old)) }
         ensures told { MatchResult result (TookAs self.old.told self.new.told conn end buf.new)
             (λ _. self.new.told ≡ self.old.told) }
-        ensures err { OnErr result (self.new ≡ called self.old self.old.told (with_fault self.old.counts)) }
+        ensures err { OnErr result (self.new ≡ faulted self.old) }
         ensures none { result ≡ Ok Took.NotNow → (undelivered self.old.told conn end ≡ [])
             × (self.new ≡ called self.old self.old.told (with_idle_take self.old.counts)) }
         ensures ended { (result ≡ Ok Took.Ended)

@@ -49,7 +49,8 @@ pub trait Net {
     fn part(&mut self, app: u8, server: u8)
         requires app { app < (shape self.old).apps }
         requires server { server < (shape self.old).servers }
-        ensures told { IfTold (told self.old) (told self.new) (λ t now. now ≡ after_part t app server) }
+        ensures told { IfTold (told self.old) (told self.new) (λ t now.
+            now ≡ after_part t app server) }
         ensures counts { NoneFell (counts self.old) (counts self.new) }
         ensures marks { Marked (marks self.old)
             (or_cut (marks self.old) (of_pair (marks self.old) app server))
@@ -60,7 +61,8 @@ pub trait Net {
     fn join(&mut self, app: u8, server: u8)
         requires app { app < (shape self.old).apps }
         requires server { server < (shape self.old).servers }
-        ensures told { IfTold (told self.old) (told self.new) (λ t now. now ≡ after_join t app server) }
+        ensures told { IfTold (told self.old) (told self.new) (λ t now.
+            now ≡ after_join t app server) }
         ensures counts { NoneFell (counts self.old) (counts self.new) }
         ensures marks { Marked (marks self.old) (marks self.old).cut
             (parted_with (marks self.old) app server false) (marks self.new) }
@@ -76,7 +78,8 @@ pub trait Net {
         ensures refused { IfTold (told self.old) (told self.new) (λ t _.
             is_open t app server ≡ false → result ≡ Err Stop.Failed) }
         ensures parted { (marks self.old).parted app server ≡ true → result ≡ Err Stop.Failed }
-        ensures new_number { IfOk result (IsConnected (marks self.old) (marks self.new) app server) }
+        ensures new_number { IfOk result
+            (IsConnected (marks self.old) (marks self.new) app server) }
         ensures failed { IfErr result (λ stop. stop ≡ Stop.Failed
             → Rose (counts self.old).failed (counts self.new).failed) }
         ensures counts { NoneFell (counts self.old) (counts self.new) }
@@ -89,13 +92,14 @@ pub trait Net {
         requires { server < (shape self.old).servers }
         ensures told { IfTold (told self.old) (told self.new) (λ t now. MatchResult result
             (AcceptedAs t now server) (λ _. now ≡ t)) }
-        ensures free { IfTold (told self.old) (told self.new) (λ t _. (shape self.old).holds_back ≡ false
-            → result ≡ Ok None → position (is_waiting server) t.conns ≡ None) }
+        ensures free { (shape self.old).holds_back ≡ false → result ≡ Ok None
+            → IfTold (told self.old) (told self.new) (λ t _. position (is_waiting server) t.conns ≡ None) }
         ensures new_number { IfOk result (λ got. IfSome got
             (IsAccepted (marks self.old) (marks self.new) server)) }
         ensures uncut { (shape self.old).holds_back ≡ false
             → IfOk result (λ got. IfSome got (λ n. (marks self.new).cut n ≡ false)) }
-        ensures none { result ≡ Ok None → Rose (counts self.old).idle_puts (counts self.new).idle_puts }
+        ensures none { result ≡ Ok None
+            → Rose (counts self.old).idle_puts (counts self.new).idle_puts }
         ensures failed { IfErr result (λ stop. stop ≡ Stop.Failed
             → Rose (counts self.old).faults (counts self.new).faults) }
         ensures counts { NoneFell (counts self.old) (counts self.new) }
@@ -127,8 +131,8 @@ pub trait Net {
         ensures told { IfTold (told self.old) (told self.new) (λ t now. MatchResult result
             (TookAs t now conn end buf.new) (λ _. now ≡ t)) }
         ensures within { IfOk result (TookWithin (length buf.old)) }
-        ensures free { IfTold (told self.old) (told self.new) (λ t _. (shape self.old).holds_back ≡ false
-            → result ≡ Ok Took.NotNow → undelivered t conn end ≡ []) }
+        ensures free { (shape self.old).holds_back ≡ false → result ≡ Ok Took.NotNow
+            → IfTold (told self.old) (told self.new) (λ t _. undelivered t conn end ≡ []) }
         ensures cut { (shape self.old).holds_back ≡ false → (marks self.old).cut conn ≡ true
             → IfOk result (λ took. took ≡ Took.Ended) }
         ensures ended { result ≡ Ok Took.Ended → ((marks self.old).cut conn ≡ true)

@@ -3,7 +3,7 @@ use Rattle.std.specs.Prelude.{position}
 use Rattle.outer_link.specs.Marks.{IsAccepted, Keeps, marks_of}
 use Rattle.outer_link.specs.NetState.{NetState}
 use Rattle.outer_link.specs.Told.{Told, after_accept, is_cut_at, is_waiting}
-use Rattle.outer_link.proofs.MarksSteps.{accepted_uncut, is_accepted, keeps_accept}
+use Rattle.outer_link.proofs.KnownSteps.{accepted_uncut, is_accepted, keeps_accept}
 use Rattle.outer_link.proofs.mem_net.MemNetNet.accept.Goals as goal
 
 pub returns-in-Some-clause-new_number : goal.returns-in-Some-clause-new_number

@@ -3,7 +3,7 @@ use Rattle.outer_link.specs.Marks.{Marked, marks_of, or_cut}
 use Rattle.outer_link.specs.NetState.{NetState}
 use Rattle.outer_link.specs.TableState.{TableState}
 use Rattle.outer_link.specs.Told.{after_cut, is_parted}
-use Rattle.outer_link.proofs.MarksSteps.{marked_cut}
+use Rattle.outer_link.proofs.KnownSteps.{marked_cut}
 use Rattle.outer_link.proofs.mem_net.MemNetNet.cut.Goals as goal
 
 pub returns-clause-marks : goal.returns-clause-marks

@@ -4,7 +4,7 @@ use Rattle.outer_link.specs.NetState.{NetState}
 use Rattle.outer_link.specs.TableState.{TableState}
 use Rattle.outer_link.specs.Told.{after_join, is_cut_at, with_parted}
 use Rattle.outer_link.proofs.ListSteps.{length_changed}
-use Rattle.outer_link.proofs.MarksSteps.{marked_join}
+use Rattle.outer_link.proofs.KnownSteps.{marked_join}
 use Rattle.outer_link.proofs.mem_net.MemNetNet.join.Goals as goal
 
 pub returns-clause-marks : goal.returns-clause-marks

@@ -4,7 +4,7 @@ use Rattle.outer_link.specs.NetState.{NetState}
 use Rattle.outer_link.specs.TableState.{TableState}
 use Rattle.outer_link.specs.Told.{after_listen, with_listening}
 use Rattle.outer_link.proofs.ListSteps.{length_changed}
-use Rattle.outer_link.proofs.MarksSteps.{keeps_listen}
+use Rattle.outer_link.proofs.KnownSteps.{keeps_listen}
 use Rattle.outer_link.proofs.mem_net.MemNetNet.listen.Goals as goal
 
 pub returns-clause-marks : goal.returns-clause-marks

@@ -3,7 +3,7 @@ use Rattle.outer_link.specs.Marks.{Keeps, marks_of}
 use Rattle.outer_link.specs.NetState.{NetState}
 use Rattle.outer_link.specs.TableState.{TableState}
 use Rattle.outer_link.specs.Told.{after_put}
-use Rattle.outer_link.proofs.MarksSteps.{keeps_put}
+use Rattle.outer_link.proofs.KnownSteps.{keeps_put}
 use Rattle.outer_link.proofs.TableSteps.{put_none}
 use Rattle.outer_link.proofs.mem_net.MemNetNet.put.Goals as goal
 

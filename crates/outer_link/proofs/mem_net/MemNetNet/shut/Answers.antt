@@ -4,7 +4,7 @@ use Rattle.outer_link.specs.NetState.{NetState}
 use Rattle.outer_link.specs.TableState.{TableState}
 use Rattle.outer_link.specs.Told.{after_shut, is_parted, with_listening}
 use Rattle.outer_link.proofs.ListSteps.{length_changed}
-use Rattle.outer_link.proofs.MarksSteps.{marked_shut}
+use Rattle.outer_link.proofs.KnownSteps.{marked_shut}
 use Rattle.outer_link.proofs.mem_net.MemNetNet.shut.Goals as goal
 
 pub returns-clause-marks : goal.returns-clause-marks

@@ -1,7 +1,7 @@
 use Rattle.std.proofs.Common.{◌∙◌, ap, subst}
 use Rattle.outer_link.specs.Net.{TookAs}
 use Rattle.outer_link.specs.NetState.{NetState}
-use Rattle.outer_link.proofs.MarksSteps.{keeps_took}
+use Rattle.outer_link.proofs.KnownSteps.{keeps_took}
 use Rattle.outer_link.proofs.mem_net.MemNetNet.take.Goals as goal
 
 pub returns-else-eq-clause-marks : goal.returns-else-eq-clause-marks

@@ -7,17 +7,17 @@ use Rattle.std.proofs.lemmas.Simd.{map-map}
 use Rattle.std.proofs.lemmas.Option.{slice_get_within}
 use Rattle.outer_link.specs.declared.connection.Connection.{Connection}
 use Rattle.outer_link.specs.ServerState.{ServerState, has_cut, shut_server, parted_server}
-use Rattle.outer_link.specs.TableState.{is_marked, conn_told}
+use Rattle.outer_link.specs.TableState.{is_cut_together, conn_told}
 use Rattle.outer_link.specs.Told.{ConnTold, cut_where, is_of_server, is_of_pair}
 use Rattle.outer_link.proofs.ListSteps.{got_same, got_other, map_as}
 
 -- a connection of the data server that was changed
-marked_here : (servers : List ServerState) (s : ℕ) (v w : ServerState) (c : Connection) → slice_get servers s ≡ Some v → c.server ≡ s → (is_marked servers c ≡ has_cut v c.app c.made) × (is_marked (set servers s w) c ≡ has_cut w c.app c.made)
+marked_here : (servers : List ServerState) (s : ℕ) (v w : ServerState) (c : Connection) → slice_get servers s ≡ Some v → c.server ≡ s → (is_cut_together servers c ≡ has_cut v c.app c.made) × (is_cut_together (set servers s w) c ≡ has_cut w c.app c.made)
 marked_here servers s v w c at here =
     (rw (here, at) refl, rw (here, got_same servers s w (slice_get_within servers s v at)) refl)
 
 -- a connection of another one
-marked_there : (servers : List ServerState) (s : ℕ) (w : ServerState) (c : Connection) → (c.server ≡ s → ⊥) → is_marked (set servers s w) c ≡ is_marked servers c
+marked_there : (servers : List ServerState) (s : ℕ) (w : ServerState) (c : Connection) → (c.server ≡ s → ⊥) → is_cut_together (set servers s w) c ≡ is_cut_together servers c
 marked_there servers s w c apart = rw (got_other servers s c.server w apart) refl
 
 or_nothing : (a b : Bool) → b ≡ false → a ≡ (a || b)
@@ -31,11 +31,11 @@ or_both false a b first second = first ∙ sym second
 -- where a change of a data server cuts the connections of a test
 pub marked_by : (servers : List ServerState) (s : ℕ) (v w : ServerState) (test : Connection → Bool) (c : Connection) → slice_get servers s ≡ Some v
     → (c.server ≡ s → has_cut w c.app c.made ≡ (has_cut v c.app c.made || test c)) → ((c.server ≡ s → ⊥) → test c ≡ false)
-    → is_marked (set servers s w) c ≡ (is_marked servers c || test c)
+    → is_cut_together (set servers s w) c ≡ (is_cut_together servers c || test c)
 marked_by servers s v w test c at inside outside =
     elim (cases_eq c.server s) [
       | inl here ↦ let m = marked_here servers s v w c at here in m.1 ∙ inside here ∙ ap (λ b. b || test c) (sym m.0)
-      | inr apart ↦ marked_there servers s w c apart ∙ or_nothing (is_marked servers c) (test c) (outside apart)
+      | inr apart ↦ marked_there servers s w c apart ∙ or_nothing (is_cut_together servers c) (test c) (outside apart)
     ]
 
 -- a data server that is shut has cut all of its connections that were made
@@ -60,11 +60,11 @@ part_inside a s v made c before within here =
 
 -- what is told of connections, behind a change of marks
 cut_all : (old now : List ServerState) (conns : List Connection) (test : ConnTold → Bool) (made : ℕ) → All (λ c. c.made < made) conns
-    → ((c : Connection) → c.made < made → is_marked now c ≡ (is_marked old c || test (conn_told old c)))
+    → ((c : Connection) → c.made < made → is_cut_together now c ≡ (is_cut_together old c || test (conn_told old c)))
     → map (conn_told now) conns ≡ map (cut_where test) (map (conn_told old) conns)
 cut_all old now conns test made before marked =
     map_as (conn_told now) (λ c. cut_where test (conn_told old c)) (λ c. c.made < made) conns
-    (λ c b. rw (marked c b, ← (or_assoc c.is_cut (is_marked old c) (test (conn_told old c)))) refl) before
+    (λ c b. rw (marked c b, ← (or_assoc c.is_cut (is_cut_together old c) (test (conn_told old c)))) refl) before
     ∙ sym (map-map (cut_where test) (conn_told old) conns)
 
 -- shutting a data server cuts its connections
@@ -89,5 +89,5 @@ cut_none servers conns s v w at same =
     map_as (conn_told (set servers s w)) (conn_told servers) (λ _. Unit {0}) conns
     (λ c _. rw (unmarked c) refl) (λ _ _ _. tt)
   where
-    unmarked : (c : Connection) → is_marked (set servers s w) c ≡ is_marked servers c
-    unmarked c = marked_by servers s v w (λ _. false) c at (λ _. same c.app c.made ∙ or_nothing (has_cut v c.app c.made) false refl) (λ _. refl) ∙ sym (or_nothing (is_marked servers c) false refl)
+    unmarked : (c : Connection) → is_cut_together (set servers s w) c ≡ is_cut_together servers c
+    unmarked c = marked_by servers s v w (λ _. false) c at (λ _. same c.app c.made ∙ or_nothing (has_cut v c.app c.made) false refl) (λ _. refl) ∙ sym (or_nothing (is_cut_together servers c) false refl)
