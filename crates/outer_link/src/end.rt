@@ -1,0 +1,6 @@
+/// An end of a connection: at its application server or at its data server.
+#[derive(Clone, Copy, Debug, PartialEq, Eq)]
+pub enum End {
+    App,
+    Server,
+}

@@ -1,0 +1,6 @@
+/// A node: an application server or a data server, by its number.
+#[derive(Clone, Copy, Debug, PartialEq, Eq)]
+pub enum NodeName {
+    App(u8),
+    Server(u8),
+}
