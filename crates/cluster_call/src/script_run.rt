@@ -16,9 +16,8 @@ use crate::command::{Command, Target};
 use crate::output::Output;
 use crate::script_line::{ScriptLine, Todo};
 use crate::scripts::Script;
-use plain_orders::{
-    Act, Entries, Entry, Item, JobApps, Layout, Op, PlainStore, Question, Trail, Via,
-};
+use plain_orders::{Act, Entries, Entry, Item, JobApps, Layout, Op, Question, Trail, Via};
+use plain_programs::PlainStore;
 use plain_runs::Recorder;
 use std::alloc::{AllocError, Global};
 use subscript_keys::{KeyBytes, ValueBytes};

@@ -1,7 +1,4 @@
-pub mod NumberLemmas
 pub mod EntryLemmas
 pub mod FoldLemmas
 pub mod OrderLemmas
-pub mod SpanLemmas
-pub mod BegunLemmas
 pub mod RisingLemmas

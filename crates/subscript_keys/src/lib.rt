@@ -41,6 +41,8 @@ pub use pairs::Pairs;
 pub use run::Run;
 pub use span::Span;
 pub use sub::Sub;
+pub use sub_reader::take_sub;
 pub use sub_text::SubText;
+pub use sub_writer::put_sub;
 pub use subs::Subs;
 pub use value_bytes::ValueBytes;

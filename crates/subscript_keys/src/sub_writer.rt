@@ -111,8 +111,8 @@ fn put_text(to: &mut Vec<u8>, text: &[u8]) -> Result<(), AllocError>
     Ok(())
 }
 
-/// Appends a subscript's bytes.
-fn put_sub(to: &mut Vec<u8>, sub: &Sub) -> Result<(), AllocError>
+/// Appends a subscript's bytes. After an `Err` a part of them may stand there.
+pub fn put_sub(to: &mut Vec<u8>, sub: &Sub) -> Result<(), AllocError>
     requires { HasForm sub.now }
     ensures { OnOk result (to.new.items ≡ to.old.items ++ sub_bytes sub.now) }
 {

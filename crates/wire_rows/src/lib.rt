@@ -1,0 +1,10 @@
+//! What no clause of the wire's crates says, as tables: their worked bytes, their texts, and each public call
+//! with ample memory.
+#![tactic(auto)]
+
+#[cfg(test)]
+mod frames;
+#[cfg(test)]
+mod queues;
+#[cfg(test)]
+mod windows;
