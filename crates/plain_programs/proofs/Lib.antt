@@ -1,3 +1,2 @@
 pub mod NumberLemmas
 pub mod SpanLemmas
-pub mod BegunLemmas
