@@ -9,7 +9,7 @@ use Rattle.plain_orders.specs.declared.refused.Refused.TheVariants.{NoTransactio
 use Rattle.plain_orders.specs.declared.refused.ReasonName.TheVariants.{Reset, Expired, NoWay}
 use Rattle.plain_orders.specs.declared.refused.LinkName.TheVariants.{NotConnected, Normal, Trouble, Recovery}
 use Rattle.subscript_keys.specs.declared.sub.Sub.TheVariants.{Text}
-use Rattle.plain_runs.specs.Fronts.{Accepted, FailsAt, long_key, long_text, long_value, nothing, saved, met, issued, kept, app_broke, met_dead}
+use Rattle.plain_runs.specs.Fronts.{Accepted, Refuses, FailsAt, long_key, long_text, long_value, nothing, saved, met, issued, kept, app_broke, met_dead}
 use Rattle.plain_runs.specs.JobFronts.{levels, level_one, level_two, updated, updated_in, updated_more, updated_next, updated_other, updated_again, commit_issued, rollback_issued, updated_lost, updated_dead, barred, used_no_way, no_way, no_way_dead}
 use Rattle.plain_runs.specs.LockFronts.{quitted, quitted_dead}
 
@@ -50,6 +50,12 @@ IssueExamples =
     × Accepted updated_in (Issue 0 6 0 2 (CommitItem 1))
     -- an update follows the end
     × Accepted updated_more (Issue 0 8 0 4 (CommitItem 1))
+    -- known of a Commit, and with it used
+    × Refuses updated_in (Issue 3 6 0 2 (CommitItem 1))
+    -- free of a Commit, and with it used
+    × Refuses barred (Issue 0 6 0 1 (CommitItem 1))
+    -- there of a Commit, and with it used
+    × Refuses saved (Issue 0 5 0 1 (CommitItem 1))
     -- positive of a Commit
     × FailsAt 6 issued (Issue 0 6 0 2 (CommitItem 0))
     -- used of a Commit: there is no such transaction
@@ -65,6 +71,12 @@ IssueExamples =
     × Accepted updated_in (Issue 0 6 0 2 (RollbackItem 1))
     -- an update follows the end
     × Accepted updated_more (Issue 0 8 0 4 (RollbackItem 1))
+    -- known of a Rollback, and with it used
+    × Refuses updated_in (Issue 3 6 0 2 (RollbackItem 1))
+    -- free of a Rollback, and with it used
+    × Refuses barred (Issue 0 6 0 1 (RollbackItem 1))
+    -- there of a Rollback, and with it used
+    × Refuses saved (Issue 0 5 0 1 (RollbackItem 1))
     -- positive of a Rollback
     × FailsAt 6 issued (Issue 0 6 0 2 (RollbackItem 0))
     -- used of a Rollback: there is no such transaction

@@ -23,7 +23,8 @@ use Rattle.plain_runs.specs.JobRows.{RefusedMay, answered_entry, has_session, is
 use Rattle.plain_runs.specs.Run.{IsRun, state_after}
 use Rattle.plain_runs.specs.Laws.{server_after}
 
--- in its pair's session no answered hold of the job that could be given up, no item of it at a place of the told order, and no update of it
+-- in its pair's session no answered hold of the job that could be given up, no item of it at a place of the told order,
+-- and no update of it
 pub record NothingDone (s : Server) (app job : ℕ) : Type 0 where
   pub kept : (mode : Mode) (key : List ℕ) → list_any (is_kept (pair_session s app) job mode key) s.holds ≡ false
   pub item : (line at : ℕ) (kind : Item → Bool) → is_answered_item job line kind (item_at s app at) ≡ false
@@ -41,7 +42,7 @@ NoneWithoutSession =
     (layout : Layout) (acts : List Act) (d app : ℕ) → IsRun layout acts → has_session (server_after layout acts d) app ≡ false
     → NothingThere (server_after layout acts d) app
 
--- A job that isn't there did nothing of this.
+-- A job that isn't there did nothing of this; its pair is that of application server 0.
 abbrev pub StrangersDidNothing : Type 0
 StrangersDidNothing =
     (layout : Layout) (acts : List Act) (d job : ℕ) → IsRun layout acts → length layout.job_apps ≤ job
@@ -84,7 +85,8 @@ AllInOrderAreTold =
     → StandsIn (server_after layout acts d) app job (take at (server_after layout acts d).order)
     → StandsIn (server_after layout acts d) app job (take at (told_order (server_after layout acts d) app))
 
--- Where the last order that an Epoch began, or order 0, isn't later than the one that a pair's session is told of, it has no Epoch above that one's last.
+-- Where the last order that an Epoch began, or order 0, isn't later than the one that a pair's session is told of,
+-- it has no Epoch above that one's last.
 abbrev pub NoLaterEpoch : Type 0
 NoLaterEpoch =
     (layout : Layout) (acts : List Act) (d app session epoch : ℕ) → IsRun layout acts → ((server_after layout acts d).pair_at app).session ≡ Some session

@@ -66,19 +66,21 @@ pub fn no_condition_is_left_out()
     ensures refused_entries { FailureRefusesBehind }
 {}
 
-/// Where a pair has no session, no act finds a hold to give up or to answer, an item to answer, an update to end, or a Close to lose the session by.
+/// Where a pair has no session, no act finds a hold to give up or to answer, an item to answer, an update to end,
+/// or a Close to lose the session by.
 pub fn nothing_is_there_without_a_session()
     ensures { NoneWithoutSession }
 {}
 
-/// In its pair's session a job that isn't there has no answered hold to give up, no item at a place of the told order, and no update.
-/// It is refused nothing but that it has no transaction.
+/// In its pair's session a job that isn't there has no answered hold to give up, no item at a place of the told order,
+/// and no update. It is refused nothing but that it has no transaction.
 pub fn a_job_that_is_not_there_did_nothing()
     ensures did { StrangersDidNothing }
     ensures told { StrangersAreToldNothing }
 {}
 
-/// In its pair's session a barred job has no answered hold to give up, no item at a place of the told order, and no update.
+/// In its pair's session a barred job has no answered hold to give up, no item at a place of the told order,
+/// and no update.
 pub fn a_barred_job_did_nothing()
     ensures { BarredDidNothing }
 {}
@@ -94,8 +96,8 @@ pub fn what_is_answered_was_told()
     ensures reached { AllInOrderAreTold }
 {}
 
-/// Where the last order that an Epoch began, or order 0, isn't later than the one that a pair's session is told of, it has no Epoch above
-/// that one's last.
+/// Where the last order that an Epoch began, or order 0, isn't later than the one that a pair's session is told of,
+/// it has no Epoch above that one's last.
 pub fn only_a_later_order_has_a_later_epoch()
     ensures { NoLaterEpoch }
 {}
