@@ -1,6 +1,5 @@
 pub mod SearchLemmas
 pub mod NumberLemmas
 pub mod SpanLemmas
-pub mod BegunLemmas
 pub mod KeyLemmas
 pub mod OrderKeys

@@ -8,7 +8,7 @@ use Rattle.plain_orders.specs.declared.causes.ShutCause.TheVariants.{Trouble, Re
 use Rattle.plain_orders.specs.declared.causes.PairEnd.TheVariants.{App as AppEnd, Server as ServerEnd}
 use Rattle.plain_orders.specs.declared.causes.Loss.TheVariants.{Reset, Expired, NoWay}
 use Rattle.plain_orders.specs.declared.refused.Refused.TheVariants.{NoTransaction, TooDeep, RollbackOnly, LockTimeout, Network}
-use Rattle.std.proofs.Common.{◌≡◌, ℕ, zero, suc, List, ◌==◌, ◌&&◌, refl, sym, ap, ◌∙◌, true, Option, Some, None}
+use Rattle.std.proofs.Common.{◌≡◌, ℕ, zero, suc, List, [], ◌∷◌, ◌==◌, ◌&&◌, refl, sym, ap, ◌∙◌, true, Option, Some, None}
 use Rattle.std.specs.Option.{option_map}
 use Rattle.plain_orders.specs.declared.entry.Entry.{Entry}
 use Rattle.plain_orders.specs.declared.item.Item.{Item}
@@ -21,7 +21,7 @@ use Rattle.plain_orders.specs.PairMap.{Map}
 use Rattle.plain_runs.specs.Plain.{pair_session, told_order}
 use Rattle.plain_runs.specs.Items.{entry_of, entry_of_item, is_add}
 use Rattle.plain_runs.specs.JobRows.{is_answered_item, item_at, w_at}
-use Rattle.plain_runs.specs.Conditions.{NoneIsLeftOut, NoneIsLeftOutBehind}
+use Rattle.plain_runs.specs.Conditions.{Condition, FailureRefuses, FailureRefusesBehind, JustFails, NoneIsLeftOut, NoneIsLeftOutBehind, conditions, conditions_behind}
 use Rattle.plain_runs.specs.Together.{OnlyAddsSum}
 
 pub none_is_left_out : NoneIsLeftOut
@@ -109,3 +109,15 @@ none_is_left_out_behind before (Update session w job txn (Add key amount)) h =
     record { is_live = h.0; is_next = h.1.0; within = record { key_may = record { is_key = h.1.1.0; within = h.1.1.1.0 }; is_alone = h.1.1.1.1.0; within = h.1.1.1.1.1.0 } }
 none_is_left_out_behind before (Commit session w job txn) h = record { is_live = h.0; is_next = h.1.0; is_begun = h.1.1.0 }
 none_is_left_out_behind before (Rollback session w job txn) h = record { is_live = h.0; is_next = h.1.0; is_begun = h.1.1.0 }
+
+-- what may come meets each of its conditions
+none_fails : {may : Type 0} (k : ℕ) (cs : List (Condition may)) → JustFails k cs → may → ⊥
+none_fails k [] h m = h
+none_fails zero (c ∷ cs) h m = h.0 (c.needed m)
+none_fails (suc k) (c ∷ cs) h m = none_fails k cs h.1 m
+
+pub failure_refuses : FailureRefuses
+failure_refuses k l p a h m = none_fails k (conditions l p a) h m
+
+pub failure_refuses_behind : FailureRefusesBehind
+failure_refuses_behind k before e h m = none_fails k (conditions_behind before e) h m

@@ -1,7 +1,9 @@
 -- What no job has that isn't there, or that is barred.
-use Rattle.std.proofs.Common.{◌≡◌, ◌≢◌, ℕ, zero, suc, ◌<◌, length, ◌&&◌, ◌==◌, if◌then◌else◌, slice_get, List, [], ◌∷◌, refl, subst, sym, ap, ◌∙◌, Bool, true, false, arith, Option, Some, None}
+use Rattle.std.proofs.Common.{◌≡◌, ◌≢◌, ℕ, zero, suc, ◌<◌, length, ◌&&◌, ◌||◌, ◌==◌, if◌then◌else◌, slice_get, List, [], ◌∷◌, refl, subst, sym, ap, ◌∙◌, Bool, true, false, arith, Option, Some, None}
 use Rattle.std.specs.Prelude.{is_some, min, unwrap_or}
 use Rattle.std.proofs.lemmas.Bool.{ne_eqb}
+use Rattle.std.specs.List.{list_any}
+use Rattle.plain_runs.specs.Items.{is_update_of, is_change}
 use Rattle.std.specs.Option.{option_map}
 use Rattle.plain_orders.specs.declared.act.Act.{Act}
 use Rattle.plain_orders.specs.declared.act.Act.TheVariants.{Opened, Enter, Synced, Shut, Release, Met, Told, Back, Crash, Issue, Read, Grant, Granted, GiveUp, Quit, Free, Counted, NotWhole, Range, Committed, RolledBack, Reached, Level, Done, Refused, Broke, Mended, Tick, Lose, Died}
@@ -179,11 +181,15 @@ no_items job line kind [] i e = refl
 no_items job line kind (x ∷ is) (suc i) e = no_items job line kind is i e.1
 no_items job line kind (x ∷ is) zero e = ap (λ (b : Bool). b && x.line == line && kind x.item) (ne_eqb x.job job e.0)
 
+no_updates : (job txn : ℕ) (is : List Issued) → Each (λ (x : Issued). x.job ≢ job) is → list_any (is_update_of job txn) is ≡ false
+no_updates job txn [] e = refl
+no_updates job txn (x ∷ is) e = ap (λ (b : Bool). (b && x.txn == txn && is_change x.item) || list_any (is_update_of job txn) is) (ne_eqb x.job job e.0) ∙ no_updates job txn is e.1
+
 pub strangers_did_nothing : StrangersDidNothing
 strangers_did_nothing l acts d job run stranger = record {
   kept = λ mode key. none_any (OfLayout l) _ (λ h k is. kept mode key h k is) s.holds held.holds;
-  item = λ line at kind. no_items job line kind (issued_in s (pair_session s (app_of l job))) _
-      (each_weaker (λ (x : Issued). x.job < length l.job_apps) (λ (x : Issued). x.job ≢ job) (λ x low same. omega (arith, low, same, stranger)) _ (held.items (pair_session s (app_of l job))));
+  item = λ line at kind. no_items job line kind (issued_in s (pair_session s (app_of l job))) _ others;
+  used = λ txn. no_updates job txn (issued_in s (pair_session s (app_of l job))) others;
 }
   where
     s : Server
@@ -191,6 +197,9 @@ strangers_did_nothing l acts d job run stranger = record {
 
     held : DeedsKept l (deeds s)
     held = deeds_kept l acts d run
+
+    others : Each (λ (x : Issued). x.job ≢ job) (issued_in s (pair_session s (app_of l job)))
+    others = each_weaker (λ (x : Issued). x.job < length l.job_apps) (λ (x : Issued). x.job ≢ job) (λ x low same. omega (arith, low, same, stranger)) _ (held.items (pair_session s (app_of l job)))
 
     kept : (mode : Mode) (key : List ℕ) (h : Hold) → OfLayout l h → is_kept (pair_session s (app_of l job)) job mode key h ≡ true → ⊥
     kept mode key h k is =
@@ -218,5 +227,7 @@ barred_did_nothing l acts d job run there barred = go (s.pair_at (app_of l job))
         record {
           kept = λ mode key. none_any (OfAnother n job) _ (λ h k is. kept n its mode key h k is) s.holds (held.held job n there (held.bar job barred) e);
           item = λ line at kind. no_items job line kind (issued_in s (pair_session s (app_of l job))) _
+              (subst (λ i. Each (λ (x : Issued). x.job ≢ job) (issued_of (s.session_at i))) (sym its) (held.issued job n there (held.bar job barred) e));
+          used = λ txn. no_updates job txn (issued_in s (pair_session s (app_of l job)))
               (subst (λ i. Each (λ (x : Issued). x.job ≢ job) (issued_of (s.session_at i))) (sym its) (held.issued job n there (held.bar job barred) e));
         }

@@ -2,7 +2,7 @@
 use Rattle.std.proofs.Common.{◌≡◌, ℕ, [], ◌+◌, ◌^◌, refl, arith, rules}
 use Rattle.plain_orders.specs.declared.entry.Entry.TheVariants.{Epoch}
 use Rattle.plain_orders.specs.Ordered.{IsOrdered}
-use Rattle.plain_runs.specs.EntryExamples.{EntryExamples, FailsBehind, one_epoch, one_open, one_update}
+use Rattle.plain_runs.specs.EntryExamples.{EntryExamples, FailsBehind, one_epoch, one_open, one_update, one_commit, two_opens, one_close}
 use Rattle.plain_runs.specs.Fronts.{epochs}
 use Rattle.plain_runs.proofs.FirstRun.{no_empty_key, x_key, x_may}
 use Rattle.plain_runs.proofs.FrontRuns.{epochs_last, epochs_ordered}
@@ -20,6 +20,15 @@ one_update_ordered = (
   (record { is_started = λ e. omega (arith, e); is_position = refl; is_free = refl }, (record { is_live = refl; is_next = refl; within = record { key_may = x_may; within = omega arith } }, tt)),
 )
 
+one_commit_ordered : IsOrdered one_commit
+one_commit_ordered = (record { is_next = refl; in_range = omega arith }, (record { is_started = λ e. omega (arith, e); is_position = refl; is_free = refl }, (record { is_live = refl; is_next = refl; within = record { key_may = x_may; within = omega arith } }, (record { is_live = refl; is_next = refl; is_begun = refl }, tt))))
+
+two_opens_ordered : IsOrdered two_opens
+two_opens_ordered = (record { is_next = refl; in_range = omega arith }, (record { is_started = λ e. omega (arith, e); is_position = refl; is_free = refl }, (record { is_live = refl; is_next = refl; within = record { key_may = x_may; within = omega arith } }, (record { is_started = λ e. omega (arith, e); is_position = refl; is_free = refl }, tt))))
+
+one_close_ordered : IsOrdered one_close
+one_close_ordered = (record { is_next = refl; in_range = omega arith }, (record { is_started = λ e. omega (arith, e); is_position = refl; is_free = refl }, (record { is_live = refl }, tt)))
+
 last_epochs : (n : ℕ) → n + 1 ≡ 2 ^ 32 → FailsBehind 1 (epochs 0 n) (Epoch (n + 1))
 last_epochs n same = (epochs_ordered [] 0 n refl (omega (arith, same)), (omega (arith, epochs_last 0 n), ((λ e. omega (arith, e, same)), tt)))
 
@@ -31,6 +40,7 @@ entry_examples = (
   (one_epoch_ordered, search (rules, x_key)),
   (one_open_ordered, search (rules, x_key)),
   (one_epoch_ordered, search (rules, x_key)),
+  (one_close_ordered, search (rules, x_key)),
   (one_epoch_ordered, search (rules, x_key)),
   (one_open_ordered, search (rules, x_key)),
   (one_open_ordered, (refl, (refl, (no_empty_key, (omega arith, (omega arith, tt)))))),
@@ -49,8 +59,12 @@ entry_examples = (
   (one_update_ordered, search (rules, x_key)),
   (one_update_ordered, search (rules, x_key)),
   (one_update_ordered, search (rules, x_key)),
+  (two_opens_ordered, search (rules, x_key)),
+  (one_commit_ordered, search (rules, x_key)),
   (one_update_ordered, search (rules, x_key)),
   (one_update_ordered, search (rules, x_key)),
   (one_update_ordered, search (rules, x_key)),
+  (two_opens_ordered, search (rules, x_key)),
+  (one_commit_ordered, search (rules, x_key)),
   last_epochs,
 )

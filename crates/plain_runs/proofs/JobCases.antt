@@ -1,7 +1,8 @@
 -- Examples of acts that are accepted, and of acts that are refused since one condition fails: the condition is named in front of each.
+use Rattle.std.specs.Prelude.{pos}
 use Rattle.std.proofs.Common.{ℕ, zero, suc, Some, None, ◌+◌, [], ◌∷◌, ◌≡◌, refl, arith, rules}
 use Rattle.plain_orders.specs.declared.act.Act.TheVariants.{Issue, Read, Level, Done, Refused as RefusedAct, Died}
-use Rattle.plain_orders.specs.declared.op.Op.TheVariants.{Set}
+use Rattle.plain_orders.specs.declared.op.Op.TheVariants.{Set, Kill, Add}
 use Rattle.plain_orders.specs.declared.item.Item.TheVariants.{Op, Commit as CommitItem, Rollback as RollbackItem}
 use Rattle.plain_orders.specs.declared.via.Via.TheVariants.{Own, Cached, Fetched}
 use Rattle.plain_orders.specs.declared.question.Question.TheVariants.{Get, Data, Next}
@@ -12,11 +13,11 @@ use Rattle.plain_runs.specs.Plain.{Plain, start}
 use Rattle.plain_runs.specs.Step.{after}
 use Rattle.plain_runs.specs.Run.{RunFrom}
 use Rattle.plain_runs.specs.Fronts.{small, nothing, met, issued, kept}
-use Rattle.plain_runs.specs.JobFronts.{levels, updated_in, commit_issued, updated_lost, barred, no_way}
+use Rattle.plain_runs.specs.JobFronts.{levels, level_two, updated_in, updated_more, commit_issued, updated_lost, barred, no_way}
 use Rattle.plain_runs.proofs.FrontRuns.{saved_runs, met_runs, issued_runs, kept_runs, app_broke_runs, met_dead_runs, nothing_runs}
 use Rattle.plain_runs.specs.LockFronts.{quitted}
 use Rattle.plain_runs.proofs.LockFrontRuns.{quitted_runs, quitted_dead_runs}
-use Rattle.plain_runs.proofs.JobFrontRuns.{level_one_runs, updated_runs, updated_in_runs, commit_issued_runs, updated_lost_runs, updated_dead_runs, barred_runs, used_no_way_runs, no_way_runs, no_way_dead_runs}
+use Rattle.plain_runs.proofs.JobFrontRuns.{back_to_0, level_one_runs, level_two_runs, updated_runs, updated_in_runs, updated_more_runs, updated_next_runs, updated_other_runs, updated_again_runs, commit_issued_runs, rollback_issued_runs, updated_lost_runs, updated_dead_runs, barred_runs, used_no_way_runs, no_way_runs, no_way_dead_runs}
 use Rattle.plain_runs.proofs.RunLemmas.{run_more}
 use Rattle.plain_runs.proofs.FirstRun.{x_may, x_key, no_empty_key}
 use Rattle.plain_runs.proofs.LongKeys.{long_key_is_key, x_long_is_key}
@@ -29,6 +30,8 @@ use Rattle.plain_runs.specs.JobRows.{is_near}
 pub issue_examples : IssueExamples
 issue_examples = (
   run_more small start met (Issue 0 5 0 1 (Op (Set (120 ∷ 0 ∷ []) (53 ∷ [])))) met_runs ((record { known = omega arith; alive = refl; free = refl }, record { there = refl; unbroken = refl; next = refl; its = record { key_may = x_may; within = omega arith } })),
+  run_more small start met (Issue 0 5 0 1 (Op (Kill (120 ∷ 0 ∷ [])))) met_runs ((record { known = omega arith; alive = refl; free = refl }, record { there = refl; unbroken = refl; next = refl; its = x_may })),
+  run_more small start met (Issue 0 5 0 1 (Op (Add (120 ∷ 0 ∷ []) (pos 1)))) met_runs ((record { known = omega arith; alive = refl; free = refl }, record { there = refl; unbroken = refl; next = refl; its = record { key_may = x_may; is_alone = refl; within = omega arith } })),
   (met_runs, search (rules, x_key)),
   (met_dead_runs, search (rules, x_key)),
   (barred_runs, search (rules, x_key)),
@@ -44,15 +47,27 @@ issue_examples = (
   (met_runs, (omega arith, (refl, (refl, (refl, (refl, (refl, (long_key_is_key, ((λ e. omega (arith, e)), (refl, (omega arith, tt))))))))))),
   (met_runs, (omega arith, (refl, (refl, (refl, (refl, (refl, (x_key, (omega arith, (refl, ((λ e. omega (arith, e)), tt))))))))))),
   run_more small start updated_in (Issue 0 6 0 2 (CommitItem 1)) updated_in_runs ((record { known = omega arith; alive = refl; free = refl }, record { there = refl; unbroken = refl; next = refl; its = record { positive = omega arith; used = refl; unended = refl } })),
+  run_more small start updated_more (Issue 0 8 0 4 (CommitItem 1)) updated_more_runs ((record { known = omega arith; alive = refl; free = refl }, record { there = refl; unbroken = refl; next = refl; its = record { positive = omega arith; used = refl; unended = refl } })),
+  (updated_in_runs, λ may. omega (arith, may.0.known)),
+  (barred_runs, λ may. absurd (cc (may.0.free))),
+  (saved_runs, λ may. absurd (cc (may.1.there))),
   (issued_runs, search (rules, x_key)),
   (issued_runs, search (rules, x_key)),
   (updated_in_runs, search (rules, x_key)),
+  (updated_again_runs, search (rules, x_key)),
   (commit_issued_runs, search (rules, x_key)),
+  (rollback_issued_runs, search (rules, x_key)),
   run_more small start updated_in (Issue 0 6 0 2 (RollbackItem 1)) updated_in_runs ((record { known = omega arith; alive = refl; free = refl }, record { there = refl; unbroken = refl; next = refl; its = record { positive = omega arith; used = refl; unended = refl } })),
+  run_more small start updated_more (Issue 0 8 0 4 (RollbackItem 1)) updated_more_runs ((record { known = omega arith; alive = refl; free = refl }, record { there = refl; unbroken = refl; next = refl; its = record { positive = omega arith; used = refl; unended = refl } })),
+  (updated_in_runs, λ may. omega (arith, may.0.known)),
+  (barred_runs, λ may. absurd (cc (may.0.free))),
+  (saved_runs, λ may. absurd (cc (may.1.there))),
   (issued_runs, search (rules, x_key)),
   (issued_runs, search (rules, x_key)),
   (updated_in_runs, search (rules, x_key)),
+  (updated_again_runs, search (rules, x_key)),
   (commit_issued_runs, search (rules, x_key)),
+  (rollback_issued_runs, search (rules, x_key)),
 )
 
 pub read_examples : ReadExamples
@@ -89,13 +104,19 @@ read_examples = (
 
 pub level_examples : LevelExamples
 level_examples = (
-  run_more small start commit_issued (Level 0 6 0) commit_issued_runs ((record { known = omega arith; alive = refl }, record { near = refl; ended = λ e. elim [ zero ↦ refl | suc d ↦ let none : eqb (suc d) 0 ≡ false = ne_eqb (suc d) 0 (λ e. omega arith) in rw none refl ] })),
+  run_more small start commit_issued (Level 0 6 0) commit_issued_runs back_to_0,
   run_more small start nothing (Level 0 4 1) nothing_runs ((record { known = omega arith; alive = refl }, record { near = refl; ended = λ e. absurd (omega arith) })),
+  run_more small start level_two (Level 0 6 1) level_two_runs ((record { known = omega arith; alive = refl }, record { near = refl; ended = λ e. absurd (omega arith) })),
+  run_more small start level_two (Level 0 6 0) level_two_runs ((record { known = omega arith; alive = refl }, record { near = refl; ended = λ e. elim [ zero ↦ refl | suc d ↦ let none : eqb (suc d) 0 ≡ false = ne_eqb (suc d) 0 (λ e. omega arith) in rw none refl ] })),
+  run_more small start updated_lost (Level 0 6 0) updated_lost_runs ((record { known = omega arith; alive = refl }, record { near = refl; ended = λ e. elim [ zero ↦ refl | suc d ↦ let none : eqb (suc d) 0 ≡ false = ne_eqb (suc d) 0 (λ e. omega arith) in rw none refl ] })),
   (nothing_runs, search rules),
   (met_dead_runs, search rules),
   (nothing_runs, search rules),
+  (level_one_runs, search rules),
   (updated_runs, (omega arith, (refl, (refl, ((λ e. absurd (cc (e refl 0))), tt))))),
   (commit_issued_runs, (omega arith, (refl, (refl, ((λ e. absurd (cc (e refl 0))), tt))))),
+  (updated_next_runs, (omega arith, (refl, (refl, ((λ e. absurd (cc (e refl 0))), tt))))),
+  (updated_other_runs, (omega arith, (refl, (refl, ((λ e. absurd (cc (e refl 0))), tt))))),
 )
 
 pub done_examples : DoneExamples
@@ -126,7 +147,13 @@ refused_examples = (
   (no_way_runs, search rules),
   (used_no_way_runs, search rules),
   (barred_runs, search rules),
+  (barred_runs, search rules),
+  (barred_runs, search rules),
   (updated_lost_runs, search rules),
+  (updated_lost_runs, search rules),
+  (updated_lost_runs, search rules),
+  (no_way_runs, search rules),
+  (no_way_runs, search rules),
   (no_way_runs, search rules),
 )
 

@@ -5,7 +5,8 @@ use Rattle.subscript_keys.specs.declared.sub.Sub.TheVariants.{Text}
 use Rattle.subscript_keys.specs.Key.{AreBytes, IsKey, IsText, escaped, key_of, text_bytes}
 use Rattle.subscript_keys.specs.Decimal.{AreDigits, IsNumberText, number_text}
 use Rattle.plain_runs.specs.JobRows.{asked_key}
-use Rattle.plain_runs.specs.Fronts.{long_key, long_text}
+use Rattle.plain_runs.specs.Fronts.{below_x, long_key, long_text}
+use Rattle.plain_orders.specs.Ordered.{KeyMay}
 
 -- letters are bytes
 letters : (n : ℕ) → AreBytes (replicate n 97)
@@ -50,3 +51,10 @@ x_long_is_key = letters_key 495
 pub long_key_is_key : IsKey long_key
 unfolding text_bytes
 long_key_is_key = subst IsKey (ap (λ cs. 120 ∷ 0 ∷ 64 ∷ cs ++ 0 ∷ 1 ∷ []) (letters_escaped 496)) (letters_key 495)
+
+pub below_x_is_key : IsKey below_x
+unfolding text_bytes
+below_x_is_key = letters_key 0
+
+pub below_x_may : KeyMay below_x
+below_x_may = record { is_key = below_x_is_key; within = omega arith }

@@ -10,6 +10,7 @@ use Rattle.plain_orders.specs.declared.mode.Mode.{Mode}
 use Rattle.plain_orders.specs.Entries.{entry_at}
 use Rattle.plain_orders.specs.Own.{Issued}
 use Rattle.plain_runs.specs.Plain.{Server, Session, Hold, pair_session, issued_in}
+use Rattle.plain_runs.specs.Items.{is_update_of}
 use Rattle.plain_runs.specs.OrderRows.{is_sent}
 use Rattle.plain_runs.specs.LockRows.{is_of, is_lock, is_kept, is_sent_at}
 use Rattle.plain_runs.specs.JobRows.{has_session, is_answered_item}
@@ -62,7 +63,7 @@ kept_facts session job mode key h e =
 
 pub none_without_session : NoneWithoutSession
 none_without_session l acts d app run none = record {
-  done = λ job. record { kept = λ mode key. none_any (HoldOf (locks s)) _ (λ h k is. kept_none job mode key h k is) s.holds held.holds; item = λ line at kind. no_item job line kind (issued_in s (pair_session s app)) _ nothing };
+  done = λ job. record { kept = λ mode key. none_any (HoldOf (locks s)) _ (λ h k is. kept_none job mode key h k is) s.holds held.holds; item = λ line at kind. no_item job line kind (issued_in s (pair_session s app)) _ nothing; used = λ txn. ap (λ (xs : List Issued). list_any (is_update_of job txn) xs) nothing };
   sent = λ job at. none_any (HoldOf (locks s)) _ (λ h k is. sent_none job at h k is) s.holds held.holds;
   close = λ at e. absurd (omega (arith, zeroed, close_at s.order at (pair_session s app) placed e));
 }

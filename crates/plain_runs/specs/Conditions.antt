@@ -173,3 +173,11 @@ NoneIsLeftOut = (l : Layout) (p : Plain) (a : Act) → AllHold (conditions l p a
 -- Nor is one of an entry.
 abbrev pub NoneIsLeftOutBehind : Type 0
 NoneIsLeftOutBehind = (before : List Entry) (e : Entry) → AllHold (conditions_behind before e) → MayFollow before e
+
+-- An act may not come where just one of its conditions fails.
+abbrev pub FailureRefuses : Type 0
+FailureRefuses = (k : ℕ) (l : Layout) (p : Plain) (a : Act) → JustFails k (conditions l p a) → MayCome l p a → ⊥
+
+-- Nor may an entry follow.
+abbrev pub FailureRefusesBehind : Type 0
+FailureRefusesBehind = (k : ℕ) (before : List Entry) (e : Entry) → JustFails k (conditions_behind before e) → MayFollow before e → ⊥

@@ -189,7 +189,7 @@ knows_loss reason k = record k { news = k.news ++ reason ∷ []; acted = false; 
 abbrev pub since_loss : ℕ → Option Entered → Option Entered
 since_loss app o = option_map (λ (e : Entered). record e { lost_since = e.lost_since || e.app == app }) o
 
--- the pair has no session; its jobs have news, and its Opens that were entered are behind
+-- the pair has no session; its jobs have news, and a loss came since its Opens that were entered
 abbrev pub without_session : Layout → Server → ℕ → ReasonName → Server
 without_session layout s app reason =
     with_jobs_of layout

@@ -19,6 +19,18 @@ one_open = Epoch 1 ∷ OpenEntry 2 0 ∷ []
 abbrev pub one_update : List Entry
 one_update = Epoch 1 ∷ OpenEntry 2 0 ∷ Update 2 1 0 1 (Set (120 ∷ 0 ∷ []) (53 ∷ [])) ∷ []
 
+-- and its Commit
+abbrev pub one_commit : List Entry
+one_commit = Epoch 1 ∷ OpenEntry 2 0 ∷ Update 2 1 0 1 (Set (120 ∷ 0 ∷ []) (53 ∷ [])) ∷ Commit 2 2 0 1 ∷ []
+
+-- or another Open
+abbrev pub two_opens : List Entry
+two_opens = Epoch 1 ∷ OpenEntry 2 0 ∷ Update 2 1 0 1 (Set (120 ∷ 0 ∷ []) (53 ∷ [])) ∷ OpenEntry 4 1 ∷ []
+
+-- an Open and its Close
+abbrev pub one_close : List Entry
+one_close = Epoch 1 ∷ OpenEntry 2 0 ∷ Closed 2 ∷ []
+
 -- the list is ordered, and of the conditions of the entry behind it just the one at this place, from 0, fails
 abbrev pub FailsBehind : ℕ → List Entry → Entry → Type 0
 FailsBehind k before e = IsOrdered before × JustFails k (conditions_behind before e)
@@ -36,8 +48,10 @@ EntryExamples =
     × FailsBehind 1 one_epoch (OpenEntry 3 0)
     -- is_free of an Open
     × FailsBehind 2 one_open (OpenEntry 3 0)
-    -- is_live of a Close
+    -- is_live of a Close: there is no Open
     × FailsBehind 0 one_epoch (Closed 2)
+    -- is_live of a Close: there is one already
+    × FailsBehind 0 one_close (Closed 2)
     -- is_live of a Set
     × FailsBehind 0 one_epoch (Update 2 1 0 0 (Set (120 ∷ 0 ∷ []) (53 ∷ [])))
     -- is_next of a Set
@@ -74,11 +88,19 @@ EntryExamples =
     × FailsBehind 2 one_update (Commit 2 2 0 2)
     -- is_begun of a Commit: it is another job's
     × FailsBehind 2 one_update (Commit 2 2 1 1)
+    -- is_begun of a Commit: it is another session's
+    × FailsBehind 2 two_opens (Commit 4 1 0 1)
+    -- is_begun of a Commit: it was ended
+    × FailsBehind 2 one_commit (Commit 2 3 0 1)
     -- is_next of a Rollback
     × FailsBehind 1 one_update (Rollback 2 3 0 1)
     -- is_begun of a Rollback: it is another transaction
     × FailsBehind 2 one_update (Rollback 2 2 0 2)
     -- is_begun of a Rollback: it is another job's
     × FailsBehind 2 one_update (Rollback 2 2 1 1)
+    -- is_begun of a Rollback: it is another session's
+    × FailsBehind 2 two_opens (Rollback 4 1 0 1)
+    -- is_begun of a Rollback: it was ended
+    × FailsBehind 2 one_commit (Rollback 2 3 0 1)
     -- in_range of an Epoch
     × ((n : ℕ) → n + 1 ≡ 2 ^ 32 → FailsBehind 1 (epochs 0 n) (Epoch (n + 1)))

@@ -38,6 +38,10 @@ nines_text = replicate 18 57
 abbrev pub long_key : List ℕ
 long_key = 120 ∷ 0 ∷ 64 ∷ replicate 496 97 ++ 0 ∷ 1 ∷ []
 
+-- a key below ^x
+abbrev pub below_x : List ℕ
+below_x = 120 ∷ 0 ∷ 64 ∷ 97 ∷ 0 ∷ 1 ∷ []
+
 -- a text of 496 bytes, whose key below ^x has 501
 abbrev pub long_text : List ℕ
 long_text = replicate 496 97

@@ -9,14 +9,16 @@ use Rattle.plain_orders.specs.declared.refused.Refused.TheVariants.{NoTransactio
 use Rattle.plain_orders.specs.declared.refused.ReasonName.TheVariants.{Reset, Expired, NoWay}
 use Rattle.plain_orders.specs.declared.refused.LinkName.TheVariants.{NotConnected, Normal, Trouble, Recovery}
 use Rattle.subscript_keys.specs.declared.sub.Sub.TheVariants.{Text}
-use Rattle.plain_runs.specs.Fronts.{Accepted, FailsAt, long_key, long_text, long_value, nothing, saved, met, issued, kept, app_broke, met_dead}
-use Rattle.plain_runs.specs.JobFronts.{levels, level_one, updated, updated_in, commit_issued, updated_lost, updated_dead, barred, used_no_way, no_way, no_way_dead}
+use Rattle.plain_runs.specs.Fronts.{Accepted, Refuses, FailsAt, long_key, long_text, long_value, nothing, saved, met, issued, kept, app_broke, met_dead}
+use Rattle.plain_runs.specs.JobFronts.{levels, level_one, level_two, updated, updated_in, updated_more, updated_next, updated_other, updated_again, commit_issued, rollback_issued, updated_lost, updated_dead, barred, used_no_way, no_way, no_way_dead}
 use Rattle.plain_runs.specs.LockFronts.{quitted, quitted_dead}
 
 -- issue
 abbrev pub IssueExamples : Type 0
 IssueExamples =
     Accepted met (Issue 0 5 0 1 (Op (Set (120 ∷ 0 ∷ []) (53 ∷ []))))
+    × Accepted met (Issue 0 5 0 1 (Op (Kill (120 ∷ 0 ∷ []))))
+    × Accepted met (Issue 0 5 0 1 (Op (Add (120 ∷ 0 ∷ []) (pos 1))))
     -- known
     × FailsAt 0 met (Issue 3 6 0 1 (Op (Set (120 ∷ 0 ∷ []) (53 ∷ []))))
     -- alive
@@ -46,23 +48,47 @@ IssueExamples =
     -- within of an Add
     × FailsAt 9 met (Issue 0 5 0 1 (Op (Add (120 ∷ 0 ∷ []) (pos 1000000000000000000))))
     × Accepted updated_in (Issue 0 6 0 2 (CommitItem 1))
+    -- an update follows the end
+    × Accepted updated_more (Issue 0 8 0 4 (CommitItem 1))
+    -- known of a Commit, and with it used
+    × Refuses updated_in (Issue 3 6 0 2 (CommitItem 1))
+    -- free of a Commit, and with it used
+    × Refuses barred (Issue 0 6 0 1 (CommitItem 1))
+    -- there of a Commit, and with it used
+    × Refuses saved (Issue 0 5 0 1 (CommitItem 1))
     -- positive of a Commit
     × FailsAt 6 issued (Issue 0 6 0 2 (CommitItem 0))
     -- used of a Commit: there is no such transaction
     × FailsAt 7 issued (Issue 0 6 0 2 (CommitItem 1))
     -- used of a Commit: it is another job's
     × FailsAt 7 updated_in (Issue 2 6 0 2 (CommitItem 1))
-    -- unended of a Commit
+    -- used of a Commit: it is of an earlier session
+    × FailsAt 7 updated_again (Issue 0 8 0 1 (CommitItem 1))
+    -- unended of a Commit: by a Commit
     × FailsAt 8 commit_issued (Issue 0 7 0 3 (CommitItem 1))
+    -- unended of a Commit: by a Rollback
+    × FailsAt 8 rollback_issued (Issue 0 7 0 3 (CommitItem 1))
     × Accepted updated_in (Issue 0 6 0 2 (RollbackItem 1))
+    -- an update follows the end
+    × Accepted updated_more (Issue 0 8 0 4 (RollbackItem 1))
+    -- known of a Rollback, and with it used
+    × Refuses updated_in (Issue 3 6 0 2 (RollbackItem 1))
+    -- free of a Rollback, and with it used
+    × Refuses barred (Issue 0 6 0 1 (RollbackItem 1))
+    -- there of a Rollback, and with it used
+    × Refuses saved (Issue 0 5 0 1 (RollbackItem 1))
     -- positive of a Rollback
     × FailsAt 6 issued (Issue 0 6 0 2 (RollbackItem 0))
     -- used of a Rollback: there is no such transaction
     × FailsAt 7 issued (Issue 0 6 0 2 (RollbackItem 1))
     -- used of a Rollback: it is another job's
     × FailsAt 7 updated_in (Issue 2 6 0 2 (RollbackItem 1))
-    -- unended of a Rollback
+    -- used of a Rollback: it is of an earlier session
+    × FailsAt 7 updated_again (Issue 0 8 0 1 (RollbackItem 1))
+    -- unended of a Rollback: by a Commit
     × FailsAt 8 commit_issued (Issue 0 7 0 3 (RollbackItem 1))
+    -- unended of a Rollback: by a Rollback
+    × FailsAt 8 rollback_issued (Issue 0 7 0 3 (RollbackItem 1))
 
 -- read
 abbrev pub ReadExamples : Type 0
@@ -123,16 +149,28 @@ abbrev pub LevelExamples : Type 0
 LevelExamples =
     Accepted commit_issued (Level 0 6 0)
     × Accepted nothing (Level 0 4 1)
+    -- one less
+    × Accepted level_two (Level 0 6 1)
+    -- 0 from above 1
+    × Accepted level_two (Level 0 6 0)
+    -- a session that is lost asks no end
+    × Accepted updated_lost (Level 0 6 0)
     -- known
     × FailsAt 0 nothing (Level 3 4 1)
     -- alive
     × FailsAt 1 met_dead (Level 0 4 1)
-    -- near
+    -- near: it is two more
     × FailsAt 2 nothing (Level 0 4 2)
+    -- near: it is the same
+    × FailsAt 2 level_one (Level 0 5 1)
     -- ended: there is no end
     × FailsAt 3 updated (Level 0 6 0)
     -- ended: it was issued at another line
     × FailsAt 3 commit_issued (Level 0 7 0)
+    -- ended: it is that of another transaction
+    × FailsAt 3 updated_next (Level 0 6 0)
+    -- ended: it is that of another job
+    × FailsAt 3 updated_other (Level 0 6 0)
 
 -- done
 abbrev pub DoneExamples : Type 0
@@ -178,10 +216,22 @@ RefusedExamples =
     × FailsAt 3 used_no_way (RefusedAct 0 6 (Network 0 NotConnected NoWay))
     -- its_state of a reset
     × FailsAt 4 barred (RefusedAct 0 6 (Network 0 Trouble Reset))
+    -- the same
+    × FailsAt 4 barred (RefusedAct 0 6 (Network 0 Normal Reset))
+    -- the same
+    × FailsAt 4 barred (RefusedAct 0 6 (Network 0 NotConnected Reset))
     -- its_state of an expiry
     × FailsAt 4 updated_lost (RefusedAct 0 6 (Network 0 Recovery Expired))
+    -- the same
+    × FailsAt 4 updated_lost (RefusedAct 0 6 (Network 0 Normal Expired))
+    -- the same
+    × FailsAt 4 updated_lost (RefusedAct 0 6 (Network 0 NotConnected Expired))
     -- its_state of no way
     × FailsAt 4 no_way (RefusedAct 0 6 (Network 0 Normal NoWay))
+    -- the same
+    × FailsAt 4 no_way (RefusedAct 0 6 (Network 0 Trouble NoWay))
+    -- the same
+    × FailsAt 4 no_way (RefusedAct 0 6 (Network 0 Recovery NoWay))
 
 -- a transaction 255 levels deep goes no deeper
 abbrev pub TooDeepExamples : Type 0

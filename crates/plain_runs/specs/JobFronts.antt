@@ -1,14 +1,17 @@
 -- Short trails that the examples begin with: items, transactions and losses.
 use Rattle.std.specs.Prelude.{ℕ, zero, suc, pos, List, ◌+◌, ◌++◌, [], ◌∷◌}
 use Rattle.plain_orders.specs.declared.act.Act.{Act}
-use Rattle.plain_orders.specs.declared.act.Act.TheVariants.{Enter, Synced, Shut, Met, Told, Crash, Issue, Grant, Level, Broke, Tick, Lose, Died}
-use Rattle.plain_orders.specs.declared.op.Op.TheVariants.{Set, Add}
+use Rattle.plain_orders.specs.declared.act.Act.TheVariants.{Enter, Synced, Shut, Met, Told, Crash, Issue, Grant, Level, Refused as RefusedAct, Broke, Tick, Lose, Died}
+use Rattle.plain_orders.specs.declared.op.Op.TheVariants.{Set, Kill, Add}
 use Rattle.plain_orders.specs.declared.item.Item.TheVariants.{Op, Commit as CommitItem, Rollback as RollbackItem}
 use Rattle.plain_orders.specs.declared.entry.Entry.TheVariants.{Opened as OpenEntry, Update, Commit, Rollback}
 use Rattle.plain_orders.specs.declared.mode.Mode.TheVariants.{Exclusive}
 use Rattle.plain_orders.specs.declared.causes.ShutCause.TheVariants.{Replaced}
 use Rattle.plain_orders.specs.declared.causes.PairEnd.TheVariants.{App as AppEnd}
 use Rattle.plain_orders.specs.declared.causes.Loss.TheVariants.{Reset as ByReset, Expired as ByExpired, NoWay as ByNoWay}
+use Rattle.plain_orders.specs.declared.refused.Refused.TheVariants.{Network}
+use Rattle.plain_orders.specs.declared.refused.ReasonName.TheVariants.{Reset}
+use Rattle.plain_orders.specs.declared.refused.LinkName.TheVariants.{Recovery}
 use Rattle.plain_runs.specs.Fronts.{nines_text, saved, met, issued}
 use Rattle.plain_runs.specs.LockFronts.{both}
 
@@ -27,6 +30,10 @@ added_kept = added_in ++ Synced 0 3 ∷ []
 -- and the application server dies
 abbrev pub added_dead : List Act
 added_dead = added_kept ++ Died 0 ∷ []
+
+-- a kill is issued
+abbrev pub killed : List Act
+killed = met ++ Issue 0 5 0 1 (Op (Kill (120 ∷ 0 ∷ []))) ∷ []
 
 -- a letter is set
 abbrev pub letter : List Act
@@ -243,3 +250,26 @@ overtaken v =
     added_twice v
     ++ Crash 0 4 ∷ Told 1 0 3 2 4 ∷ Issue 1 5 0 1 (Op (Add (120 ∷ 0 ∷ []) (pos 1))) ∷ Enter 0 (Update 3 1 1 0 (Add (120 ∷ 0 ∷ []) (pos 1)))
     ∷ Synced 0 6 ∷ []
+
+-- a transaction goes a level deeper
+abbrev pub level_two : List Act
+level_two = level_one ++ Level 0 5 2 ∷ []
+
+-- behind its Commit the transaction has an update more
+abbrev pub updated_more : List Act
+updated_more = commit_issued ++ Issue 0 7 0 3 (Op (Set (120 ∷ 0 ∷ []) (53 ∷ []))) ∷ []
+
+-- behind its Commit another transaction has an update
+abbrev pub updated_next : List Act
+updated_next = commit_issued ++ Level 0 6 0 ∷ Level 0 7 1 ∷ Issue 0 7 0 3 (Op (Set (120 ∷ 0 ∷ []) (53 ∷ []))) ∷ []
+
+-- another job has a transaction with the same number, and a Commit of it is issued
+abbrev pub updated_other : List Act
+updated_other = updated ++ Level 2 5 1 ∷ Issue 2 5 0 2 (Op (Set (121 ∷ 0 ∷ []) (53 ∷ []))) ∷ Issue 2 6 0 3 (CommitItem 1) ∷ []
+
+-- the session of a transaction is lost, another one is met, and the job is told
+abbrev pub updated_again : List Act
+updated_again =
+    updated_in
+    ++ Shut 0 2 Replaced ∷ Synced 0 4 ∷ Lose 0 0 (ByReset 4) ∷ Enter 0 (OpenEntry 5 0) ∷ Synced 0 5 ∷ Met 0 0 5
+    ∷ RefusedAct 0 7 (Network 0 Recovery Reset) ∷ []

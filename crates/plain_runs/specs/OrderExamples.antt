@@ -1,14 +1,10 @@
 -- Examples of acts that are accepted, and of acts that are refused since one condition fails: the condition is named in front of each.
-use Rattle.std.specs.Prelude.{ℕ, List, ◌+◌, [], ◌∷◌, ◌≡◌, ◌<◌, ◌^◌, take}
+use Rattle.std.specs.Prelude.{ℕ, pos, ◌+◌, [], ◌∷◌, ◌≡◌, ◌<◌, ◌^◌}
 use Rattle.plain_orders.specs.declared.act.Act.TheVariants.{Opened, Enter, Synced, Back, Crash}
-use Rattle.plain_orders.specs.declared.op.Op.TheVariants.{Set}
-use Rattle.plain_orders.specs.declared.entry.Entry.{Entry}
+use Rattle.plain_orders.specs.declared.op.Op.TheVariants.{Set, Kill, Add}
 use Rattle.plain_orders.specs.declared.entry.Entry.TheVariants.{Epoch, Opened as OpenEntry, Closed, Update, Commit, Rollback}
-use Rattle.plain_orders.specs.Entries.{last_epoch}
-use Rattle.plain_runs.specs.Plain.{Plain}
-use Rattle.plain_runs.specs.Step.{MayCome}
-use Rattle.plain_runs.specs.Fronts.{small, Accepted, Refuses, FailsAt, nothing, epochs, opened, entered, saved, met, issued, kept, crashed, told, told_closed, issued_more, issued_closed, issued_cut, issued_told, found, many_opened}
-use Rattle.plain_runs.specs.JobFronts.{updated_in, commit_issued, commit_closed, commit_untold, commit_early, rollback_issued, rollback_closed, rollback_untold, rollback_early}
+use Rattle.plain_runs.specs.Fronts.{Accepted, FailsAt, nothing, epochs, opened, entered, saved, met, issued, kept, crashed, told, told_closed, issued_more, issued_closed, issued_cut, issued_told, found, many_opened}
+use Rattle.plain_runs.specs.JobFronts.{added, killed, updated_in, commit_issued, commit_closed, commit_untold, commit_early, rollback_issued, rollback_closed, rollback_untold, rollback_early}
 
 -- opened
 abbrev pub OpenedExamples : Type 0
@@ -18,6 +14,8 @@ OpenedExamples =
     × FailsAt 0 opened (Opened 0 [])
     -- ordered
     × FailsAt 1 nothing (Opened 0 (Epoch 2 ∷ []))
+    -- low: the last Epoch is above 2^31
+    × ((n : ℕ) → 2 ^ 31 < n → n < 2 ^ 32 → FailsAt 2 nothing (Opened 0 (epochs 0 n)))
 
 -- enter
 abbrev pub EnterExamples : Type 0
@@ -38,6 +36,8 @@ EnterExamples =
     × FailsAt 0 entered (Enter 0 (Closed 2))
     -- an update
     × Accepted issued (Enter 0 (Update 2 1 0 0 (Set (120 ∷ 0 ∷ []) (53 ∷ []))))
+    × Accepted killed (Enter 0 (Update 2 1 0 0 (Kill (120 ∷ 0 ∷ []))))
+    × Accepted added (Enter 0 (Update 2 1 0 0 (Add (120 ∷ 0 ∷ []) (pos 1))))
     -- is_live
     × FailsAt 0 issued_closed (Enter 0 (Update 2 1 0 0 (Set (120 ∷ 0 ∷ []) (53 ∷ []))))
     -- told
@@ -106,6 +106,8 @@ CrashExamples =
     × FailsAt 1 kept (Crash 0 2)
     -- within
     × FailsAt 2 kept (Crash 0 4)
+    -- low: the last Epoch that is kept is above 2^31
+    × ((n : ℕ) → n ≡ 2 ^ 31 → FailsAt 3 (many_opened n) (Crash 0 (n + 1)))
 
 -- back
 abbrev pub BackExamples : Type 0
@@ -121,13 +123,3 @@ BackExamples =
     × FailsAt 2 issued_told (Back 0)
     -- closes
     × FailsAt 3 told_closed (Back 0)
-
--- no server opens or starts again with an Epoch above 2^31
-abbrev pub EpochLimitExamples : Type 0
-EpochLimitExamples =
-    ((entries : List Entry) → 2 ^ 31 < last_epoch entries → Refuses nothing (Opened 0 entries))
-    × ((p : Plain) (kept : ℕ) → 2 ^ 31 < last_epoch (take kept (p.server_at 0).order) → MayCome small p (Crash 0 kept) → ⊥)
-    -- low of opened
-    × ((n : ℕ) → 2 ^ 31 < n → n < 2 ^ 32 → FailsAt 2 nothing (Opened 0 (epochs 0 n)))
-    -- low of crash
-    × ((n : ℕ) → n ≡ 2 ^ 31 → FailsAt 3 (many_opened n) (Crash 0 (n + 1)))

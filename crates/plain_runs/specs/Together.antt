@@ -16,19 +16,21 @@ use Rattle.plain_orders.specs.Entries.{entry_at, last_epoch, live}
 use Rattle.plain_orders.specs.Fold.{fold, is_begun}
 use Rattle.plain_orders.specs.Ordered.{IsOrdered}
 use Rattle.plain_runs.specs.Plain.{Server, app_of, order_at, pair_session, session_in, told_order}
-use Rattle.plain_runs.specs.Items.{all_stand, is_add}
+use Rattle.plain_runs.specs.Items.{all_stand, is_add, is_update_of}
 use Rattle.plain_runs.specs.EndRows.{begun_by, entered_in, place_of_epoch}
 use Rattle.plain_runs.specs.LockRows.{is_kept, is_sent_at}
 use Rattle.plain_runs.specs.JobRows.{RefusedMay, answered_entry, has_session, is_answered_item, item_at, pair_issued}
 use Rattle.plain_runs.specs.Run.{IsRun, state_after}
 use Rattle.plain_runs.specs.Laws.{server_after}
 
--- no answered hold of the job that could be given up, and no item of the job that could be answered
+-- in its pair's session no answered hold of the job that could be given up, no item of it at a place of the told order,
+-- and no update of it
 pub record NothingDone (s : Server) (app job : ℕ) : Type 0 where
   pub kept : (mode : Mode) (key : List ℕ) → list_any (is_kept (pair_session s app) job mode key) s.holds ≡ false
   pub item : (line at : ℕ) (kind : Item → Bool) → is_answered_item job line kind (item_at s app at) ≡ false
+  pub used : (txn : ℕ) → list_any (is_update_of job txn) (pair_issued s app) ≡ false
 
--- nor a sent hold, and no Close by which a session is lost
+-- none of these for any job, no sent hold, and no Close by which the session could be lost
 pub record NothingThere (s : Server) (app : ℕ) : Type 0 where
   pub done : (job : ℕ) → NothingDone s app job
   pub sent : (job at : ℕ) → list_any (is_sent_at (pair_session s app) job at) s.holds ≡ false
@@ -40,7 +42,7 @@ NoneWithoutSession =
     (layout : Layout) (acts : List Act) (d app : ℕ) → IsRun layout acts → has_session (server_after layout acts d) app ≡ false
     → NothingThere (server_after layout acts d) app
 
--- Where a job isn't there, nothing is its own.
+-- A job that isn't there did nothing of this; its pair is that of application server 0.
 abbrev pub StrangersDidNothing : Type 0
 StrangersDidNothing =
     (layout : Layout) (acts : List Act) (d job : ℕ) → IsRun layout acts → length layout.job_apps ≤ job
@@ -52,7 +54,7 @@ StrangersAreToldNothing =
     (layout : Layout) (acts : List Act) (job line : ℕ) (refusal : Refused) → IsRun layout acts → length layout.job_apps ≤ job
     → RefusedMay (state_after layout acts) job line refusal → refusal ≡ NoTransaction
 
--- Where a job is barred, nothing in its pair's session is its own.
+-- Nor did a job that is barred.
 abbrev pub BarredDidNothing : Type 0
 BarredDidNothing =
     (layout : Layout) (acts : List Act) (d job : ℕ) → IsRun layout acts → job < length layout.job_apps
@@ -83,7 +85,8 @@ AllInOrderAreTold =
     → StandsIn (server_after layout acts d) app job (take at (server_after layout acts d).order)
     → StandsIn (server_after layout acts d) app job (take at (told_order (server_after layout acts d) app))
 
--- Unless it is later, an order has no Epoch above the last of the order that a pair's session is told of.
+-- Where the last order that an Epoch began, or order 0, isn't later than the one that a pair's session is told of,
+-- it has no Epoch above that one's last.
 abbrev pub NoLaterEpoch : Type 0
 NoLaterEpoch =
     (layout : Layout) (acts : List Act) (d app session epoch : ℕ) → IsRun layout acts → ((server_after layout acts d).pair_at app).session ≡ Some session
@@ -91,7 +94,7 @@ NoLaterEpoch =
     → place_of_epoch (last_epoch (order_at (server_after layout acts d) (session_in (server_after layout acts d) session).told)) 0
     (order_at (server_after layout acts d) (begun_by (server_after layout acts d) epoch)) ≡ None
 
--- A session that was met is its pair's still, or its Open is behind a loss of its pair.
+-- Where the Open of a session that was met stands in the order, its pair has a session, or lost one since the Open.
 abbrev pub MetOnce : Type 0
 MetOnce =
     (layout : Layout) (acts : List Act) (d app session : ℕ) → IsRun layout acts → is_some ((server_after layout acts d).session_at session) ≡ true

@@ -1,5 +1,5 @@
 ghost use Rattle.plain_runs.specs.EntryExamples.{EntryExamples};
-ghost use Rattle.plain_runs.specs.OrderExamples.{BackExamples, CrashExamples, EnterExamples, EpochLimitExamples, OpenedExamples, SyncedExamples};
+ghost use Rattle.plain_runs.specs.OrderExamples.{BackExamples, CrashExamples, EnterExamples, OpenedExamples, SyncedExamples};
 ghost use Rattle.plain_runs.specs.EndExamples.{BrokeExamples, FreeActExamples, LoseExamples, MendedExamples, MetExamples, ShutExamples, ToldExamples};
 ghost use Rattle.plain_runs.specs.LockExamples.{FreeExamples, GiveUpExamples, GrantExamples, GrantedExamples, QuitExamples, ReleaseExamples};
 ghost use Rattle.plain_runs.specs.JobExamples.{DoneExamples, IssueExamples, LevelExamples, ReadExamples, RefusedExamples, TooDeepExamples};
@@ -34,11 +34,6 @@ pub fn crash_examples()
 /// Examples of back.
 pub fn back_examples()
     ensures { BackExamples }
-{}
-
-/// Examples of the limit on Epochs.
-pub fn epoch_limit_examples()
-    ensures { EpochLimitExamples }
 {}
 
 /// Examples of shut.

@@ -1,5 +1,5 @@
 ghost use Rattle.plain_runs.specs.FirstRun.{FirstRunIsRun};
-ghost use Rattle.plain_runs.specs.Conditions.{NoneIsLeftOut, NoneIsLeftOutBehind};
+ghost use Rattle.plain_runs.specs.Conditions.{FailureRefuses, FailureRefusesBehind, NoneIsLeftOut, NoneIsLeftOutBehind};
 ghost use Rattle.plain_runs.specs.Together.{AllInOrderAreTold, AnsweredIsTold, BarredDidNothing, MetOnce, NoLaterEpoch, NoneWithoutSession, OnlyAddsSum, OpenIsLive, StrangersAreToldNothing, StrangersDidNothing};
 ghost use Rattle.plain_runs.specs.Laws.{Extended, Framed, ItemsInOrder, ItemsWereIssued, NeighboursAgree, NoConflict, SeenIsTold, SeenNeverFalls, Settled, SyncedStays};
 
@@ -58,24 +58,29 @@ pub fn what_is_seen_was_told()
     ensures { SeenIsTold }
 {}
 
-/// An act may come where all its conditions hold, and an entry may follow a list where all of its own do.
+/// An act may come where all its conditions hold, and not where just one fails. The same of an entry behind a list.
 pub fn no_condition_is_left_out()
     ensures acts { NoneIsLeftOut }
     ensures entries { NoneIsLeftOutBehind }
+    ensures refused_acts { FailureRefuses }
+    ensures refused_entries { FailureRefusesBehind }
 {}
 
-/// Where a pair has no session, no hold, no item and no Close is there that an act could mean.
+/// Where a pair has no session, no act finds a hold to give up or to answer, an item to answer, an update to end,
+/// or a Close to lose the session by.
 pub fn nothing_is_there_without_a_session()
     ensures { NoneWithoutSession }
 {}
 
-/// A job that isn't there has no answered hold and no item, and is refused nothing but that it has no transaction.
+/// In its pair's session a job that isn't there has no answered hold to give up, no item at a place of the told order,
+/// and no update. It is refused nothing but that it has no transaction.
 pub fn a_job_that_is_not_there_did_nothing()
     ensures did { StrangersDidNothing }
     ensures told { StrangersAreToldNothing }
 {}
 
-/// A job that is barred has no answered hold and no item in its pair's session.
+/// In its pair's session a barred job has no answered hold to give up, no item at a place of the told order,
+/// and no update.
 pub fn a_barred_job_did_nothing()
     ensures { BarredDidNothing }
 {}
@@ -91,12 +96,13 @@ pub fn what_is_answered_was_told()
     ensures reached { AllInOrderAreTold }
 {}
 
-/// Only a later order has an Epoch above the last of the order that a session is told of.
+/// Where the last order that an Epoch began, or order 0, isn't later than the one that a pair's session is told of,
+/// it has no Epoch above that one's last.
 pub fn only_a_later_order_has_a_later_epoch()
     ensures { NoLaterEpoch }
 {}
 
-/// A session that was met is its pair's still, or its Open is behind a loss of its pair.
+/// Where the Open of a session that was met stands in the order, its pair has a session, or lost one since the Open.
 pub fn a_session_is_met_once()
     ensures { MetOnce }
 {}

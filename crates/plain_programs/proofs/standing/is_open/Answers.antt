@@ -1,5 +1,5 @@
 use Rattle.plain_orders.specs.Fold.{nothing_folded}
-use Rattle.plain_programs.proofs.BegunLemmas.{begun-from}
+use Rattle.plain_orders.proofs.BegunLemmas.{begun-from}
 use Rattle.plain_programs.proofs.standing.is_open.Goals as goal
 
 pub loop-entry-init : goal.loop-entry-init

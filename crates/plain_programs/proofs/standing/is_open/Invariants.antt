@@ -1,6 +1,6 @@
 use Rattle.std.proofs.Common.{◌≡◌, drop}
 use Rattle.plain_orders.specs.Fold.{fold, is_begun}
-use Rattle.plain_programs.proofs.BegunLemmas.{begun_from}
+use Rattle.plain_orders.proofs.BegunLemmas.{begun_from}
 use Rattle.plain_programs.proofs.standing.is_open.Given as goal
 
 abbrev pub invariant-loop-entry : goal.invariant-loop-entry
