@@ -10,8 +10,8 @@ use Rattle.outer_link.specs.Changed.{changed}
 use Rattle.outer_link.specs.declared.connection.Connection.{Connection}
 use Rattle.outer_link.specs.declared.data_server.Pair.{Pair}
 use Rattle.outer_link.specs.ServerState.{ServerState, fresh_pair, fresh_server, reach_of, has_cut, joined_pair, shut_server, parted_server, joined_server}
-use Rattle.outer_link.specs.TableState.{IsKept, CutsWithin, SeesNone, NoneWaits, conn_told, told_of, fresh_told, is_cut_together}
-use Rattle.outer_link.specs.Told.{ConnTold, ServerTold, Told, is_waiting, cut_where, is_of_server, is_of_pair, with_listening, with_parted, fresh_conn, conn_with, conn_without, coming, undelivered, is_cut_at, is_parted, after_take, after_listen, after_shut, after_part, after_join, after_connect, after_put}
+use Rattle.outer_link.specs.TableState.{IsKept, CutsWithin, SeesNone, NoneWaits, conn_told, told_of, is_cut_together}
+use Rattle.outer_link.specs.Told.{ConnTold, ServerTold, Told, is_waiting, cut_where, is_of_server, is_of_pair, with_listening, with_parted, fresh_conn, fresh_told, conn_with, conn_without, coming, undelivered, is_cut_at, is_parted, after_take, after_listen, after_shut, after_part, after_join, after_connect, after_put}
 use Rattle.outer_link.specs.Lines.{fresh_lines, left, line_to, put_into, taken_from}
 use Rattle.outer_link.specs.declared.end.End.TheVariants.{App, Server}
 use Rattle.outer_link.specs.declared.end.End.{End}
@@ -176,12 +176,15 @@ told_see servers conns s k v at =
     ∙ changed_same (λ r. r) s (map reach_of servers) (reach_of v) (rw (slice_get-map reach_of servers s, at) refl) refl)
 
 -- a new table
-all_fresh : (n : ℕ) (s : ServerState) → map reach_of (replicate n s) ≡ replicate n (reach_of s)
-all_fresh zero s = refl
-all_fresh (suc n) s = ap (λ xs. reach_of s ∷ xs) (all_fresh n s)
+map_replicate : {A B : Type 0} → (f : A → B) (n : ℕ) (x : A) → map f (replicate n x) ≡ replicate n (f x)
+map_replicate f zero x = refl
+map_replicate f (suc n) x = ap (λ xs. f x ∷ xs) (map_replicate f n x)
 
 pub told_fresh : (apps servers : ℕ) → told_of (replicate servers (fresh_server apps)) [] ≡ fresh_told apps servers
-told_fresh apps servers = same_told refl (all_fresh servers (fresh_server apps))
+told_fresh apps servers =
+    same_told refl
+    (map_replicate reach_of servers (fresh_server apps)
+    ∙ ap (λ ps. replicate servers (let x : ServerTold = record { listens = false; parted = ps } in x)) (map_replicate (λ (p : Pair). p.parted) apps fresh_pair))
 
 -- a new connection, behind all others, is not cut
 unmarked : (servers : List ServerState) (c : Connection) (made : ℕ) → All (CutsWithin made) servers → c.made ≡ made → is_cut_together servers c ≡ false

@@ -1,11 +1,11 @@
 -- The table of connections of the net in memory.
-use Rattle.std.specs.Prelude.{ℕ, ◌≡◌, ◌<◌, ◌≤◌, ◌^◌, List, [], map, take, length, min, slice_get, replicate, All, Bool, false, Some, nat_lt, ◌||◌, if◌then◌else◌}
+use Rattle.std.specs.Prelude.{ℕ, ◌≡◌, ◌<◌, ◌≤◌, ◌^◌, List, map, take, length, min, slice_get, All, Bool, false, Some, nat_lt, ◌||◌, if◌then◌else◌}
 use Rattle.std.specs.Option.{option_map_or}
 use Rattle.outer_link.specs.declared.connection.Connection.{Connection}
 use Rattle.outer_link.specs.declared.end.End.{End}
 use Rattle.outer_link.specs.declared.moved.Took.{Took}
 use Rattle.outer_link.specs.declared.moved.Took.TheVariants.{Bytes, NotNow, Ended}
-use Rattle.outer_link.specs.ServerState.{ServerState, fresh_server, reach_of, has_cut}
+use Rattle.outer_link.specs.ServerState.{ServerState, reach_of, has_cut}
 use Rattle.outer_link.specs.Told.{ConnTold, Told, is_cut_at, is_waiting, undelivered}
 
 -- how many application servers there are, and what stands on the connections
@@ -29,10 +29,6 @@ conn_told servers c = record {
 
 abbrev pub told_of : List ServerState → List Connection → Told
 told_of servers conns = record { conns = map (conn_told servers) conns; servers = map reach_of servers }
-
--- no connection was made, and no data server listens
-abbrev pub fresh_told : ℕ → ℕ → Told
-fresh_told apps servers = record { conns = []; servers = replicate servers (reach_of (fresh_server apps)) }
 
 -- none of the connections waits for this data server
 abbrev pub NoneWaits : ℕ → List ConnTold → Type 0

@@ -1,5 +1,5 @@
 -- What stands on the connections of a net that tells.
-use Rattle.std.specs.Prelude.{ℕ, List, [], ◌∷◌, ◌++◌, map, slice_get, slice_set, Bool, true, false, not, ◌&&◌, ◌||◌, ◌==◌, unwrap_or, if◌then◌else◌}
+use Rattle.std.specs.Prelude.{ℕ, List, [], ◌∷◌, ◌++◌, map, replicate, slice_get, slice_set, Bool, true, false, not, ◌&&◌, ◌||◌, ◌==◌, unwrap_or, if◌then◌else◌}
 use Rattle.std.specs.Option.{option_map_or}
 use Rattle.outer_link.specs.declared.end.End.{End}
 use Rattle.outer_link.specs.Changed.{changed}
@@ -22,6 +22,14 @@ pub record ServerTold : Type 0 where
 pub record Told : Type 0 where
   pub conns : List ConnTold
   pub servers : List ServerTold
+
+-- a data server that doesn't listen, apart from none of so many application servers
+abbrev pub fresh_reach : ℕ → ServerTold
+fresh_reach apps = record { listens = false; parted = replicate apps false }
+
+-- no connection was made, and no data server listens
+abbrev pub fresh_told : ℕ → ℕ → Told
+fresh_told apps servers = record { conns = []; servers = replicate servers (fresh_reach apps) }
 
 -- the bytes to be taken at this end; a connection that is cut has lost them
 abbrev pub coming : End → ConnTold → List ℕ

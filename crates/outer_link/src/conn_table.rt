@@ -1,8 +1,8 @@
 ghost use Rattle.std.specs.Prelude.{◌≡◌, ◌<◌, ◌≤◌, ◌^◌, true, false, None, min, length, take, position, replicate, IfOk, OnOk, IfNone, OnErr};
 ghost use Rattle.outer_link.specs.Net.{AcceptedAs, TookAs};
 ghost use Rattle.outer_link.specs.ServerState.{fresh_server};
-ghost use Rattle.outer_link.specs.TableState.{conn_told, fresh_told, NoneWaits, answer_to_take};
-ghost use Rattle.outer_link.specs.Told.{is_cut_at, is_open, is_parted, is_waiting, undelivered, after_listen, after_shut, after_part, after_join, after_connect, after_accept, after_put, after_take, after_cut};
+ghost use Rattle.outer_link.specs.TableState.{conn_told, NoneWaits, answer_to_take};
+ghost use Rattle.outer_link.specs.Told.{fresh_told, is_cut_at, is_open, is_parted, is_waiting, undelivered, after_listen, after_shut, after_part, after_join, after_connect, after_accept, after_put, after_take, after_cut};
 
 use crate::connection::Connection;
 use crate::data_server::DataServer;

@@ -3,7 +3,7 @@ ghost use Rattle.outer_io.specs.Plan.{is_due};
 ghost use Rattle.outer_io.specs.Told.{fresh_plan};
 ghost use Rattle.outer_link.specs.Counts.{NoneFell, no_counts, with_fault};
 ghost use Rattle.outer_link.specs.NetState.{called};
-ghost use Rattle.outer_link.specs.TableState.{fresh_told};
+ghost use Rattle.outer_link.specs.Told.{fresh_told};
 
 use crate::conn_table::ConnTable;
 use crate::end::End;
