@@ -12,3 +12,4 @@ pub mod Fronts
 pub mod NodeLaws
 pub mod NodeSpellings
 pub mod NumberAgreement
+pub mod OneFault

@@ -15,7 +15,7 @@ use Rattle.global_text.specs.declared.text_error.TextError.{TextError}
 use Rattle.global_text.specs.declared.text_error.TextError.TheVariants.{NoCaret, BadName, BadSubscript, Unclosed, KeyTooLong, BadValue, ValueTooLong, Memory}
 use Rattle.global_text.specs.Numbers.{BeginsOtherwise, is_number_byte}
 use Rattle.global_text.specs.Strings.{ReadsString, IsLineEnd}
-use Rattle.global_text.specs.Nodes.{sub_string, goes_on, room_behind, ReadsSub, ReadsSubs, key_length, ReadsParts, ReadsNode}
+use Rattle.global_text.specs.Nodes.{sub_string, extends_name, room_behind, ReadsSub, ReadsSubs, key_length, ReadsParts, ReadsNode}
 use Rattle.global_text.specs.Faults.{HasSubFault, HasMarkFault, HasListFault, HasNodeFault, IsMemory}
 use Rattle.global_text.proofs.ItemLaws.{apart}
 use Rattle.global_text.proofs.NumberTokens.{one-span, number-bytes, number-some}
@@ -58,7 +58,7 @@ within-room key (Num d) p h = omega (arith, number-short (decimal_text d) (text_
 within-room key (Text t) p h = omega (arith, text-length t, escaped-longer t)
 
 -- a string doesn't begin where the line ends
-string-no-end : (s text rest : List ℕ) → ReadsString s text rest → IsLineEnd text → ⊥
+pub string-no-end : (s text rest : List ℕ) → ReadsString s text rest → IsLineEnd text → ⊥
 string-no-end s [] rest (inl (is, e, n)) end = absurd (omega (arith, number-some s is, ap length e, length-append s rest))
 string-no-end [] (c ∷ text) rest (inl (is, e, n)) end = absurd (omega (arith, number-some [] is))
 string-no-end (b ∷ s) (c ∷ text) rest (inl (is, e, n)) end =
@@ -101,7 +101,7 @@ list-no-fault key (f ∷ front) (s ∷ subs) last list place rest at error (afte
     (subst (λ (k : ℕ). HasSubFault k at error) (omega (arith, length-append (sub_bytes s) (subs_bytes subs), ap (λ x. length (sub_bytes x)) same.0)) fault)
 
 -- a comma or a closing parenthesis is no fault
-mark-no-fault : (c : ℕ) (rest at : List ℕ) (error : TextError) → at ≡ c ∷ rest → ((c ≡ 41) ⊎ (c ≡ 44)) → HasMarkFault at error → ⊥
+pub mark-no-fault : (c : ℕ) (rest at : List ℕ) (error : TextError) → at ≡ c ∷ rest → ((c ≡ 41) ⊎ (c ≡ 44)) → HasMarkFault at error → ⊥
 mark-no-fault c rest [] error e k fault = cc
 mark-no-fault c rest (b ∷ at) Unclosed e k fault =
     let same : c ≡ 10 = let h : b ≡ c = cc in sym h ∙ fault in
@@ -147,10 +147,10 @@ one-list (f ∷ front) (x ∷ subs) last s list place rest at behind (after, fir
     let rest' = one-list front subs last s after place rest at behind more is (subst (λ (t : List ℕ). ReadsSubs subs t at) (sym tails) others) it in
     (ap (λ l. f ∷ l) rest'.0 ∙ ap (λ x. x ∷ (subs ++ s ∷ [])) same.0, rest'.1)
 
-paren-ends : (list : List ℕ) → BeginsOtherwise is_ascii_alphanumeric (40 ∷ list)
+pub paren-ends : (list : List ℕ) → BeginsOtherwise is_ascii_alphanumeric (40 ∷ list)
 paren-ends list = λ t. false≢true t
 
-whole-name : (rest : List ℕ) → BeginsOtherwise goes_on rest → BeginsOtherwise is_ascii_alphanumeric rest
+whole-name : (rest : List ℕ) → BeginsOtherwise extends_name rest → BeginsOtherwise is_ascii_alphanumeric rest
 whole-name [] n = tt
 whole-name (c ∷ rest) n = λ t. n (or_left-true (is_ascii_alphanumeric c) (c == 40) t)
   where
@@ -158,11 +158,11 @@ whole-name (c ∷ rest) n = λ t. n (or_left-true (is_ascii_alphanumeric c) (c =
     or_left-true true y e = refl
     or_left-true false y e = absurd (false≢true e)
 
-no-paren : (rest list : List ℕ) → BeginsOtherwise goes_on rest → rest ≡ 40 ∷ list → ⊥
+no-paren : (rest list : List ℕ) → BeginsOtherwise extends_name rest → rest ≡ 40 ∷ list → ⊥
 no-paren [] list n e = cc
-no-paren (c ∷ rest) list n e = let h : c ≡ 40 = cc in n (ap goes_on h)
+no-paren (c ∷ rest) list n e = let h : c ≡ 40 = cc in n (ap extends_name h)
 
-one-name : (name other text rest behind : List ℕ) → IsName name → IsName other → BeginsOtherwise is_ascii_alphanumeric rest → BeginsOtherwise is_ascii_alphanumeric behind → text ≡ 94 ∷ (name ++ rest) → text ≡ 94 ∷ (other ++ behind) → (name ≡ other) × (rest ≡ behind)
+pub one-name : (name other text rest behind : List ℕ) → IsName name → IsName other → BeginsOtherwise is_ascii_alphanumeric rest → BeginsOtherwise is_ascii_alphanumeric behind → text ≡ 94 ∷ (name ++ rest) → text ≡ 94 ∷ (other ++ behind) → (name ≡ other) × (rest ≡ behind)
 one-name name other text rest behind is it n m e k =
     let same : name ++ rest ≡ other ++ behind = cc in
     one-span is_ascii_alphanumeric name other rest behind (name-every name is) (name-every other it) n m same
@@ -194,7 +194,7 @@ parts-name : (name text rest : List ℕ) (subs : List Sub) → ReadsParts name s
 parts-name name text rest subs (inl (none, (is, e, n))) = (rest, is, whole-name rest n, e)
 parts-name name text rest subs (inr read) = (40 ∷ read.last.3.listed.0, read.last.3.named, paren-ends read.last.3.listed.0, read.last.3.listed.2)
 
-no-caret : (text rest : List ℕ) → BeginsOtherwise (λ b. b == 94) text → text ≡ 94 ∷ rest → ⊥
+pub no-caret : (text rest : List ℕ) → BeginsOtherwise (λ b. b == 94) text → text ≡ 94 ∷ rest → ⊥
 no-caret [] rest n e = cc
 no-caret (c ∷ text) rest n e = let h : c ≡ 94 = cc in n (ap (λ x. x == 94) h)
 

@@ -12,7 +12,7 @@ use Rattle.subscript_keys.specs.Key.{subs_bytes, HasForm, IsName}
 use Rattle.subscript_keys.proofs.NumberTexts.{text_is_canonical}
 use Rattle.global_text.specs.Numbers.{BeginsOtherwise, is_number_byte}
 use Rattle.global_text.specs.Strings.{ReadsString}
-use Rattle.global_text.specs.Nodes.{sub_string, goes_on, ReadsSub, ReadsSubs, key_length, ReadsParts, ReadsNode, sub_text, more_subs_text, subs_text, node_text, HasBytes}
+use Rattle.global_text.specs.Nodes.{sub_string, extends_name, ReadsSub, ReadsSubs, key_length, ReadsParts, ReadsNode, sub_text, more_subs_text, subs_text, node_text, HasBytes}
 use Rattle.global_text.proofs.NumberSpellings.{number-of-any}
 use Rattle.global_text.proofs.PrintedReads.{quoted-read}
 use Rattle.global_text.proofs.KeyLengths.{subs-length}
@@ -97,10 +97,10 @@ list-read s (t ∷ subs) rest p q =
     }
 
 -- a printed node is read back
-pub printed-node : (node : Node) (rest : List ℕ) → IsName node.name → AllByRecursion HasForm node.subs → AllByRecursion HasBytes node.subs → key_length node.name node.subs ≤ 500 → BeginsOtherwise goes_on rest → ReadsNode node (node_text node ++ rest) rest
+pub printed-node : (node : Node) (rest : List ℕ) → IsName node.name → AllByRecursion HasForm node.subs → AllByRecursion HasBytes node.subs → key_length node.name node.subs ≤ 500 → BeginsOtherwise extends_name rest → ReadsNode node (node_text node ++ rest) rest
 printed-node node rest is forms bytes within n = printed node.name node.subs rest is forms bytes within n
   where
-    printed : (name : List ℕ) (subs : List Sub) (rest : List ℕ) → IsName name → AllByRecursion HasForm subs → AllByRecursion HasBytes subs → key_length name subs ≤ 500 → BeginsOtherwise goes_on rest → ReadsParts name subs ((94 ∷ (name ++ subs_text subs)) ++ rest) rest
+    printed : (name : List ℕ) (subs : List Sub) (rest : List ℕ) → IsName name → AllByRecursion HasForm subs → AllByRecursion HasBytes subs → key_length name subs ≤ 500 → BeginsOtherwise extends_name rest → ReadsParts name subs ((94 ∷ (name ++ subs_text subs)) ++ rest) rest
     printed name [] rest is forms bytes within n = inl (refl, (is, ap (λ x. 94 ∷ (x ++ rest)) (append-nil name), n))
     printed name (s ∷ subs) rest is forms bytes within n =
         let read = list-read s subs rest forms bytes in

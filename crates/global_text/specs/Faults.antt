@@ -85,3 +85,7 @@ HasNodeFault text KeyTooLong = HasListFault text KeyTooLong
 HasNodeFault text (NoMemory error) = Unit {0}
 HasNodeFault text BadValue = ⊥
 HasNodeFault text ValueTooLong = ⊥
+
+-- two refusals are one, but for want of memory
+abbrev pub AreOne : TextError → TextError → Type 0
+AreOne error other = IsMemory error ⊎ (IsMemory other ⊎ (error ≡ other))

@@ -43,13 +43,13 @@ pub record BehindSub (text name : List ℕ) (subs : List Sub) (rest : List ℕ) 
   pub last : (front : List Sub) × (sub : Sub) × (place : List ℕ) × BeforeSub text name front place × ReadsSub sub place rest × (subs ≡ front ++ sub ∷ [])
   pub within : key_length name subs ≤ 500
 
--- a byte that would belong to a name or begin its subscripts
-abbrev pub goes_on : ℕ → Bool
-goes_on b = is_ascii_alphanumeric b || b == 40
+-- a byte that makes a name longer or begins its subscripts
+abbrev pub extends_name : ℕ → Bool
+extends_name b = is_ascii_alphanumeric b || b == 40
 
 -- a name alone: all letters and digits that follow belong to it, and no parenthesis stands behind
 abbrev pub ReadsName : List ℕ → List ℕ → List ℕ → Type 0
-ReadsName name text rest = IsName name × (text ≡ 94 ∷ (name ++ rest)) × BeginsOtherwise goes_on rest
+ReadsName name text rest = IsName name × (text ≡ 94 ∷ (name ++ rest)) × BeginsOtherwise extends_name rest
 
 -- a text begins with a spelling of the node with this name and these subscripts, and rest follows
 abbrev pub ReadsParts : List ℕ → List Sub → List ℕ → List ℕ → Type 0
