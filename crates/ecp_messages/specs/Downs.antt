@@ -1,0 +1,1 @@
+-- The table of the messages from a data server to an application server.

@@ -1,0 +1,24 @@
+//! The messages between an application server and a data server, and their bytes. A frame has its number, the
+//! count of what was taken from the other end, and one message: its kind and its fields, which one table for each
+//! direction states. Bytes of a frame are read in one way or refused for one cause, and a frame has one
+//! spelling: `messages_have_one_spelling`.
+#![tactic(auto)]
+
+mod about;
+mod block_part;
+mod decoder;
+mod down;
+mod field_takers;
+mod front;
+mod head;
+mod message_error;
+mod up;
+mod up_taker;
+
+pub use about::About;
+pub use block_part::BlockPart;
+pub use decoder::decode_up;
+pub use down::{Down, DownFrame};
+pub use front::Front;
+pub use message_error::MessageError;
+pub use up::{Up, UpFrame};
