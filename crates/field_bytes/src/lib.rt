@@ -10,6 +10,8 @@ mod list_fields;
 mod number_fields;
 mod one_spelling;
 mod op_fields;
+#[cfg(test)]
+mod tests;
 
 pub use key_fields::take_key;
 pub use list_fields::{put_list, take_list};

@@ -1,0 +1,3 @@
+pub mod BlockLengths
+pub mod OneRun
+pub mod RunReads
