@@ -1,7 +1,7 @@
 -- Rows of the tables of messages: a kind, whether it is numbered, and fields.
-use Rattle.std.specs.Prelude.{◌≡◌, ℕ, ◌≤◌, List, [], ◌∷◌, ◌++◌, length, ℤ, Bool, true, false}
+use Rattle.std.specs.Prelude.{◌≡◌, ℕ, ◌≤◌, List, [], ◌∷◌, ◌++◌, length, ℤ, pos, Bool, true, false, IsTrue}
 use Rattle.std.specs.List.{AllByRecursion}
-use Rattle.std.specs.Ordering.{nat_cmp}
+use Rattle.std.specs.Ordering.{nat_cmp, int_eq}
 use Rattle.std.specs.Cmp.Lexicographic.{slice_cmp}
 use Rattle.std.specs.declared.cmp.Ordering.TheVariants.{Less}
 use Rattle.field_bytes.specs.Fields.{u8_bytes, u16_bytes, u32_bytes, u64_bytes, i64_bytes, list_bytes, op_bytes, IsU8, IsU16, IsU32, IsU64, IsI64, IsShortList, IsKeyField, IsOpField}
@@ -127,11 +127,24 @@ abbrev pub fields_bytes : List Field → List ℕ
 fields_bytes [] = []
 fields_bytes (f ∷ fs) = field_bytes f ++ fields_bytes fs
 
--- a row: the kind, whether the message is numbered, and its fields
+-- a row: the kind, whether the message is numbered, its fields, and whether it keeps the table's rule on sums
 pub record Row : Type 0 where
   pub kind : ℕ
   pub numbered : Bool
   pub fields : List Field
+  pub sum_kept : Bool
+
+-- rows with no sum
+abbrev pub unnumbered : ℕ → List Field → Row
+unnumbered kind fields = record { kind = kind; numbered = false; fields = fields; sum_kept = true }
+
+abbrev pub numbered : ℕ → List Field → Row
+numbered kind fields = record { kind = kind; numbered = true; fields = fields; sum_kept = true }
+
+-- a sum other than 0 is told only of what was counted
+abbrev pub keeps_sum : About → ℤ → Bool
+keeps_sum Counted sum = true
+keeps_sum about sum = int_eq sum (pos 0)
 
 -- a message: its kind, then its fields
 abbrev pub row_bytes : Row → List ℕ
@@ -150,9 +163,10 @@ abbrev pub HasSeq : Bool → ℕ → Type 0
 HasSeq true seq = 1 ≤ seq
 HasSeq false seq = seq ≡ 0
 
--- a frame whose number and fields are within their ranges
+-- a frame whose number, fields and sum are as the table asks
 pub record IsFrame (seq ack : ℕ) (row : Row) : Type 0 where
   pub seq_fits : IsU64 seq
   pub ack_fits : IsU64 ack
   pub numbered : HasSeq row.numbered seq
   pub fields : AllByRecursion IsField row.fields
+  pub sum : IsTrue row.sum_kept

@@ -1,16 +1,10 @@
 -- The table of the messages from an application server to a data server.
-use Rattle.std.specs.Prelude.{◌≢◌, ℕ, ◌≤◌, List, [], ◌∷◌, length, true, false, slice_index}
+use Rattle.std.specs.Prelude.{ℕ, List, [], ◌∷◌}
 use Rattle.ecp_messages.specs.declared.up.Up.{Up}
 use Rattle.ecp_messages.specs.declared.up.Up.TheVariants.{Hello, Recover, Update, Add, Fetch, Ask, Unlock, Cancel, Commit, Rollback, Sync, Done, Claim, Bare}
 use Rattle.ecp_messages.specs.declared.up.UpFrame.{UpFrame}
-use Rattle.ecp_messages.specs.Rows.{Field, Row, IsFrame, frame_bytes}
+use Rattle.ecp_messages.specs.Rows.{Row, IsFrame, frame_bytes, numbered, unnumbered}
 use Rattle.ecp_messages.specs.Rows.Field.{Version, U8, U16, U32, U64, I64, Count, Held, Wanted, Key, Sought, Change}
-
-abbrev unnumbered : ℕ → List Field → Row
-unnumbered kind fields = record { kind = kind; numbered = false; fields = fields }
-
-abbrev numbered : ℕ → List Field → Row
-numbered kind fields = record { kind = kind; numbered = true; fields = fields }
 
 -- the table
 abbrev pub up_row : Up → Row
@@ -36,12 +30,3 @@ up_frame_bytes f = frame_bytes f.seq f.ack (up_row f.message)
 -- a well-formed frame
 abbrev pub IsUpFrame : UpFrame → Type 0
 IsUpFrame f = IsFrame f.seq f.ack (up_row f.message)
-
--- no message of the table has that kind
-abbrev pub IsUnknownUpKind : ℕ → Type 0
-IsUnknownUpKind kind = (m : Up) → (up_row m).kind ≢ kind
-
--- the 17th byte is no kind of the table
-pub record HasUnknownUpKind (body : List ℕ) : Type 0 where
-  pub room : 17 ≤ length body
-  pub unknown : IsUnknownUpKind (slice_index body 16)

@@ -1,3 +1,6 @@
+ghost use Rattle.std.specs.Prelude.{◌≡◌};
+ghost use Rattle.ecp_messages.specs.Downs.{down_row};
+
 use crate::about::About;
 use crate::block_part::BlockPart;
 use crate::front::Front;
@@ -11,9 +14,7 @@ pub enum Down {
         session: u64,
         epoch: u32,
         kept: u64,
-        n: u64,
-        w: u64,
-        s: u64,
+        front: Front,
         taken: u64,
     },
     /// The session is given up; `at` is the position of its Close.
@@ -53,6 +54,18 @@ pub enum Down {
     },
     /// Nothing but the count of what was taken.
     Bare,
+}
+
+impl Down {
+    /// Whether the message is numbered.
+    pub fn is_numbered(&self) -> bool
+        ensures { result ≡ (down_row self.now).numbered }
+    {
+        match self {
+            Down::Welcome { .. } | Down::Reset { .. } | Down::Bare => false,
+            _ => true,
+        }
+    }
 }
 
 /// A frame from a data server to an application server.

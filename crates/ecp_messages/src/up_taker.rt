@@ -1,7 +1,7 @@
 ghost use Rattle.std.specs.Prelude.{◌≡◌, ◌≢◌, Err, IfOk, IfSome, IfNone};
 ghost use Rattle.ecp_messages.specs.declared.up.Up.{Up};
-ghost use Rattle.ecp_messages.specs.Ups.{IsUnknownUpKind};
-ghost use Rattle.ecp_messages.specs.Taking.{IsUpAhead, NoUpAhead};
+ghost use Rattle.ecp_messages.specs.Ups.{up_row};
+ghost use Rattle.ecp_messages.specs.Taking.{IsAhead, IsUnknown, NoMessage};
 
 use crate::field_takers::{
     take_change, take_count, take_mode, take_sought, take_version, take_wanted,
@@ -12,10 +12,10 @@ use field_bytes::{take_i64, take_key, take_u8, take_u16, take_u32, take_u64};
 use std::alloc::{AllocError, Global};
 
 /// A Hello behind its kind.
-#[tactic(auto, using(crate::proofs::UpTaken::no_message))]
+#[tactic(auto, using(crate::proofs::UpTable::no_message))]
 fn take_hello(bytes: &[u8]) -> Option<(Up, &[u8])>
-    ensures some { IfSome result (λ got. IsUpAhead 0x01 bytes.now got.0 got.1.now) }
-    ensures none { IfNone result (NoUpAhead 0x01 bytes.now) }
+    ensures some { IfSome result (λ got. IsAhead up_row 0x01 bytes.now got.0 got.1.now) }
+    ensures none { IfNone result (NoMessage up_row 0x01 bytes.now) }
 {
     let rest = take_version(bytes)?;
     let (app, rest) = take_u8(rest)?;
@@ -24,10 +24,10 @@ fn take_hello(bytes: &[u8]) -> Option<(Up, &[u8])>
 }
 
 /// A Recover behind its kind.
-#[tactic(auto, using(crate::proofs::UpTaken::no_message))]
+#[tactic(auto, using(crate::proofs::UpTable::no_message))]
 fn take_recover(bytes: &[u8]) -> Option<(Up, &[u8])>
-    ensures some { IfSome result (λ got. IsUpAhead 0x02 bytes.now got.0 got.1.now) }
-    ensures none { IfNone result (NoUpAhead 0x02 bytes.now) }
+    ensures some { IfSome result (λ got. IsAhead up_row 0x02 bytes.now got.0 got.1.now) }
+    ensures none { IfNone result (NoMessage up_row 0x02 bytes.now) }
 {
     let (app, rest) = take_u8(bytes)?;
     let (session, rest) = take_u64(rest)?;
@@ -45,11 +45,11 @@ fn take_recover(bytes: &[u8]) -> Option<(Up, &[u8])>
 }
 
 /// An Update behind its kind.
-#[tactic(auto, using(crate::proofs::UpTaken::no_message))]
+#[tactic(auto, using(crate::proofs::UpTable::no_message))]
 fn take_update(alloc: Global, bytes: &[u8]) -> Result<Option<(Up, &[u8])>, AllocError>
     ensures some { IfOk result (λ taken. IfSome taken (λ got.
-        IsUpAhead 0x03 bytes.now got.0 got.1.now)) }
-    ensures none { IfOk result (λ taken. IfNone taken (NoUpAhead 0x03 bytes.now)) }
+        IsAhead up_row 0x03 bytes.now got.0 got.1.now)) }
+    ensures none { IfOk result (λ taken. IfNone taken (NoMessage up_row 0x03 bytes.now)) }
 {
     let Some((w, rest)) = take_u64(bytes) else {
         return Ok(None);
@@ -67,11 +67,11 @@ fn take_update(alloc: Global, bytes: &[u8]) -> Result<Option<(Up, &[u8])>, Alloc
 }
 
 /// An Add behind its kind.
-#[tactic(auto, using(crate::proofs::UpTaken::no_message))]
+#[tactic(auto, using(crate::proofs::UpTable::no_message))]
 fn take_add(alloc: Global, bytes: &[u8]) -> Result<Option<(Up, &[u8])>, AllocError>
     ensures some { IfOk result (λ taken. IfSome taken (λ got.
-        IsUpAhead 0x04 bytes.now got.0 got.1.now)) }
-    ensures none { IfOk result (λ taken. IfNone taken (NoUpAhead 0x04 bytes.now)) }
+        IsAhead up_row 0x04 bytes.now got.0 got.1.now)) }
+    ensures none { IfOk result (λ taken. IfNone taken (NoMessage up_row 0x04 bytes.now)) }
 {
     let Some((w, rest)) = take_u64(bytes) else {
         return Ok(None);
@@ -95,11 +95,11 @@ fn take_add(alloc: Global, bytes: &[u8]) -> Result<Option<(Up, &[u8])>, AllocErr
 }
 
 /// A Fetch behind its kind.
-#[tactic(auto, using(crate::proofs::UpTaken::no_message))]
+#[tactic(auto, using(crate::proofs::UpTable::no_message))]
 fn take_fetch(alloc: Global, bytes: &[u8]) -> Result<Option<(Up, &[u8])>, AllocError>
     ensures some { IfOk result (λ taken. IfSome taken (λ got.
-        IsUpAhead 0x05 bytes.now got.0 got.1.now)) }
-    ensures none { IfOk result (λ taken. IfNone taken (NoUpAhead 0x05 bytes.now)) }
+        IsAhead up_row 0x05 bytes.now got.0 got.1.now)) }
+    ensures none { IfOk result (λ taken. IfNone taken (NoMessage up_row 0x05 bytes.now)) }
 {
     let Some((key, rest)) = take_sought(alloc, bytes)? else {
         return Ok(None);
@@ -108,11 +108,11 @@ fn take_fetch(alloc: Global, bytes: &[u8]) -> Result<Option<(Up, &[u8])>, AllocE
 }
 
 /// An Ask behind its kind.
-#[tactic(auto, using(crate::proofs::UpTaken::no_message))]
+#[tactic(auto, using(crate::proofs::UpTable::no_message))]
 fn take_ask(alloc: Global, bytes: &[u8]) -> Result<Option<(Up, &[u8])>, AllocError>
     ensures some { IfOk result (λ taken. IfSome taken (λ got.
-        IsUpAhead 0x06 bytes.now got.0 got.1.now)) }
-    ensures none { IfOk result (λ taken. IfNone taken (NoUpAhead 0x06 bytes.now)) }
+        IsAhead up_row 0x06 bytes.now got.0 got.1.now)) }
+    ensures none { IfOk result (λ taken. IfNone taken (NoMessage up_row 0x06 bytes.now)) }
 {
     let Some((ticket, rest)) = take_u32(bytes) else {
         return Ok(None);
@@ -136,11 +136,11 @@ fn take_ask(alloc: Global, bytes: &[u8]) -> Result<Option<(Up, &[u8])>, AllocErr
 }
 
 /// An Unlock behind its kind.
-#[tactic(auto, using(crate::proofs::UpTaken::no_message))]
+#[tactic(auto, using(crate::proofs::UpTable::no_message))]
 fn take_unlock(alloc: Global, bytes: &[u8]) -> Result<Option<(Up, &[u8])>, AllocError>
     ensures some { IfOk result (λ taken. IfSome taken (λ got.
-        IsUpAhead 0x07 bytes.now got.0 got.1.now)) }
-    ensures none { IfOk result (λ taken. IfNone taken (NoUpAhead 0x07 bytes.now)) }
+        IsAhead up_row 0x07 bytes.now got.0 got.1.now)) }
+    ensures none { IfOk result (λ taken. IfNone taken (NoMessage up_row 0x07 bytes.now)) }
 {
     let Some((job, rest)) = take_u16(bytes) else {
         return Ok(None);
@@ -155,20 +155,20 @@ fn take_unlock(alloc: Global, bytes: &[u8]) -> Result<Option<(Up, &[u8])>, Alloc
 }
 
 /// A Cancel behind its kind.
-#[tactic(auto, using(crate::proofs::UpTaken::no_message))]
+#[tactic(auto, using(crate::proofs::UpTable::no_message))]
 fn take_cancel(bytes: &[u8]) -> Option<(Up, &[u8])>
-    ensures some { IfSome result (λ got. IsUpAhead 0x08 bytes.now got.0 got.1.now) }
-    ensures none { IfNone result (NoUpAhead 0x08 bytes.now) }
+    ensures some { IfSome result (λ got. IsAhead up_row 0x08 bytes.now got.0 got.1.now) }
+    ensures none { IfNone result (NoMessage up_row 0x08 bytes.now) }
 {
     let (ticket, rest) = take_u32(bytes)?;
     Some((Up::Cancel { ticket }, rest))
 }
 
 /// A Commit behind its kind.
-#[tactic(auto, using(crate::proofs::UpTaken::no_message))]
+#[tactic(auto, using(crate::proofs::UpTable::no_message))]
 fn take_commit(bytes: &[u8]) -> Option<(Up, &[u8])>
-    ensures some { IfSome result (λ got. IsUpAhead 0x09 bytes.now got.0 got.1.now) }
-    ensures none { IfNone result (NoUpAhead 0x09 bytes.now) }
+    ensures some { IfSome result (λ got. IsAhead up_row 0x09 bytes.now got.0 got.1.now) }
+    ensures none { IfNone result (NoMessage up_row 0x09 bytes.now) }
 {
     let (w, rest) = take_u64(bytes)?;
     let (job, rest) = take_u16(rest)?;
@@ -184,10 +184,10 @@ fn take_commit(bytes: &[u8]) -> Option<(Up, &[u8])>
 }
 
 /// A Rollback behind its kind.
-#[tactic(auto, using(crate::proofs::UpTaken::no_message))]
+#[tactic(auto, using(crate::proofs::UpTable::no_message))]
 fn take_rollback(bytes: &[u8]) -> Option<(Up, &[u8])>
-    ensures some { IfSome result (λ got. IsUpAhead 0x0A bytes.now got.0 got.1.now) }
-    ensures none { IfNone result (NoUpAhead 0x0A bytes.now) }
+    ensures some { IfSome result (λ got. IsAhead up_row 0x0A bytes.now got.0 got.1.now) }
+    ensures none { IfNone result (NoMessage up_row 0x0A bytes.now) }
 {
     let (w, rest) = take_u64(bytes)?;
     let (job, rest) = take_u16(rest)?;
@@ -196,21 +196,21 @@ fn take_rollback(bytes: &[u8]) -> Option<(Up, &[u8])>
 }
 
 /// A Sync behind its kind.
-#[tactic(auto, using(crate::proofs::UpTaken::no_message))]
+#[tactic(auto, using(crate::proofs::UpTable::no_message))]
 fn take_sync(bytes: &[u8]) -> Option<(Up, &[u8])>
-    ensures some { IfSome result (λ got. IsUpAhead 0x0B bytes.now got.0 got.1.now) }
-    ensures none { IfNone result (NoUpAhead 0x0B bytes.now) }
+    ensures some { IfSome result (λ got. IsAhead up_row 0x0B bytes.now got.0 got.1.now) }
+    ensures none { IfNone result (NoMessage up_row 0x0B bytes.now) }
 {
     let (ticket, rest) = take_u32(bytes)?;
     Some((Up::Sync { ticket }, rest))
 }
 
 /// A Claim behind its kind.
-#[tactic(auto, using(crate::proofs::UpTaken::no_message))]
+#[tactic(auto, using(crate::proofs::UpTable::no_message))]
 fn take_claim(alloc: Global, bytes: &[u8]) -> Result<Option<(Up, &[u8])>, AllocError>
     ensures some { IfOk result (λ taken. IfSome taken (λ got.
-        IsUpAhead 0x0D bytes.now got.0 got.1.now)) }
-    ensures none { IfOk result (λ taken. IfNone taken (NoUpAhead 0x0D bytes.now)) }
+        IsAhead up_row 0x0D bytes.now got.0 got.1.now)) }
+    ensures none { IfOk result (λ taken. IfNone taken (NoMessage up_row 0x0D bytes.now)) }
 {
     let Some((job, rest)) = take_u16(bytes) else {
         return Ok(None);
@@ -238,17 +238,17 @@ fn take_claim(alloc: Global, bytes: &[u8]) -> Result<Option<(Up, &[u8])>, AllocE
 }
 
 /// The message behind its kind, and what follows it; none where a field is missing or out of its range.
-#[tactic(auto, using(crate::proofs::UpTaken::unknown_kind))]
+#[tactic(auto, using(crate::proofs::UpTable::unknown_kind))]
 pub(crate) fn take_up(
     alloc: Global,
     kind: u8,
     bytes: &[u8],
 ) -> Result<Option<(Up, &[u8])>, MessageError>
     ensures some { IfOk result (λ taken. IfSome taken (λ got.
-        IsUpAhead kind bytes.now got.0 got.1.now)) }
-    ensures none { IfOk result (λ taken. IfNone taken (NoUpAhead kind bytes.now)) }
-    ensures known { IfOk result (λ _. IsUnknownUpKind kind → ⊥) }
-    ensures bad_kind { result ≡ Err MessageError.BadKind → IsUnknownUpKind kind }
+        IsAhead up_row kind bytes.now got.0 got.1.now)) }
+    ensures none { IfOk result (λ taken. IfNone taken (NoMessage up_row kind bytes.now)) }
+    ensures known { IfOk result (λ _. IsUnknown up_row kind → ⊥) }
+    ensures bad_kind { result ≡ Err MessageError.BadKind → IsUnknown up_row kind }
     ensures bad_field { result ≢ Err MessageError.BadField }
     ensures left_over { result ≢ Err MessageError.LeftOver }
 {

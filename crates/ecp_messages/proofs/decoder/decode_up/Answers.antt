@@ -1,6 +1,6 @@
 use Rattle.ecp_messages.specs.Ups.{up_frame_bytes, IsUpFrame}
 use Rattle.ecp_messages.proofs.Readings.{reads-again, reads-bad_kind, reads-bad_field, reads-left_over}
-use Rattle.ecp_messages.proofs.UpReads.{up-are_read}
+use Rattle.ecp_messages.proofs.UpFrames.{up-are_read}
 use Rattle.ecp_messages.proofs.decoder.decode_up.Goals as goal
 
 pub returns-clause-again : goal.returns-clause-again

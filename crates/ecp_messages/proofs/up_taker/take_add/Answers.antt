@@ -1,11 +1,12 @@
-use Rattle.std.proofs.Common.{[], ℤ, rules, sym, subst}
+use Rattle.std.proofs.Common.{[], ℤ, rules, refl, sym, subst}
 use Rattle.std.proofs.lemmas.Int.{to_z-of_z}
 use Rattle.std.specs.Int.{w64}
-use Rattle.ecp_messages.specs.Taking.{IsUpAhead}
+use Rattle.ecp_messages.specs.Ups.{up_row}
+use Rattle.ecp_messages.specs.Taking.{IsAhead}
 use Rattle.ecp_messages.specs.declared.up.Up.TheVariants.{Add}
 use Rattle.ecp_messages.specs.Rows.Field.{U16, U64, I64, Key}
 use Rattle.ecp_messages.proofs.Taken.{ahead, ahead_none, no-others, no_i64}
-use Rattle.ecp_messages.proofs.UpTaken.{no_up, up_ahead}
+use Rattle.ecp_messages.proofs.UpTable.{no_up}
 use Rattle.ecp_messages.proofs.up_taker.take_add.Goals as goal
 
 pub returns-in_default-take_i64-clause-none : goal.returns-in_default-take_i64-clause-none
@@ -25,5 +26,5 @@ returns-clause-some c =
     let key = ahead (Key c.in-Some-2.key) _ c.in-Some-take_u16.rest.now c.in-Some-2.rest.now _ within stands amount in
     let job = ahead (U16 c.in-Some-take_u16.job) _ c.in-Some.rest.now c.in-Some-take_u16.rest.now _ (search rules) (search rules) key in
     let w = ahead (U64 c.in-Some.w) _ c.args.bytes.now c.in-Some.rest.now _ (search rules) (search rules) job in
-    let Taken : ℤ → Type 0 = λ z. IsUpAhead 0x04 c.args.bytes.now (Add c.in-Some.w c.in-Some-take_u16.job c.in-Some-2.key z) c.in-Some-take_i64.rest.now in
-    subst Taken (sym (to_z-of_z w64 c.in-Some-take_i64.amount (search rules))) (up_ahead (Add c.in-Some.w c.in-Some-take_u16.job c.in-Some-2.key c.in-Some-take_i64.amount) _ _ w)
+    let Taken : ℤ → Type 0 = λ z. IsAhead up_row 0x04 c.args.bytes.now (Add c.in-Some.w c.in-Some-take_u16.job c.in-Some-2.key z) c.in-Some-take_i64.rest.now in
+    subst Taken (sym (to_z-of_z w64 c.in-Some-take_i64.amount (search rules))) (record { kind_is = refl; fields = w; sum = refl })

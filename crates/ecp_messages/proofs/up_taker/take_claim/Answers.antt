@@ -1,8 +1,6 @@
-use Rattle.std.proofs.Common.{[], rules}
-use Rattle.ecp_messages.specs.declared.up.Up.TheVariants.{Claim}
+use Rattle.std.proofs.Common.{[], rules, refl}
 use Rattle.ecp_messages.specs.Rows.Field.{U16, U64, Count, Held, Key}
 use Rattle.ecp_messages.proofs.Taken.{ahead, ahead_none}
-use Rattle.ecp_messages.proofs.UpTaken.{up_ahead}
 use Rattle.ecp_messages.proofs.up_taker.take_claim.Goals as goal
 
 pub returns-clause-some : goal.returns-clause-some
@@ -14,4 +12,4 @@ returns-clause-some c =
     let count = ahead (Count c.in-Some-take_count.count) _ c.in-Some-take_mode.rest.now c.in-Some-take_count.rest.now _ (search rules) (search rules) at in
     let mode = ahead (Held c.in-Some-take_mode.mode) _ c.in-Some.rest.now c.in-Some-take_mode.rest.now _ tt (search rules) count in
     let job = ahead (U16 c.in-Some.job) _ c.args.bytes.now c.in-Some.rest.now _ (search rules) (search rules) mode in
-    up_ahead (Claim c.in-Some.job c.in-Some-take_mode.mode c.in-Some-take_count.count c.in-Some-take_u64.at c.in-Some-2.key) _ _ job
+    record { kind_is = refl; fields = job; sum = refl }

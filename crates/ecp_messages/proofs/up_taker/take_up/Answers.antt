@@ -1,6 +1,6 @@
 use Rattle.std.proofs.Common.{rules, refl}
 use Rattle.ecp_messages.proofs.Readings.{if-ok}
-use Rattle.ecp_messages.proofs.UpTaken.{known-kind}
+use Rattle.ecp_messages.proofs.UpTable.{known-kind}
 use Rattle.ecp_messages.proofs.up_taker.take_up.Goals as goal
 
 pub returns-in-1-clause-known : goal.returns-in-1-clause-known

@@ -1,12 +1,13 @@
 -- Messages from an application server that were taken, or are missing.
-use Rattle.std.proofs.Common.{◌≡◌, ◌≢◌, ℕ, List, [], ◌∷◌, ◌==◌, if◌then◌else◌, map, refl, sym, ap, ◌∙◌, arith, true, pos}
+use Rattle.std.proofs.Common.{◌≡◌, ◌≢◌, ℕ, List, [], ◌∷◌, ◌==◌, if◌then◌else◌, map, refl, sym, ◌∙◌, arith, true, pos}
 use Rattle.plain_orders.specs.declared.op.Op.TheVariants.{Kill}
 use Rattle.plain_orders.specs.declared.mode.Mode.TheVariants.{Shared}
 use Rattle.ecp_messages.specs.declared.up.Up.{Up}
 use Rattle.ecp_messages.specs.declared.up.Up.TheVariants.{Hello, Recover, Update, Add, Fetch, Ask, Unlock, Cancel, Commit, Rollback, Sync, Done, Claim, Bare}
-use Rattle.ecp_messages.specs.Ups.{up_row, IsUnknownUpKind}
-use Rattle.ecp_messages.specs.Taking.{AreAhead, IsUpAhead, NoUpAhead}
-use Rattle.ecp_messages.proofs.FieldKinds.{Kind, kind_of, fields-free}
+use Rattle.ecp_messages.specs.Ups.{up_row}
+use Rattle.ecp_messages.specs.Taking.{IsUnknown, NoMessage}
+use Rattle.ecp_messages.proofs.Tables.{IsTable, no-message}
+use Rattle.ecp_messages.proofs.FieldKinds.{Kind, kind_of}
 use Rattle.ecp_messages.proofs.FieldKinds.Kind.{OfVersion, OfU8, OfU16, OfU32, OfU64, OfI64, OfCount, OfHeld, OfWanted, OfKey, OfSought, OfChange}
 use Rattle.ecp_messages.proofs.Taken.{NoFields, missing}
 
@@ -60,24 +61,15 @@ up-same (Claim a b c d f) (Claim a' b' c' d' f') k e = cc
 up-same Bare Bare k e = refl
 up-same _ _ k e = absurd (omega arith)
 
--- two messages of one kind ahead are one
-pub one-up : (kind : ℕ) (bytes : List ℕ) (m n : Up) (r s : List ℕ) → IsUpAhead kind bytes m r → IsUpAhead kind bytes n s → (m ≡ n) × (r ≡ s)
-one-up kind bytes m n r s a b =
-    let kinds : map kind_of (up_row m).fields ≡ map kind_of (up_row n).fields = up-kinds m ∙ ap up_kinds (a.kind_is ∙ sym b.kind_is) ∙ sym (up-kinds n) in
-    let t = fields-free (up_row m).fields (up_row n).fields r s kinds a.fields.within b.fields.within (sym a.fields.stand ∙ b.fields.stand) in
-    (up-same m n (a.kind_is ∙ sym b.kind_is) t.0, t.1)
+pub up-table : IsTable up_row up_kinds
+up-table = record { kinds_are = up-kinds; one = up-same }
 
 -- where fields of these kinds are missing, the message is
-pub no_up : (kind : ℕ) (bytes : List ℕ) → NoFields (up_kinds kind) bytes → NoUpAhead kind bytes
-no_up kind bytes none = record {
-  none = λ m rest a. none.none (up_row m).fields rest (up-kinds m ∙ ap up_kinds a.kind_is) a.fields.within a.fields.stand;
-}
-
-pub up_ahead : (m : Up) (bytes rest : List ℕ) → AreAhead (up_row m).fields bytes rest → IsUpAhead (up_row m).kind bytes m rest
-up_ahead m bytes rest a = record { kind_is = refl; fields = a }
+pub no_up : (kind : ℕ) (bytes : List ℕ) → NoFields (up_kinds kind) bytes → NoMessage up_row kind bytes
+no_up kind bytes none = no-message up_row up_kinds up-table kind bytes none
 
 -- the kinds of the table are these
-pub unknown_kind : (k : ℕ) → k ≢ 0x01 → k ≢ 0x02 → k ≢ 0x03 → k ≢ 0x04 → k ≢ 0x05 → k ≢ 0x06 → k ≢ 0x07 → k ≢ 0x08 → k ≢ 0x09 → k ≢ 0x0A → k ≢ 0x0B → k ≢ 0x0C → k ≢ 0x0D → k ≢ 0x7F → IsUnknownUpKind k
+pub unknown_kind : (k : ℕ) → k ≢ 0x01 → k ≢ 0x02 → k ≢ 0x03 → k ≢ 0x04 → k ≢ 0x05 → k ≢ 0x06 → k ≢ 0x07 → k ≢ 0x08 → k ≢ 0x09 → k ≢ 0x0A → k ≢ 0x0B → k ≢ 0x0C → k ≢ 0x0D → k ≢ 0x7F → IsUnknown up_row k
 unknown_kind k a b c d e f g h i j l m n o (Hello app dial) x = a (sym x)
 unknown_kind k a b c d e f g h i j l m n o (Recover app session epoch taken dial) x = b (sym x)
 unknown_kind k a b c d e f g h i j l m n o (Update w job txn op) x = c (sym x)
@@ -110,7 +102,7 @@ sample k =
     (if k == 0x0C then Done else
     (if k == 0x0D then Claim 0 Shared 0 0 [] else Bare))))))))))))
 
-pub known-kind : (k kind : ℕ) → (up_row (sample k)).kind ≡ k → kind ≡ k → IsUnknownUpKind kind → ⊥
+pub known-kind : (k kind : ℕ) → (up_row (sample k)).kind ≡ k → kind ≡ k → IsUnknown up_row kind → ⊥
 known-kind k kind e f u = u (sample k) (e ∙ sym f)
 
 -- what shows that a message is missing
