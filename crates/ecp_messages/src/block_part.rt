@@ -3,7 +3,7 @@ ghost use Rattle.std.specs.Prelude.{◌≡◌};
 use std::marker::Model;
 
 /// The bytes of a block as a message carries them, not read yet. Contracts see the list of its bytes.
-#[derive(Debug, Drop)]
+#[derive(Drop)]
 pub struct BlockPart {
     bytes: Vec<u8>,
 }

@@ -7,7 +7,7 @@ use crate::front::Front;
 use subscript_keys::KeyBytes;
 
 /// What a data server tells an application server.
-#[derive(Debug, Drop)]
+#[derive(Drop)]
 pub enum Down {
     /// The session, and how far both ends are.
     Welcome {
@@ -69,7 +69,7 @@ impl Down {
 }
 
 /// A frame from a data server to an application server.
-#[derive(Debug, Drop)]
+#[derive(Drop)]
 pub struct DownFrame {
     /// The message's number, from 1; 0 where it has none.
     pub seq: u64,

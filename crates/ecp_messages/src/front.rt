@@ -1,5 +1,5 @@
 /// How far a data server's list goes, as each numbered down message tells.
-#[derive(Clone, Copy, Debug, PartialEq, Eq)]
+#[derive(Clone, Copy)]
 pub struct Front {
     /// The length of the list.
     pub n: u64,

@@ -5,7 +5,7 @@ use plain_orders::{Mode, Op};
 use subscript_keys::KeyBytes;
 
 /// What an application server tells a data server.
-#[derive(Debug, Drop)]
+#[derive(Drop)]
 pub enum Up {
     /// Asks for a new session. `dial` is the number of this connection, from 1.
     Hello {
@@ -93,7 +93,7 @@ impl Up {
 }
 
 /// A frame from an application server to a data server.
-#[derive(Debug, Drop)]
+#[derive(Drop)]
 pub struct UpFrame {
     /// The message's number, from 1; 0 where it has none.
     pub seq: u64,

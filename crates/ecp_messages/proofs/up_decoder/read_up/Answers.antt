@@ -5,7 +5,7 @@ use Rattle.ecp_messages.proofs.Readings.{reads-error}
 use Rattle.ecp_messages.proofs.FrameReads.{short-body, no-frame, unknown-head, wrong-seq, frame-stands, is-frame}
 use Rattle.ecp_messages.proofs.UpTable.{up_kinds, up-table}
 use Rattle.ecp_messages.proofs.UpFrames.{up_seq, up_ack, up_message}
-use Rattle.ecp_messages.proofs.decoder.read_up.Goals as goal
+use Rattle.ecp_messages.proofs.up_decoder.read_up.Goals as goal
 
 pub returns-in_default : goal.returns-in_default
 returns-in_default c = short-body up_row up_seq up_ack up_message c.args.body.now (search rules)

@@ -5,7 +5,7 @@ use Rattle.ecp_messages.proofs.Readings.{reads-error}
 use Rattle.ecp_messages.proofs.FrameReads.{short-body, no-frame, unknown-head, wrong-seq, frame-stands, is-frame}
 use Rattle.ecp_messages.proofs.DownTable.{down_kinds, down-table}
 use Rattle.ecp_messages.proofs.DownFrames.{down_seq, down_ack, down_message}
-use Rattle.ecp_messages.proofs.decoder.read_down.Goals as goal
+use Rattle.ecp_messages.proofs.down_decoder.read_down.Goals as goal
 
 pub returns-in_default : goal.returns-in_default
 returns-in_default c = short-body down_row down_seq down_ack down_message c.args.body.now (search rules)
