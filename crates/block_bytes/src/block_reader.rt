@@ -18,7 +18,8 @@ fn take_span(alloc: Global, bytes: &[u8]) -> Result<Option<(Span, &[u8])>, Alloc
     ensures some { IfOk result (λ taken. IfSome taken (λ got.
         bytes.now ≡ span_bytes got.0 ++ got.1.now)) }
     ensures short { IfOk result (λ taken. IfSome taken (λ got. HasShortEnds got.0)) }
-    ensures none { IfOk result (λ taken. IfNone taken (NoneAhead span_bytes HasShortEnds bytes.now)) }
+    ensures none { IfOk result (λ taken. IfNone taken
+        (NoneAhead span_bytes HasShortEnds bytes.now)) }
 {
     let Some((lo, rest)) = take_list(bytes) else {
         return Ok(None);
@@ -41,7 +42,8 @@ fn take_pair(alloc: Global, bytes: &[u8]) -> Result<Option<(Pair, &[u8])>, Alloc
     ensures some { IfOk result (λ taken. IfSome taken (λ got.
         bytes.now ≡ pair_bytes got.0 ++ got.1.now)) }
     ensures short { IfOk result (λ taken. IfSome taken (λ got. HasShortLists got.0)) }
-    ensures none { IfOk result (λ taken. IfNone taken (NoneAhead pair_bytes HasShortLists bytes.now)) }
+    ensures none { IfOk result (λ taken. IfNone taken
+        (NoneAhead pair_bytes HasShortLists bytes.now)) }
 {
     let Some((key, rest)) = take_list(bytes) else {
         return Ok(None);
@@ -65,7 +67,8 @@ fn take_pairs(alloc: Global, count: u16, bytes: &[u8]) -> Result<Option<Pairs>, 
     ensures short { IfOk result (λ taken. IfSome taken (λ pairs.
         AllByRecursion HasShortLists pairs)) }
     ensures none { IfOk result (λ taken. IfNone taken ((pairs : List Pair) →
-        AllByRecursion HasShortLists pairs → length pairs ≡ count → bytes.now ≢ pairs_bytes pairs)) }
+        AllByRecursion HasShortLists pairs → length pairs ≡ count →
+        bytes.now ≢ pairs_bytes pairs)) }
 {
     let mut pairs = Pairs::new(alloc);
     let mut rest = bytes;
@@ -76,10 +79,10 @@ fn take_pairs(alloc: Global, count: u16, bytes: &[u8]) -> Result<Option<Pairs>, 
         pairs.push(pair)?;
         rest = after;
     }
-    if !rest.is_empty() {
-        return Ok(None);
+    if rest.is_empty() {
+        return Ok(Some(pairs));
     }
-    Ok(Some(pairs))
+    Ok(None)
 }
 
 /// The run whose bytes these are, if it is short, in whatever order its keys are.

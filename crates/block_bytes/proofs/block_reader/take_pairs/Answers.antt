@@ -20,6 +20,6 @@ loop-preserved c =
       all = rw pushed (pairs-turn c.loop.pairs c.in-Some.pair c.args.bytes.now c.loop.rest.now c.in-Some.after.now c.loop.invariant.all some);
     }
 
-pub returns-then-not-is_empty-clause-none : goal.returns-then-not-is_empty-clause-none
-returns-then-not-is_empty-clause-none c =
+pub returns-clause-none : goal.returns-clause-none
+returns-clause-none c =
     left_over c.loop.pairs c.args.bytes.now c.loop.rest.now c.args.count c.loop.invariant.short c.loop.invariant.all (search rules) (search rules)
