@@ -1,0 +1,11 @@
+pub mod FieldKinds
+pub mod Taken
+pub mod FieldsTaken
+pub mod Tables
+pub mod UpTable
+pub mod Readings
+pub mod Frames
+pub mod FrameReads
+pub mod UpFrames
+pub mod DownTable
+pub mod DownFrames

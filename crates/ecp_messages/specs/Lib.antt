@@ -1,0 +1,5 @@
+pub mod Rows
+pub mod Ups
+pub mod Downs
+pub mod Taking
+pub mod Readings

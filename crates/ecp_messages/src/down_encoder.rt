@@ -1,0 +1,34 @@
+ghost use Rattle.std.specs.Prelude.{◌≡◌, ◌++◌, OnOk, OnErr};
+ghost use Rattle.field_bytes.specs.Fields.{BeginsAs};
+ghost use Rattle.ecp_messages.specs.Downs.{down_frame_bytes, IsDownFrame};
+
+use crate::down::DownFrame;
+use crate::down_putter::put_down;
+use field_bytes::put_u64;
+use std::alloc::AllocError;
+
+/// Appends a frame. Where memory is wanting, what was held stays in front.
+#[tactic(auto, unfolding(crate::specs::Rows::head_bytes))]
+fn put_down_frame(frame: &DownFrame, to: &mut Vec<u8>) -> Result<(), AllocError>
+    requires { IsDownFrame frame.now }
+    ensures ok { OnOk result (to.new.items ≡ to.old.items ++ down_frame_bytes frame.now) }
+    ensures err { OnErr result (BeginsAs to.old.items to.new.items) }
+{
+    put_u64(to, frame.seq)?;
+    put_u64(to, frame.ack)?;
+    put_down(to, &frame.message)
+}
+
+/// Appends the bytes of a frame; unchanged where memory is wanting.
+pub fn encode_down(frame: &DownFrame, to: &mut Vec<u8>) -> Result<(), AllocError>
+    requires { IsDownFrame frame.now }
+    ensures ok { OnOk result (to.new.items ≡ to.old.items ++ down_frame_bytes frame.now) }
+    ensures err { OnErr result (to.new.items ≡ to.old.items) }
+{
+    let length = to.len();
+    let written = put_down_frame(frame, to);
+    if written.is_err() {
+        to.truncate(length);
+    }
+    written
+}
