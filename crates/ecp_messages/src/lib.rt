@@ -17,8 +17,6 @@ mod front;
 mod head;
 mod message_error;
 mod one_spelling;
-#[cfg(test)]
-mod tests;
 mod up;
 mod up_decoder;
 mod up_encoder;

@@ -9,6 +9,8 @@ mod fields;
 #[cfg(test)]
 mod frames;
 #[cfg(test)]
+mod messages;
+#[cfg(test)]
 mod queues;
 #[cfg(test)]
 mod windows;

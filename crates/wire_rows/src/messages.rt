@@ -1,4 +1,4 @@
-use super::*;
+use ecp_messages::*;
 use plain_orders::Op;
 use std::alloc::{AllocError, Global};
 use std::test::*;
