@@ -1,0 +1,7 @@
+//! Disks as the program sees them. A disk says what a read gives, where it tells, what a crash may leave, and
+//! what one at any moment might have left. Over memory all is told; over files nothing is told of content.
+#![tactic(auto)]
+
+mod disk;
+
+pub use disk::Disk;
