@@ -3,5 +3,11 @@
 #![tactic(auto)]
 
 mod disk;
+mod disk_call;
+mod disk_faults;
+mod halt;
+mod mem_disk;
+mod piece;
 
 pub use disk::Disk;
+pub use mem_disk::MemDisk;
