@@ -3,7 +3,7 @@ use Rattle.std.specs.Prelude.{◌≡◌, ◌⊎◌, ℕ, ◌+◌, ◌≤◌, min
 
 -- the bytes with this part written over those at the place, and past the end
 abbrev pub written : List ℕ → ℕ → List ℕ → List ℕ
-written bytes at part = take at bytes ++ part ++ drop (at + length part) bytes
+written bytes at part = take at bytes ++ (part ++ drop (at + length part) bytes)
 
 -- after a write of n bytes that a crash cuts short: any bytes in the range and past the old end, the same elsewhere
 pub record Torn (at n : ℕ) (old new : List ℕ) : Type 0 where

@@ -2,7 +2,7 @@
 use Rattle.std.specs.Prelude.{◌≡◌, ℕ, ◌≤◌, List, [], ◌∷◌, length, take}
 use Rattle.std.proofs.Common.{sym, subst, arith}
 use Rattle.std.proofs.Math.Seq.{take-length}
-use Rattle.outer_disk.specs.Calls.{bytes_after, MayLeave, LeftSince}
+use Rattle.outer_disk.specs.Calls.{bytes_after, AreWithin, MayLeave, LeftSince}
 use Rattle.outer_disk.specs.Faults.{Faults}
 use Rattle.outer_disk.specs.declared.disk_call.DiskCall.{DiskCall}
 
@@ -32,6 +32,11 @@ LeftSinceOf d = LeftSince d.first d.calls
 abbrev pub first_of : List DiskCall → List ℕ → List ℕ → List ℕ
 first_of [] kept bytes = bytes
 first_of (call ∷ calls) kept bytes = kept
+
+-- the bytes are those that the calls leave of the first ones, and each call was within the bytes when it came
+pub record IsReplay (calls : List DiskCall) (kept bytes : List ℕ) : Type 0 where
+  pub same : bytes ≡ bytes_after (first_of calls kept bytes) calls
+  pub within : AreWithin (first_of calls kept bytes) calls
 
 -- what a crash may leave now it might have left since earlier
 pub counts_now_of : (d : DiskState) (t : ℕ) (c : List ℕ) → t ≤ moment_of d → MayLeaveOf d c → LeftSinceOf d t c

@@ -21,9 +21,7 @@ pub struct MemDisk {
 }
 
 impl Model for MemDisk {
-    ghost use Rattle.std.specs.Prelude.{◌≡◌};
-    ghost use Rattle.outer_disk.specs.Calls.{bytes_after, AreWithin};
-    ghost use Rattle.outer_disk.specs.MemDisk.{DiskState, first_of};
+    ghost use Rattle.outer_disk.specs.MemDisk.{DiskState, IsReplay, first_of};
 
     ghost Value = { DiskState };
 
@@ -32,8 +30,7 @@ impl Model for MemDisk {
         calls = d.calls.items;
         faults = d.faults } };
 
-    ghost invariant = { λ d. (d.bytes.items ≡ bytes_after (first_of d.calls.items d.first.items d.bytes.items) d.calls.items)
-        × AreWithin (first_of d.calls.items d.first.items d.bytes.items) d.calls.items };
+    ghost invariant = { λ d. IsReplay d.calls.items d.first.items d.bytes.items };
 }
 
 impl MemDisk {
@@ -61,6 +58,42 @@ impl MemDisk {
         ensures { result.now ≡ held self.now }
     {
         self.bytes.as_slice()
+    }
+
+    /// Writes, and notes it. After an `Err` all is as it was.
+    fn take_write(&mut self, at: u64, part: &[u8]) -> Result<(), AllocError>
+        requires { at ≤ length (held self.old) }
+        ensures ok { OnOk result (self.new ≡ record self.old { calls = self.old.calls ++ DiskCall.Write at part.now ∷ [] }) }
+        ensures err { OnErr result (self.new ≡ self.old) }
+    {
+        keep_first(self.alloc, &self.calls, &mut self.first, &self.bytes)?;
+        self.calls.reserve(1)?;
+        let piece = Piece::copy_of(self.alloc, part)?;
+        write_into(&mut self.bytes, at as usize, part)?;
+        self.calls.push(DiskCall::Write { at, part: piece })?;
+        Ok(())
+    }
+
+    /// Cuts, and notes it. After an `Err` all is as it was.
+    fn take_cut(&mut self, to: u64) -> Result<(), AllocError>
+        requires { to ≤ length (held self.old) }
+        ensures ok { OnOk result (self.new ≡ record self.old { calls = self.old.calls ++ DiskCall.Cut to ∷ [] }) }
+        ensures err { OnErr result (self.new ≡ self.old) }
+    {
+        keep_first(self.alloc, &self.calls, &mut self.first, &self.bytes)?;
+        self.calls.push(DiskCall::Cut { to })?;
+        self.bytes.truncate(to as usize);
+        Ok(())
+    }
+
+    /// Notes a sync. After an `Err` all is as it was.
+    fn take_sync(&mut self) -> Result<(), AllocError>
+        ensures ok { OnOk result (self.new ≡ record self.old { calls = self.old.calls ++ DiskCall.Sync ∷ [] }) }
+        ensures err { OnErr result (self.new ≡ self.old) }
+    {
+        keep_first(self.alloc, &self.calls, &mut self.first, &self.bytes)?;
+        self.calls.push(DiskCall::Sync)?;
+        Ok(())
     }
 }
 
