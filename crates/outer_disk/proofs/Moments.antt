@@ -1,9 +1,9 @@
 -- What one call more does to what a crash may leave, and to what one might have left.
-use Rattle.std.proofs.Common.{◌≡◌, ◌⊎◌, inl, inr, ⊎_elim, ℕ, ◌+◌, ◌<◌, ◌≤◌, List, [], ◌∷◌, ◌++◌, length, take, refl, sym, subst, arith, length-append}
+use Rattle.std.proofs.Common.{◌≡◌, inl, inr, ⊎_elim, ℕ, ◌<◌, ◌≤◌, List, [], ◌∷◌, ◌++◌, length, take, refl, sym, subst, arith, length-append}
 use Rattle.std.proofs.lemmas.List.{take-append-le}
 use Rattle.std.proofs.lemmas.Bool.{cases_lt}
 use Rattle.std.proofs.Math.Seq.{take-length}
-use Rattle.outer_disk.specs.Disk.{Torn, Cut, Follows, LeavesNoMore, Elapses}
+use Rattle.outer_disk.specs.Disk.{Torn, Cut, Follows, Elapses}
 use Rattle.outer_disk.specs.Calls.{after, bytes_after, LeavesAfter, LeavesFrom, MayLeave, LeftSince}
 use Rattle.outer_disk.specs.declared.disk_call.DiskCall.{DiskCall}
 

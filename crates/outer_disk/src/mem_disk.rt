@@ -2,9 +2,11 @@ ghost use Rattle.std.specs.Prelude.{◌≡◌, ◌≤◌, ◌∷◌, [], ◌++�
 ghost use Rattle.outer_disk.specs.Disk.{written};
 ghost use Rattle.outer_disk.specs.MemDisk.{first_of};
 
+use crate::disk::Disk;
 use crate::disk_call::DiskCall;
 use crate::disk_faults::DiskFaults;
 use crate::piece::Piece;
+use outer_io::{Failed, Stop};
 use std::alloc::{AllocError, Global};
 use std::marker::Model;
 
@@ -94,6 +96,131 @@ impl MemDisk {
         keep_first(self.alloc, &self.calls, &mut self.first, &self.bytes)?;
         self.calls.push(DiskCall::Sync)?;
         Ok(())
+    }
+}
+
+impl Disk for MemDisk {
+    ghost use Rattle.std.specs.Prelude.{Some, ◌+◌, ◌<◌, ◌↔◌, take, drop, IfErr, IfOk, IsErr, IsTrue};
+    ghost use Rattle.outer_io.specs.Causes.{HasCause, Rose};
+    ghost use Rattle.outer_disk.specs.Disk.{Torn, Cut, Follows, LeavesNoMore, Only, Elapses};
+    ghost use Rattle.outer_disk.specs.Faults.{fault_count, fails, write_fails, after_other, after_write};
+    ghost use Rattle.outer_disk.specs.MemDisk.{held, MayLeaveOf, moment_of, LeftSinceOf, counts_now_of, only_now_of};
+
+    ghost told = { λ d. Some (held d) };
+
+    ghost may_leave = { MayLeaveOf };
+
+    ghost moment = { moment_of };
+
+    ghost left_since = { LeftSinceOf };
+
+    ghost faults = { λ d. fault_count d.faults };
+
+    ghost counts_now = { counts_now_of };
+
+    ghost only_now = { only_now_of };
+
+    fn len(&mut self) -> Result<u64, Failed>
+        ensures value { IfOk result (λ n. n ≡ length (held self.old)) }
+        ensures state { self.new ≡ record self.old { faults = after_other self.old.faults } }
+        ensures due { IsErr result ↔ IsTrue (fails self.old.faults) }
+        ensures crash { LeavesNoMore (MayLeaveOf self.old) (MayLeaveOf self.new) }
+        ensures time { Elapses (moment_of self.old) (moment_of self.new) (LeftSinceOf self.old) (LeftSinceOf self.new)
+            (MayLeaveOf self.new) }
+        ensures cause { HasCause (fault_count self.old.faults) (fault_count self.new.faults) result }
+    {
+        if self.faults.is_next_to_fail() {
+            return Err(Failed);
+        }
+        Ok(self.bytes.len() as u64)
+    }
+
+    fn read(&mut self, at: u64, buf: &mut [u8]) -> Result<(), Failed>
+        requires { at + length buf.old ≤ length (held self.old) }
+        ensures ok { OnOk result (buf.new ≡ take (length buf.old) (drop at (held self.old))) }
+        ensures state { self.new ≡ record self.old { faults = after_other self.old.faults } }
+        ensures due { IsErr result ↔ IsTrue (fails self.old.faults) }
+        ensures crash { LeavesNoMore (MayLeaveOf self.old) (MayLeaveOf self.new) }
+        ensures time { Elapses (moment_of self.old) (moment_of self.new) (LeftSinceOf self.old) (LeftSinceOf self.new)
+            (MayLeaveOf self.new) }
+        ensures cause { HasCause (fault_count self.old.faults) (fault_count self.new.faults) result }
+    {
+        if self.faults.is_next_to_fail() {
+            return Err(Failed);
+        }
+        let from = at as usize;
+        let to = from + buf.len();
+        buf.copy_from_slice(&self.bytes[from..to]);
+        Ok(())
+    }
+
+    fn write_at(&mut self, at: u64, part: &[u8]) -> Result<(), Stop>
+        requires { at ≤ length (held self.old) }
+        ensures ok { OnOk result (held self.new ≡ written (held self.old) at part.now) }
+        ensures state { OnOk result (self.new ≡ record self.old {
+            calls = self.old.calls ++ DiskCall.Write at part.now ∷ []; faults = after_write self.old.faults }) }
+        ensures err { OnErr result (self.new ≡ record self.old { faults = after_write self.old.faults }) }
+        ensures due { (result ≡ Err Stop.Failed) ↔ IsTrue (write_fails self.old.faults) }
+        ensures crash { Follows (Torn at (length part.now)) (MayLeaveOf self.old) (MayLeaveOf self.new) }
+        ensures time { Elapses (moment_of self.old) (moment_of self.new) (LeftSinceOf self.old) (LeftSinceOf self.new)
+            (MayLeaveOf self.new) }
+        ensures faults { fault_count self.old.faults ≤ fault_count self.new.faults }
+        ensures failed { IfErr result (λ stop. stop ≡ Stop.Failed
+            → Rose (fault_count self.old.faults) (fault_count self.new.faults)) }
+    {
+        if self.faults.is_next_write_to_fail() {
+            return Err(Stop::Failed);
+        }
+        match self.take_write(at, part) {
+            Ok(()) => Ok(()),
+            Err(_) => Err(Stop::Memory),
+        }
+    }
+
+    fn cut(&mut self, to: u64) -> Result<(), Stop>
+        requires { to ≤ length (held self.old) }
+        ensures ok { OnOk result (held self.new ≡ take to (held self.old)) }
+        ensures state { OnOk result (self.new ≡ record self.old {
+            calls = self.old.calls ++ DiskCall.Cut to ∷ []; faults = after_other self.old.faults }) }
+        ensures err { OnErr result (self.new ≡ record self.old { faults = after_other self.old.faults }) }
+        ensures due { (result ≡ Err Stop.Failed) ↔ IsTrue (fails self.old.faults) }
+        ensures crash { Follows (Cut to) (MayLeaveOf self.old) (MayLeaveOf self.new) }
+        ensures time { Elapses (moment_of self.old) (moment_of self.new) (LeftSinceOf self.old) (LeftSinceOf self.new)
+            (MayLeaveOf self.new) }
+        ensures faults { fault_count self.old.faults ≤ fault_count self.new.faults }
+        ensures failed { IfErr result (λ stop. stop ≡ Stop.Failed
+            → Rose (fault_count self.old.faults) (fault_count self.new.faults)) }
+    {
+        if self.faults.is_next_to_fail() {
+            return Err(Stop::Failed);
+        }
+        match self.take_cut(to) {
+            Ok(()) => Ok(()),
+            Err(_) => Err(Stop::Memory),
+        }
+    }
+
+    fn sync(&mut self) -> Result<(), Stop>
+        ensures ok { OnOk result (Only (held self.new) (MayLeaveOf self.new)) }
+        ensures same { held self.new ≡ held self.old }
+        ensures state { OnOk result (self.new ≡ record self.old {
+            calls = self.old.calls ++ DiskCall.Sync ∷ []; faults = after_other self.old.faults }) }
+        ensures err { OnErr result (self.new ≡ record self.old { faults = after_other self.old.faults }) }
+        ensures due { (result ≡ Err Stop.Failed) ↔ IsTrue (fails self.old.faults) }
+        ensures crash { LeavesNoMore (MayLeaveOf self.old) (MayLeaveOf self.new) }
+        ensures time { Elapses (moment_of self.old) (moment_of self.new) (LeftSinceOf self.old) (LeftSinceOf self.new)
+            (MayLeaveOf self.new) }
+        ensures faults { fault_count self.old.faults ≤ fault_count self.new.faults }
+        ensures failed { IfErr result (λ stop. stop ≡ Stop.Failed
+            → Rose (fault_count self.old.faults) (fault_count self.new.faults)) }
+    {
+        if self.faults.is_next_to_fail() {
+            return Err(Stop::Failed);
+        }
+        match self.take_sync() {
+            Ok(()) => Ok(()),
+            Err(_) => Err(Stop::Memory),
+        }
     }
 }
 
