@@ -6,6 +6,7 @@ mod disk;
 mod disk_call;
 mod disk_faults;
 mod halt;
+mod image;
 mod mem_disk;
 mod piece;
 

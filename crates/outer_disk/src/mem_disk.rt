@@ -1,10 +1,10 @@
 ghost use Rattle.std.specs.Prelude.{◌≡◌, ◌≤◌, ◌∷◌, [], ◌++◌, length, OnOk, OnErr};
-ghost use Rattle.outer_disk.specs.Disk.{written};
 ghost use Rattle.outer_disk.specs.MemDisk.{first_of};
 
 use crate::disk::Disk;
 use crate::disk_call::DiskCall;
 use crate::disk_faults::DiskFaults;
+use crate::image::write_into;
 use crate::piece::Piece;
 use outer_io::{Failed, Stop};
 use std::alloc::{AllocError, Global};
@@ -102,7 +102,7 @@ impl MemDisk {
 impl Disk for MemDisk {
     ghost use Rattle.std.specs.Prelude.{Some, ◌+◌, ◌<◌, ◌↔◌, take, drop, IfErr, IfOk, IsErr, IsTrue};
     ghost use Rattle.outer_io.specs.Causes.{HasCause, Rose};
-    ghost use Rattle.outer_disk.specs.Disk.{Torn, Cut, Follows, LeavesNoMore, Only, Elapses};
+    ghost use Rattle.outer_disk.specs.Disk.{written, Torn, Cut, Follows, LeavesNoMore, Only, Elapses};
     ghost use Rattle.outer_disk.specs.Faults.{fault_count, fails, write_fails, after_other, after_write};
     ghost use Rattle.outer_disk.specs.MemDisk.{held, MayLeaveOf, moment_of, LeftSinceOf, counts_now_of, only_now_of};
 
@@ -237,21 +237,5 @@ fn keep_first(
     if calls.is_empty() {
         *first = bytes.to_vec(alloc)?;
     }
-    Ok(())
-}
-
-/// Writes a part over the bytes from a place on, and past their end.
-fn write_into(bytes: &mut Vec<u8>, at: usize, part: &[u8]) -> Result<(), AllocError>
-    requires { at ≤ length bytes.old.items }
-    ensures ok { OnOk result (bytes.new.items ≡ written bytes.old.items at part.now) }
-    ensures err { OnErr result (bytes.new.items ≡ bytes.old.items) }
-{
-    let inside = bytes.len() - at;
-    if part.len() <= inside {
-        bytes[at..at + part.len()].copy_from_slice(part);
-        return Ok(());
-    }
-    bytes.extend_from_slice(&part[inside..])?;
-    bytes[at..at + inside].copy_from_slice(&part[..inside]);
     Ok(())
 }
