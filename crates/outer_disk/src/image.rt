@@ -1,5 +1,5 @@
 //! The images that a crash of a disk in memory may leave.
-ghost use Rattle.std.specs.Prelude.{◌≡◌, ◌+◌, ◌-◌, ◌<◌, ◌≤◌, ◌||◌, ℕ, false, length, drop, IfOk, IsTrue, OnOk, OnErr, Some, slice_get, slice_index};
+ghost use Rattle.std.specs.Prelude.{◌≡◌, ◌+◌, ◌-◌, ◌<◌, ◌≤◌, ◌||◌, if◌then◌else◌, ℕ, false, length, drop, IfOk, IsTrue, OnOk, OnErr, Some, slice_get, slice_index};
 ghost use Rattle.std.specs.List.{slice_index_or};
 ghost use Rattle.outer_disk.specs.Calls.{after, bytes_after, IsWithin, AreWithin};
 ghost use Rattle.outer_disk.specs.Crash.{is_in, is_unsynced, next_number, byte_by, IsPicked, HasNoSync};
@@ -79,4 +79,85 @@ fn mark(marks: &mut [bool], at: usize, count: usize)
     let from = at.min(marks.len());
     let to = from + count.min(marks.len() - from);
     marks[from..to].fill(true);
+}
+
+/// Which of so many places were written by the calls, none of which is a sync.
+pub(crate) fn marks_of(
+    alloc: Global,
+    count: usize,
+    calls: &[DiskCall],
+) -> Result<Vec<bool>, AllocError>
+    requires { HasNoSync calls.now }
+    ensures length { IfOk result (λ marks. length marks.items ≡ count) }
+    ensures each { IfOk result (λ marks. (place : ℕ) → place < count
+        → slice_index_or marks.items place false ≡ is_unsynced false calls.now place) }
+{
+    let mut marks = vec![in alloc; false; count]?;
+    for call in calls {
+        if let DiskCall::Write { at, part } = call {
+            mark(&mut marks, *at as usize, part.as_slice().len());
+        }
+    }
+    Ok(marks)
+}
+
+/// The number behind a number, by the rule of the picks.
+fn number_behind(number: u64) -> u64
+    ensures { result ≡ next_number number }
+{
+    number
+        .wrapping_mul(6364136223846793005)
+        .wrapping_add(1442695040888963407)
+}
+
+/// The byte that a number gives, of the one that was written and that of the last sync.
+fn chosen_byte(number: u64, written: u8, synced: u8) -> u8
+    ensures { result ≡ byte_by number written synced }
+{
+    match number / (1 << 62) {
+        0 => written,
+        1 => synced,
+        _ => (number / (1 << 40) % 256) as u8,
+    }
+}
+
+/// The number behind a place and the byte of the image there: a byte that isn't marked stays.
+fn picked_byte(number: u64, is_marked: bool, written: u8, synced: u8) -> (u64, u8)
+    ensures number { result.0 ≡ (if is_marked then next_number number else number) }
+    ensures byte { result.1 ≡ (if is_marked then byte_by (next_number number) written synced else written) }
+{
+    if !is_marked {
+        return (number, written);
+    }
+    let behind = number_behind(number);
+    (behind, chosen_byte(behind, written, synced))
+}
+
+/// The byte at a place, or 0 past the end.
+fn byte_at(bytes: &[u8], place: usize) -> u8
+    ensures { result ≡ slice_index bytes.now place }
+{
+    bytes.get(place).copied().unwrap_or(0)
+}
+
+/// The image of a pick above 1: the next number decides of each marked byte in turn, and other bytes stay.
+pub(crate) fn picked_image(
+    alloc: Global,
+    pick: u64,
+    bytes: &[u8],
+    synced: &[u8],
+    marks: &[bool],
+) -> Result<Vec<u8>, AllocError>
+    requires { length marks.now ≡ length bytes.now }
+    ensures { IfOk result (λ image. IsPicked pick (λ place. slice_index_or marks.now place false)
+        bytes.now synced.now image.items) }
+{
+    let mut image = Vec::with_capacity(alloc, bytes.len())?;
+    let mut number = pick;
+    for place in 0..bytes.len() {
+        let (behind, byte) = picked_byte(number, marks[place], bytes[place], byte_at(synced, place));
+        number = behind;
+        image.push(byte)?;
+    }
+    Ok(image)
 }
