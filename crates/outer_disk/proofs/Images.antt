@@ -51,6 +51,7 @@ middle c s at n p le long from to = ⊎_elim here past (cases_lt p (length s))
         ∙ get_or-take n (drop at s) (p - at) 0 (omega arith)
         ∙ get_or-drop at s (p - at) 0
         ∙ last
+
     past : length s ≤ p → get_or (within c s at n) p 0 ≡ get_or s p 0
     past le' = get_or_past (within c s at n) p 0 (omega (arith, length-within c s at n le long)) ∙ sym (get_or_past s p 0 le')
 
@@ -60,6 +61,7 @@ above c s at n p le long from same = ⊎_elim here past (cases_lt p (length s))
   where
     here : p < length s → get_or (within c s at n) p 0 ≡ get_or s p 0
     here lt = behind c (take n (drop at s)) at n p (omega arith) (omega (arith, length-middle s at n le)) from ∙ same
+
     past : length s ≤ p → get_or (within c s at n) p 0 ≡ get_or s p 0
     past le' = get_or_past (within c s at n) p 0 (omega (arith, length-within c s at n le long)) ∙ sym (get_or_past s p 0 le')
 
@@ -75,6 +77,7 @@ drop-within c s at n le long = ⊎_elim short enough (cases_lt (length s) (at + 
     short lt =
         drop_of_length-le (within c s at n) {i = at + n} (omega (arith, length-within c s at n le long))
         ∙ sym (drop_of_length-le c {i = at + n} (omega arith))
+
     enough : at + n ≤ length s → drop (at + n) (within c s at n) ≡ drop (at + n) c
     enough le' =
         let front : length (take at c) ≡ at = omega (arith, length-take at c) in
@@ -116,19 +119,23 @@ write_step s part at mark c le agrees = (record { long = length-within c s at n 
   where
     n : ℕ
     n = length part
+
     long : length c ≡ max (length s) (at + n)
     long = agrees.long ∙ length-written s part at le
+
     outside : (p : ℕ) → (mark p → ⊥) → (p < at) ⊎ (at + n ≤ p) → get_or c p 0 ≡ get_or s p 0
     outside p free side = agrees.each p (⊎_elim free (out side)) ∙ kept s part at p le side
       where
         out : (p < at) ⊎ (at + n ≤ p) → InRange at n p → ⊥
         out (inl front) range = omega (arith, range.0, range.1)
         out (inr back) range = omega (arith, range.0, range.1)
+
     each : (p : ℕ) → (mark p → ⊥) → get_or (within c s at n) p 0 ≡ get_or s p 0
     each p free = ⊎_elim
         (λ front. low c (take n (drop at s) ++ drop (at + n) c) at p (omega (arith, long)) front ∙ outside p free (inl front))
         (λ from. ⊎_elim (λ to. middle c s at n p le long from to) (λ back. above c s at n p le long back (outside p free (inr back))) (cases_lt p (at + n)))
         (cases_lt p at)
+
     torn : Torn at n (within c s at n) c
     torn = record {
       before = sym (take-within c s at n (omega (arith, long)));
@@ -144,32 +151,34 @@ cut_step s to mark c le agrees = (record { long = all; each = each }, record { n
   where
     long : length c ≡ to
     long = omega (arith, agrees.long, length-take to s)
+
     all : length (c ++ drop to s) ≡ length s
     all = omega (arith, length-append c (drop to s), length-drop to s, long)
+
     each : (p : ℕ) → (mark p → ⊥) → get_or (c ++ drop to s) p 0 ≡ get_or s p 0
     each p free = ⊎_elim
         (λ front. get_or_append_left c (drop to s) 0 p (omega (arith, long)) ∙ agrees.each p free ∙ get_or-take to s p 0 front)
         (λ from.
-            let last : get_or s (to + (p - to)) 0 ≡ get_or s p 0 = subst (λ q. get_or s q 0 ≡ get_or s p 0) (omega arith) refl in
-            get_or-append_right c (drop to s) to p 0 long from ∙ get_or-drop to s (p - to) 0 ∙ last)
+        let last : get_or s (to + (p - to)) 0 ≡ get_or s p 0 = subst (λ q. get_or s q 0 ≡ get_or s p 0) (omega arith) refl in
+        get_or-append_right c (drop to s) to p 0 long from ∙ get_or-drop to s (p - to) 0 ∙ last)
         (cases_lt p to)
 
 -- with no mark there is one image
-one_image : (s c : List ℕ) → Agrees (λ q. ⊥) s c → c ≡ s
+pub one_image : (s c : List ℕ) → Agrees (λ q. ⊥) s c → c ≡ s
 one_image s c agrees = same_number_lists c s agrees.long (λ p lt. agrees.each p (λ h. h))
 
 -- each image that agrees where no unsynced write came is left by some crash
-leaves_image : (s : List ℕ) (old : List ℕ → Type 0) (mark : ℕ → Type 0) (calls : List DiskCall) (c : List ℕ) → AreWithin s calls
+pub leaves_image : (s : List ℕ) (old : List ℕ → Type 0) (mark : ℕ → Type 0) (calls : List DiskCall) (c : List ℕ) → AreWithin s calls
     → ((d : List ℕ) → Agrees mark s d → old d) → Agrees (Marked mark calls) (bytes_after s calls) c → LeavesFrom s old calls c
 leaves_image s old mark [] c fit here agrees = here c agrees
 leaves_image s old mark (Write at part ∷ calls) c fit here agrees =
     leaves_image (written s at part) (LeavesAfter s old (Write at part)) (λ q. mark q ⊎ InRange at (length part) q) calls c fit.1
-        (λ d is. let step = write_step s part at mark d fit.0 is in (within d s at (length part), here (within d s at (length part)) step.0, step.1))
-        agrees
+    (λ d is. let step = write_step s part at mark d fit.0 is in (within d s at (length part), here (within d s at (length part)) step.0, step.1))
+    agrees
 leaves_image s old mark (CutTo to ∷ calls) c fit here agrees =
     leaves_image (take to s) (LeavesAfter s old (CutTo to)) mark calls c fit.1
-        (λ d is. let step = cut_step s to mark d fit.0 is in (d ++ drop to s, here (d ++ drop to s) step.0, step.1))
-        agrees
+    (λ d is. let step = cut_step s to mark d fit.0 is in (d ++ drop to s, here (d ++ drop to s) step.0, step.1))
+    agrees
 leaves_image s old mark (Sync ∷ calls) c fit here agrees =
     leaves_image s (LeavesAfter s old Sync) (λ q. ⊥) calls c fit.1 (one_image s) agrees
 

@@ -1,3 +1,4 @@
+pub mod Crashes
 pub mod Images
 pub mod Moments
 pub mod Picks

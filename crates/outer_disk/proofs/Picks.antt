@@ -1,5 +1,5 @@
 -- The image of a pick, byte by byte.
-use Rattle.std.proofs.Common.{◌≡◌, ◌⊎◌, inl, inr, ⊎_elim, ℕ, suc, ◌+◌, ◌<◌, ◌≤◌, Bool, true, false, List, [], ◌∷◌, ◌++◌, get_or, length, refl, sym, ap, ◌∙◌, subst, arith, add-one, length-append}
+use Rattle.std.proofs.Common.{◌≡◌, ⊎_elim, ℕ, suc, ◌+◌, ◌<◌, Bool, true, false, List, [], ◌∷◌, ◌++◌, get_or, length, refl, sym, ap, ◌∙◌, subst, arith, add-one, length-append}
 use Rattle.std.specs.Prelude.{if◌then◌else◌, slice_index}
 use Rattle.std.proofs.lemmas.Bool.{cases_lt}
 use Rattle.std.proofs.lemmas.List.{get_or_append_left, get_or_push}
@@ -41,7 +41,7 @@ picking_step pick marked bytes synced image more last place behind byte was e f 
   each = λ p lt. ⊎_elim
       (λ front. ap (λ xs. get_or xs p 0) g ∙ get_or_append_left image (byte ∷ []) 0 p (omega (arith, was.long)) ∙ was.each p front)
       (λ back. let here : place ≡ p = omega arith in
-          subst (λ q. get_or more q 0 ≡ image_byte pick marked bytes synced q) here
-              (ap (λ xs. get_or xs place 0) g ∙ get_or_push image byte 0 place was.long ∙ f ∙ byte_step pick marked bytes synced place last was.last_is))
+      subst (λ q. get_or more q 0 ≡ image_byte pick marked bytes synced q) here
+      (ap (λ xs. get_or xs place 0) g ∙ get_or_push image byte 0 place was.long ∙ f ∙ byte_step pick marked bytes synced place last was.last_is))
       (cases_lt p place);
 }

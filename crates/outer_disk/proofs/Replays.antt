@@ -45,14 +45,14 @@ took_held old new call (e, f) =
 pub took_leaves : (old new : DiskState) (call : DiskCall) (c : List ℕ) → Took old call new → MayLeaveOf new c → LeavesAfter (held old) (MayLeaveOf old) call c
 took_leaves old new call c (e, f) left =
     leaves_last old.first (λ d. d ≡ old.first) old.calls call c
-        (subst (λ (cs : List DiskCall). MayLeave old.first cs c) f (subst (λ b. MayLeave b new.calls c) e left))
+    (subst (λ (cs : List DiskCall). MayLeave old.first cs c) f (subst (λ b. MayLeave b new.calls c) e left))
 
 -- and what one might have left
 pub took_elapses : (old new : DiskState) (call : DiskCall) → Took old call new → Elapses (moment_of old) (moment_of new) (LeftSinceOf old) (LeftSinceOf new) (MayLeaveOf new)
 took_elapses old new call (e, f) =
     subst (λ b. Elapses (length old.calls) (length new.calls) (LeftSince old.first old.calls) (LeftSince b new.calls) (MayLeave b new.calls)) (sym e)
-        (subst (λ (cs : List DiskCall). Elapses (length old.calls) (length cs) (LeftSince old.first old.calls) (LeftSince old.first cs) (MayLeave old.first cs)) (sym f)
-            (elapses_push old.first old.calls call))
+    (subst (λ (cs : List DiskCall). Elapses (length old.calls) (length cs) (LeftSince old.first old.calls) (LeftSince old.first cs) (MayLeave old.first cs)) (sym f)
+    (elapses_push old.first old.calls call))
 
 -- behind a sync a crash leaves what a read gives
 pub synced_leaves : (old new : DiskState) (c : List ℕ) → Took old Sync new → MayLeaveOf new c → c ≡ held new

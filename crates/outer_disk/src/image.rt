@@ -1,8 +1,8 @@
 //! The images that a crash of a disk in memory may leave.
 ghost use Rattle.std.specs.Prelude.{◌≡◌, ◌+◌, ◌-◌, ◌<◌, ◌≤◌, ◌||◌, if◌then◌else◌, ℕ, false, length, drop, IfOk, IsTrue, OnOk, OnErr, Some, slice_get, slice_index};
 ghost use Rattle.std.specs.List.{slice_index_or};
-ghost use Rattle.outer_disk.specs.Calls.{after, bytes_after, IsWithin, AreWithin};
-ghost use Rattle.outer_disk.specs.Crash.{is_in, is_unsynced, next_number, byte_by, IsPicked, HasNoSync};
+ghost use Rattle.outer_disk.specs.Calls.{after, bytes_after, IsWithin, AreWithin, MayLeave};
+ghost use Rattle.outer_disk.specs.Crash.{is_in, is_unsynced, next_number, byte_by, IsPicked, IsImage, HasNoSync};
 ghost use Rattle.outer_disk.specs.Disk.{written};
 
 use crate::disk_call::DiskCall;
@@ -155,9 +155,41 @@ pub(crate) fn picked_image(
     let mut image = Vec::with_capacity(alloc, bytes.len())?;
     let mut number = pick;
     for place in 0..bytes.len() {
-        let (behind, byte) = picked_byte(number, marks[place], bytes[place], byte_at(synced, place));
+        let (behind, byte) = picked_byte(
+            number,
+            marks[place],
+            bytes[place],
+            byte_at(synced, place),
+        );
         number = behind;
         image.push(byte)?;
     }
+    Ok(image)
+}
+
+/// The image that a pick leaves of a disk with these first bytes, these bytes and these calls.
+pub(crate) fn image_of(
+    alloc: Global,
+    pick: u64,
+    first: &[u8],
+    bytes: &[u8],
+    calls: &[DiskCall],
+) -> Result<Vec<u8>, AllocError>
+    requires within { AreWithin first.now calls.now }
+    requires bytes { bytes.now ≡ bytes_after first.now calls.now }
+    ensures image { IfOk result (λ image. IsImage pick first.now calls.now image.items) }
+    ensures allowed { IfOk result (λ image. MayLeave first.now calls.now image.items) }
+{
+    if pick == 1 {
+        let same = bytes.to_vec(alloc)?;
+        return Ok(same);
+    }
+    let count = synced_calls(calls);
+    let synced = replayed(alloc, first, &calls[..count])?;
+    if pick == 0 {
+        return Ok(synced);
+    }
+    let marks = marks_of(alloc, bytes.len(), &calls[count..])?;
+    let image = picked_image(alloc, pick, bytes, &synced, &marks)?;
     Ok(image)
 }

@@ -4,7 +4,7 @@ ghost use Rattle.outer_disk.specs.MemDisk.{first_of};
 use crate::disk::Disk;
 use crate::disk_call::DiskCall;
 use crate::disk_faults::DiskFaults;
-use crate::image::write_into;
+use crate::image::{image_of, write_into};
 use crate::piece::Piece;
 use outer_io::{Failed, Stop};
 use std::alloc::{AllocError, Global};
@@ -28,16 +28,18 @@ impl Model for MemDisk {
     ghost Value = { DiskState };
 
     ghost view = { λ d. record {
-        first = first_of d.calls.items d.first.items d.bytes.items;
-        calls = d.calls.items;
-        faults = d.faults } };
+      first = first_of d.calls.items d.first.items d.bytes.items;
+      calls = d.calls.items;
+      faults = d.faults;
+    } };
 
     ghost invariant = { λ d. IsReplay d.calls.items d.first.items d.bytes.items };
 }
 
 impl MemDisk {
-    ghost use Rattle.outer_disk.specs.Faults.{fresh_faults};
-    ghost use Rattle.outer_disk.specs.MemDisk.{held};
+    ghost use Rattle.outer_disk.specs.Crash.{IsImage};
+    ghost use Rattle.outer_disk.specs.Faults.{fresh_faults, after_crash};
+    ghost use Rattle.outer_disk.specs.MemDisk.{held, MayLeaveOf};
 
     /// A disk with these bytes, all of them on the disk. Its calls with the numbers in `fail` fail, counted from
     /// 0, and all its calls from the write with the number `stop` on, until a crash.
@@ -60,6 +62,25 @@ impl MemDisk {
         ensures { result.now ≡ held self.now }
     {
         self.bytes.as_slice()
+    }
+
+    /// Crashes. The image that it leaves is picked by a number: the bytes of the last sync at 0, what a read
+    /// gives at 1, and else each byte written since the last sync is, by the rule of the picks, the one that
+    /// was written, that of the last sync, or any. The image is on the disk, and a stop ends. After an `Err` all
+    /// is as it was.
+    pub fn crash(&mut self, pick: u64) -> Result<(), AllocError>
+        ensures image { OnOk result (IsImage pick self.old.first self.old.calls (held self.new)) }
+        ensures allowed { OnOk result (MayLeaveOf self.old (held self.new)) }
+        ensures synced { OnOk result (self.new.calls ≡ []) }
+        ensures faults { OnOk result (self.new.faults ≡ after_crash self.old.faults) }
+        ensures err { OnErr result (self.new ≡ self.old) }
+    {
+        let first = first_bytes(&self.calls, &self.first, &self.bytes);
+        let image = image_of(self.alloc, pick, first, &self.bytes, &self.calls)?;
+        self.bytes = image;
+        self.calls.clear();
+        self.faults.end_stop();
+        Ok(())
     }
 
     /// Writes, and notes it. After an `Err` all is as it was.
@@ -158,7 +179,9 @@ impl Disk for MemDisk {
         requires { at ≤ length (held self.old) }
         ensures ok { OnOk result (held self.new ≡ written (held self.old) at part.now) }
         ensures state { OnOk result (self.new ≡ record self.old {
-            calls = self.old.calls ++ DiskCall.Write at part.now ∷ []; faults = after_write self.old.faults }) }
+          calls = self.old.calls ++ DiskCall.Write at part.now ∷ [];
+          faults = after_write self.old.faults;
+        }) }
         ensures err { OnErr result (self.new ≡ record self.old { faults = after_write self.old.faults }) }
         ensures due { (result ≡ Err Stop.Failed) ↔ IsTrue (write_fails self.old.faults) }
         ensures crash { Follows (Torn at (length part.now)) (MayLeaveOf self.old) (MayLeaveOf self.new) }
@@ -181,7 +204,9 @@ impl Disk for MemDisk {
         requires { to ≤ length (held self.old) }
         ensures ok { OnOk result (held self.new ≡ take to (held self.old)) }
         ensures state { OnOk result (self.new ≡ record self.old {
-            calls = self.old.calls ++ DiskCall.Cut to ∷ []; faults = after_other self.old.faults }) }
+          calls = self.old.calls ++ DiskCall.Cut to ∷ [];
+          faults = after_other self.old.faults;
+        }) }
         ensures err { OnErr result (self.new ≡ record self.old { faults = after_other self.old.faults }) }
         ensures due { (result ≡ Err Stop.Failed) ↔ IsTrue (fails self.old.faults) }
         ensures crash { Follows (Cut to) (MayLeaveOf self.old) (MayLeaveOf self.new) }
@@ -204,7 +229,9 @@ impl Disk for MemDisk {
         ensures ok { OnOk result (Only (held self.new) (MayLeaveOf self.new)) }
         ensures same { held self.new ≡ held self.old }
         ensures state { OnOk result (self.new ≡ record self.old {
-            calls = self.old.calls ++ DiskCall.Sync ∷ []; faults = after_other self.old.faults }) }
+          calls = self.old.calls ++ DiskCall.Sync ∷ [];
+          faults = after_other self.old.faults;
+        }) }
         ensures err { OnErr result (self.new ≡ record self.old { faults = after_other self.old.faults }) }
         ensures due { (result ≡ Err Stop.Failed) ↔ IsTrue (fails self.old.faults) }
         ensures crash { LeavesNoMore (MayLeaveOf self.old) (MayLeaveOf self.new) }
@@ -222,6 +249,13 @@ impl Disk for MemDisk {
             Err(_) => Err(Stop::Memory),
         }
     }
+}
+
+/// The first bytes: those that are kept, or those that stand there where no call was taken.
+fn first_bytes<'a>(calls: &[DiskCall], kept: &'a [u8], bytes: &'a [u8]) -> &'a [u8]
+    ensures { result.now ≡ first_of calls.now kept.now bytes.now }
+{
+    if calls.is_empty() { bytes } else { kept }
 }
 
 /// Keeps the bytes as the first ones, where no call was taken yet.

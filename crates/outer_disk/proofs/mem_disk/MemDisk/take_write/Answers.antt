@@ -7,4 +7,4 @@ pub invariant_of-self-2 : goal.invariant_of-self-2
 invariant_of-self-2 c =
     let s = c.self.inside in
     replay_push s.calls.items c.push.new.self.items (Write c.args.at c.args.part.now) s.first.items s.bytes.items c.keep_first.new.first.items c.write_into.new.bytes.items
-        c.self.invariant (search rules) (search rules) (search rules) (search rules)
+    c.self.invariant (search rules) (search rules) (search rules) (search rules)

@@ -14,7 +14,7 @@ returns-in-Ok-clause-same c = took_held c.args.self.now c.take_sync.new.self Syn
 pub returns-in-Ok-clause-crash : goal.returns-in-Ok-clause-crash
 returns-in-Ok-clause-crash c d left =
     synced_follows c.args.self.now c.take_sync.new.self d
-        (subst (λ (s : DiskState). AreWithin s.first s.calls) c.self.view_is c.self.invariant.within) (search rules, search rules) left
+    (subst (λ (s : DiskState). AreWithin s.first s.calls) c.self.view_is c.self.invariant.within) (search rules, search rules) left
 
 pub returns-in-Ok-clause-time : goal.returns-in-Ok-clause-time
 returns-in-Ok-clause-time c = took_elapses c.args.self.now c.take_sync.new.self Sync (search rules, search rules)
