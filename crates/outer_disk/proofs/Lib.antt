@@ -2,4 +2,5 @@ pub mod Crashes
 pub mod Images
 pub mod Moments
 pub mod Picks
+pub mod Places
 pub mod Replays

@@ -33,12 +33,12 @@ Only bytes outcomes = (c : List ℕ) → outcomes c → c ≡ bytes
 abbrev pub IsSynced : Option (List ℕ) → (List ℕ → Type 0) → Type 0
 IsSynced told outcomes = IfSome told (λ bytes. Only bytes outcomes)
 
--- a disk tells before and after, and the bytes are so related, or it tells neither time
-abbrev pub BothTell : (List ℕ → List ℕ → Type 0) → Option (List ℕ) → Option (List ℕ) → Type 0
-BothTell step None None = ⊤
-BothTell step (Some old) (Some new) = step old new
-BothTell step None (Some new) = ⊥
-BothTell step (Some old) None = ⊥
+-- both have a value, and the values are so related, or neither has
+abbrev pub Matched : {T : Type 0} → (T → T → Type 0) → Option T → Option T → Type 0
+Matched step None None = ⊤
+Matched step (Some old) (Some new) = step old new
+Matched step None (Some new) = ⊥
+Matched step (Some old) None = ⊥
 
 -- time goes on: a crash since t might have left what it might have left before, or what it may leave now
 pub record Elapses (before now : ℕ) (past since : ℕ → List ℕ → Type 0) (may_leave : List ℕ → Type 0) : Type 0 where

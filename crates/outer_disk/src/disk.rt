@@ -1,7 +1,7 @@
 ghost use Rattle.std.specs.Prelude.{◌≡◌, ℕ, ◌+◌, ◌<◌, ◌≤◌, List, length, take, drop, Option, IfOk, IfErr, IfSome, OnOk, OnErr, option_map};
 ghost use Rattle.std.specs.Option.{ForSome};
 ghost use Rattle.outer_io.specs.Causes.{HasCause, Rose};
-ghost use Rattle.outer_disk.specs.Disk.{written, Torn, Cut, Follows, LeavesNoMore, IsSynced, BothTell, Elapses};
+ghost use Rattle.outer_disk.specs.Disk.{written, Torn, Cut, Follows, LeavesNoMore, IsSynced, Matched, Elapses};
 
 use outer_io::{Failed, Stop};
 
@@ -49,7 +49,7 @@ pub trait Disk {
         requires piece { 0 < length part.now }
         requires within { ForSome (told self.old) (λ bytes. at ≤ length bytes) }
         ensures ok { OnOk result (told self.new ≡ option_map (λ bytes. written bytes at part.now) (told self.old)) }
-        ensures err { OnErr result (BothTell (Torn at (length part.now)) (told self.old) (told self.new)) }
+        ensures err { OnErr result (Matched (Torn at (length part.now)) (told self.old) (told self.new)) }
         ensures crash { Follows (Torn at (length part.now)) (may_leave self.old) (may_leave self.new) }
         ensures time { Elapses (moment self.old) (moment self.new) (left_since self.old) (left_since self.new)
             (may_leave self.new) }
@@ -61,7 +61,7 @@ pub trait Disk {
     fn cut(&mut self, to: u64) -> Result<(), Stop>
         requires { ForSome (told self.old) (λ bytes. to ≤ length bytes) }
         ensures ok { OnOk result (told self.new ≡ option_map (take to) (told self.old)) }
-        ensures err { OnErr result (BothTell (Cut to) (told self.old) (told self.new)) }
+        ensures err { OnErr result (Matched (Cut to) (told self.old) (told self.new)) }
         ensures crash { Follows (Cut to) (may_leave self.old) (may_leave self.new) }
         ensures time { Elapses (moment self.old) (moment self.new) (left_since self.old) (left_since self.new)
             (may_leave self.new) }

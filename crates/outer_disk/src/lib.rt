@@ -5,10 +5,14 @@
 mod disk;
 mod disk_call;
 mod disk_faults;
+mod disk_set;
 mod halt;
 mod image;
 mod mem_disk;
+mod mem_disks;
 mod piece;
 
 pub use disk::Disk;
+pub use disk_set::DiskSet;
 pub use mem_disk::MemDisk;
+pub use mem_disks::MemDisks;
