@@ -6,6 +6,8 @@ mod disk;
 mod disk_call;
 mod disk_faults;
 mod disk_set;
+mod file_disk;
+mod file_disks;
 mod halt;
 mod image;
 mod mem_disk;
@@ -14,5 +16,7 @@ mod piece;
 
 pub use disk::Disk;
 pub use disk_set::DiskSet;
+pub use file_disk::FileDisk;
+pub use file_disks::FileDisks;
 pub use mem_disk::MemDisk;
 pub use mem_disks::MemDisks;
