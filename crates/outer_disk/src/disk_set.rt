@@ -6,6 +6,9 @@ use crate::disk::Disk;
 use outer_io::Word;
 use std::alloc::AllocError;
 
+/// How many places a set has.
+pub(crate) const PLACES: usize = 16;
+
 /// The disks of the data servers, in 16 places. A disk is moved out of its place and put back.
 pub trait DiskSet {
     type D: Disk;

@@ -1,14 +1,12 @@
 ghost use Rattle.std.specs.Prelude.{◌≡◌, ◌≤◌, length, replicate, vec_len, Some, IfOk, OnOk};
 
-use crate::disk_set::DiskSet;
+use crate::disk_set::{DiskSet, PLACES};
 use crate::file_disk::FileDisk;
 use outer_io::Word;
 use std::alloc::{AllocError, Global};
 use std::marker::Model;
 use std::mem;
 use std::rt::Files;
-
-const PLACES: usize = 16;
 
 /// Disks over files: that of the data server NAME is `NAME.journal` in a directory. A crash leaves the file as
 /// it is.
@@ -105,6 +103,42 @@ impl<R: Files + Copy> DiskSet for FileDisks<R> {
     }
 
     fn crash(&mut self, _server: u8, _pick: u64) -> Result<(), AllocError> {
+        Ok(())
+    }
+}
+
+#[cfg(test)]
+mod tests {
+    use super::*;
+    use crate::disk::Disk;
+    use outer_io::{Failed, Stop};
+    use std::fs;
+    use std::test::Fail;
+
+    #[test]
+    fn a_file_keeps_what_is_written_over_a_crash(rt: HostRuntime) -> Result<(), Fail> {
+        let alloc = rt.alloc();
+        let dir = Word::from_string(String::from_str(alloc, ".")?);
+        let name = Word::from_string(String::from_str(alloc, "outer_disk_test")?);
+        let mut disks = FileDisks::new(rt, alloc, dir)?;
+        disks.names(&vec![in alloc; name]?)?;
+        let mut disk = disks.take(0);
+        assert_eq!(rt; disk.write_at(0, b"abcd"), Ok(()));
+        assert_eq!(rt; disk.write_at(1, b"xyzuv"), Ok(()));
+        assert_eq!(rt; disk.cut(5), Ok(()));
+        assert_eq!(rt; disk.sync(), Ok(()));
+        disks.give(0, disk);
+        disks.crash(0, 0)?;
+        let mut again = disks.take(0);
+        assert_eq!(rt; again.len(), Ok(5));
+        let mut buf = [0u8; 3];
+        assert_eq!(rt; again.read(2, &mut buf), Ok(()));
+        assert_eq!(rt; buf, *b"yzu");
+        assert_eq!(rt; again.read(4, &mut buf), Err(Failed));
+        fs::remove_file(&rt, "./outer_disk_test.journal")?;
+        let mut nameless = disks.take(1);
+        assert_eq!(rt; nameless.len(), Err(Failed));
+        assert_eq!(rt; nameless.sync(), Err(Stop::Failed));
         Ok(())
     }
 }

@@ -1,14 +1,12 @@
 ghost use Rattle.std.specs.Prelude.{◌≡◌, ◌-◌, ◌≤◌, ◌++◌, length, map, replicate, vec_len, Some, IfOk, OnOk};
 ghost use Rattle.outer_disk.specs.DiskSet.{empty_disk, filled};
 
-use crate::disk_set::DiskSet;
+use crate::disk_set::{DiskSet, PLACES};
 use crate::mem_disk::MemDisk;
 use outer_io::Word;
 use std::alloc::{AllocError, Global};
 use std::marker::Model;
 use std::mem;
-
-const PLACES: usize = 16;
 
 /// Disks over memory.
 #[derive(Debug, Drop)]
@@ -92,5 +90,31 @@ impl DiskSet for MemDisks {
             Some(disk) => disk.crash(pick),
             None => unreachable!(),
         }
+    }
+}
+
+#[cfg(test)]
+mod tests {
+    use super::*;
+    use crate::disk::Disk;
+    use std::test::Fail;
+
+    #[test]
+    fn a_disk_is_taken_put_back_and_crashes_in_its_place(rt: HostRuntime) -> Result<(), Fail> {
+        let alloc = rt.alloc();
+        let bytes = b"ab".to_vec(alloc)?;
+        let first = MemDisk::new(alloc, bytes, Vec::new(alloc), None);
+        let mut disks = MemDisks::new(alloc, vec![in alloc; first]?)?;
+        disks.names(&[])?;
+        let mut disk = disks.take(0);
+        assert_eq!(rt; disk.bytes(), b"ab".as_slice());
+        let last = disks.take(15);
+        assert_eq!(rt; last.bytes(), b"".as_slice());
+        disks.give(15, last);
+        assert_eq!(rt; disk.write_at(0, b"x"), Ok(()));
+        disks.give(0, disk);
+        disks.crash(0, 0)?;
+        assert_eq!(rt; disks.take(0).bytes(), b"ab".as_slice());
+        Ok(())
     }
 }

@@ -7,4 +7,4 @@ pub returns-clause-err : goal.returns-clause-err
 returns-clause-err c =
     let disks = c.self.inside.places.items in
     put_back c.crash.result c.args.self.now disks c.from.result c.in-Some.disk c.crash.new.self c.self.view_is
-        (sym (get_or_read disks c.from.result _ (omega (arith, c.self.inside.places.ok.0, c.self.invariant)) c.index_mut.ensures.value None) ∙ c.in-Some.is) c.crash.ensures.err
+    (sym (get_or_read disks c.from.result _ (omega (arith, c.self.inside.places.ok.0, c.self.invariant)) c.index_mut.ensures.value None) ∙ c.in-Some.is) c.crash.ensures.err
