@@ -8,7 +8,7 @@ use std::marker::Model;
 
 /// Which calls of a disk in memory are to fail: those that are listed, by their numbers from 0, and all calls
 /// while it has stopped. It counts the faults.
-#[derive(Debug, Drop)]
+#[derive(Drop)]
 pub struct DiskFaults {
     plan: FaultPlan,
     halt: Halt,

@@ -124,7 +124,8 @@ fn chosen_byte(number: u64, written: u8, synced: u8) -> u8
 /// The number behind a place and the byte of the image there: a byte that isn't marked stays.
 fn picked_byte(number: u64, is_marked: bool, written: u8, synced: u8) -> (u64, u8)
     ensures number { result.0 ≡ (if is_marked then next_number number else number) }
-    ensures byte { result.1 ≡ (if is_marked then byte_by (next_number number) written synced else written) }
+    ensures byte { result.1
+        ≡ (if is_marked then byte_by (next_number number) written synced else written) }
 {
     if !is_marked {
         return (number, written);

@@ -12,7 +12,7 @@ use std::marker::Model;
 
 /// A disk over memory. It tells all, fails at the listed calls, and can be made to crash. It keeps the bytes
 /// that it had at first and the calls that it has taken since, so its memory grows with what is written.
-#[derive(Debug, Drop)]
+#[derive(Drop)]
 pub struct MemDisk {
     alloc: Global,
     bytes: Vec<u8>,
@@ -86,7 +86,8 @@ impl MemDisk {
     /// Writes, and notes it. After an `Err` all is as it was.
     fn take_write(&mut self, at: u64, part: &[u8]) -> Result<(), AllocError>
         requires { at ≤ length (held self.old) }
-        ensures ok { OnOk result (self.new ≡ record self.old { calls = self.old.calls ++ DiskCall.Write at part.now ∷ [] }) }
+        ensures ok { OnOk result (self.new
+            ≡ record self.old { calls = self.old.calls ++ DiskCall.Write at part.now ∷ [] }) }
         ensures err { OnErr result (self.new ≡ self.old) }
     {
         keep_first(self.alloc, &self.calls, &mut self.first, &self.bytes)?;
@@ -100,7 +101,8 @@ impl MemDisk {
     /// Cuts, and notes it. After an `Err` all is as it was.
     fn take_cut(&mut self, to: u64) -> Result<(), AllocError>
         requires { to ≤ length (held self.old) }
-        ensures ok { OnOk result (self.new ≡ record self.old { calls = self.old.calls ++ DiskCall.Cut to ∷ [] }) }
+        ensures ok { OnOk result (self.new
+            ≡ record self.old { calls = self.old.calls ++ DiskCall.Cut to ∷ [] }) }
         ensures err { OnErr result (self.new ≡ self.old) }
     {
         keep_first(self.alloc, &self.calls, &mut self.first, &self.bytes)?;
@@ -111,7 +113,8 @@ impl MemDisk {
 
     /// Notes a sync. After an `Err` all is as it was.
     fn take_sync(&mut self) -> Result<(), AllocError>
-        ensures ok { OnOk result (self.new ≡ record self.old { calls = self.old.calls ++ DiskCall.Sync ∷ [] }) }
+        ensures ok { OnOk result (self.new
+            ≡ record self.old { calls = self.old.calls ++ DiskCall.Sync ∷ [] }) }
         ensures err { OnErr result (self.new ≡ self.old) }
     {
         keep_first(self.alloc, &self.calls, &mut self.first, &self.bytes)?;
@@ -146,9 +149,10 @@ impl Disk for MemDisk {
         ensures state { self.new ≡ record self.old { faults = after_other self.old.faults } }
         ensures due { IsErr result ↔ IsTrue (fails self.old.faults) }
         ensures crash { LeavesNoMore (MayLeaveOf self.old) (MayLeaveOf self.new) }
-        ensures time { Elapses (moment_of self.old) (moment_of self.new) (LeftSinceOf self.old) (LeftSinceOf self.new)
-            (MayLeaveOf self.new) }
-        ensures cause { HasCause (fault_count self.old.faults) (fault_count self.new.faults) result }
+        ensures time { Elapses (moment_of self.old) (moment_of self.new)
+            (LeftSinceOf self.old) (LeftSinceOf self.new) (MayLeaveOf self.new) }
+        ensures cause { HasCause (fault_count self.old.faults)
+            (fault_count self.new.faults) result }
     {
         if self.faults.is_next_to_fail() {
             return Err(Failed);
@@ -162,9 +166,10 @@ impl Disk for MemDisk {
         ensures state { self.new ≡ record self.old { faults = after_other self.old.faults } }
         ensures due { IsErr result ↔ IsTrue (fails self.old.faults) }
         ensures crash { LeavesNoMore (MayLeaveOf self.old) (MayLeaveOf self.new) }
-        ensures time { Elapses (moment_of self.old) (moment_of self.new) (LeftSinceOf self.old) (LeftSinceOf self.new)
-            (MayLeaveOf self.new) }
-        ensures cause { HasCause (fault_count self.old.faults) (fault_count self.new.faults) result }
+        ensures time { Elapses (moment_of self.old) (moment_of self.new)
+            (LeftSinceOf self.old) (LeftSinceOf self.new) (MayLeaveOf self.new) }
+        ensures cause { HasCause (fault_count self.old.faults)
+            (fault_count self.new.faults) result }
     {
         if self.faults.is_next_to_fail() {
             return Err(Failed);
@@ -182,11 +187,13 @@ impl Disk for MemDisk {
           calls = self.old.calls ++ DiskCall.Write at part.now ∷ [];
           faults = after_write self.old.faults;
         }) }
-        ensures err { OnErr result (self.new ≡ record self.old { faults = after_write self.old.faults }) }
+        ensures err { OnErr result (self.new
+            ≡ record self.old { faults = after_write self.old.faults }) }
         ensures due { (result ≡ Err Stop.Failed) ↔ IsTrue (write_fails self.old.faults) }
-        ensures crash { Follows (Torn at (length part.now)) (MayLeaveOf self.old) (MayLeaveOf self.new) }
-        ensures time { Elapses (moment_of self.old) (moment_of self.new) (LeftSinceOf self.old) (LeftSinceOf self.new)
-            (MayLeaveOf self.new) }
+        ensures crash { Follows (Torn at (length part.now))
+            (MayLeaveOf self.old) (MayLeaveOf self.new) }
+        ensures time { Elapses (moment_of self.old) (moment_of self.new)
+            (LeftSinceOf self.old) (LeftSinceOf self.new) (MayLeaveOf self.new) }
         ensures faults { fault_count self.old.faults ≤ fault_count self.new.faults }
         ensures failed { IfErr result (λ stop. stop ≡ Stop.Failed
             → Rose (fault_count self.old.faults) (fault_count self.new.faults)) }
@@ -207,11 +214,12 @@ impl Disk for MemDisk {
           calls = self.old.calls ++ DiskCall.Cut to ∷ [];
           faults = after_other self.old.faults;
         }) }
-        ensures err { OnErr result (self.new ≡ record self.old { faults = after_other self.old.faults }) }
+        ensures err { OnErr result (self.new
+            ≡ record self.old { faults = after_other self.old.faults }) }
         ensures due { (result ≡ Err Stop.Failed) ↔ IsTrue (fails self.old.faults) }
         ensures crash { Follows (Cut to) (MayLeaveOf self.old) (MayLeaveOf self.new) }
-        ensures time { Elapses (moment_of self.old) (moment_of self.new) (LeftSinceOf self.old) (LeftSinceOf self.new)
-            (MayLeaveOf self.new) }
+        ensures time { Elapses (moment_of self.old) (moment_of self.new)
+            (LeftSinceOf self.old) (LeftSinceOf self.new) (MayLeaveOf self.new) }
         ensures faults { fault_count self.old.faults ≤ fault_count self.new.faults }
         ensures failed { IfErr result (λ stop. stop ≡ Stop.Failed
             → Rose (fault_count self.old.faults) (fault_count self.new.faults)) }
@@ -232,11 +240,12 @@ impl Disk for MemDisk {
           calls = self.old.calls ++ DiskCall.Sync ∷ [];
           faults = after_other self.old.faults;
         }) }
-        ensures err { OnErr result (self.new ≡ record self.old { faults = after_other self.old.faults }) }
+        ensures err { OnErr result (self.new
+            ≡ record self.old { faults = after_other self.old.faults }) }
         ensures due { (result ≡ Err Stop.Failed) ↔ IsTrue (fails self.old.faults) }
         ensures crash { LeavesNoMore (MayLeaveOf self.old) (MayLeaveOf self.new) }
-        ensures time { Elapses (moment_of self.old) (moment_of self.new) (LeftSinceOf self.old) (LeftSinceOf self.new)
-            (MayLeaveOf self.new) }
+        ensures time { Elapses (moment_of self.old) (moment_of self.new)
+            (LeftSinceOf self.old) (LeftSinceOf self.new) (MayLeaveOf self.new) }
         ensures faults { fault_count self.old.faults ≤ fault_count self.new.faults }
         ensures failed { IfErr result (λ stop. stop ≡ Stop.Failed
             → Rose (fault_count self.old.faults) (fault_count self.new.faults)) }

@@ -9,7 +9,7 @@ use std::marker::Model;
 use std::mem;
 
 /// Disks over memory.
-#[derive(Debug, Drop)]
+#[derive(Drop)]
 pub struct MemDisks {
     places: Vec<Option<MemDisk>>,
 }
@@ -54,7 +54,8 @@ fn empty(alloc: Global) -> MemDisk
 /// Puts empty disks behind those that stand there, until there are 16.
 fn fill_up(alloc: Global, places: &mut Vec<Option<MemDisk>>) -> Result<(), AllocError>
     requires { vec_len places.old ≤ 16 }
-    ensures { OnOk result (places.new.items ≡ places.old.items ++ replicate (16 - vec_len places.old) (Some empty_disk)) }
+    ensures { OnOk result (places.new.items
+        ≡ places.old.items ++ replicate (16 - vec_len places.old) (Some empty_disk)) }
 {
     for _place in places.len()..PLACES {
         places.push(Some(empty(alloc)))?;
