@@ -1,0 +1,6 @@
+pub mod Calls
+pub mod Crash
+pub mod Disk
+pub mod DiskSet
+pub mod Faults
+pub mod MemDisk

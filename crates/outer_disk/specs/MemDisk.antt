@@ -1,0 +1,49 @@
+-- What a disk in memory tells.
+use Rattle.std.specs.Prelude.{◌≡◌, ℕ, ◌≤◌, List, [], ◌∷◌, length, take}
+use Rattle.std.proofs.Common.{sym, subst, arith}
+use Rattle.std.proofs.Math.Seq.{take-length}
+use Rattle.outer_disk.specs.Calls.{bytes_after, AreWithin, MayLeave, LeftSince}
+use Rattle.outer_disk.specs.Faults.{Faults}
+use Rattle.outer_disk.specs.declared.disk_call.DiskCall.{DiskCall}
+
+-- the bytes that were on the disk at first, the calls that it has taken since, and its faults
+pub record DiskState : Type 0 where
+  pub first : List ℕ
+  pub calls : List DiskCall
+  pub faults : Faults
+
+-- the bytes that a read gives
+abbrev pub held : DiskState → List ℕ
+held d = bytes_after d.first d.calls
+
+-- what a crash may leave
+abbrev pub MayLeaveOf : DiskState → List ℕ → Type 0
+MayLeaveOf d = MayLeave d.first d.calls
+
+-- the moment is the number of calls that it has taken
+abbrev pub moment_of : DiskState → ℕ
+moment_of d = length d.calls
+
+-- what a crash at a moment from t on might have left
+abbrev pub LeftSinceOf : DiskState → ℕ → List ℕ → Type 0
+LeftSinceOf d = LeftSince d.first d.calls
+
+-- the first bytes, where those that stand there are kept apart from the first call on
+abbrev pub first_of : List DiskCall → List ℕ → List ℕ → List ℕ
+first_of [] kept bytes = bytes
+first_of (call ∷ calls) kept bytes = kept
+
+-- the bytes are those that the calls leave of the first ones, and each call was within the bytes when it came
+pub record IsReplay (calls : List DiskCall) (kept bytes : List ℕ) : Type 0 where
+  pub same : bytes ≡ bytes_after (first_of calls kept bytes) calls
+  pub within : AreWithin (first_of calls kept bytes) calls
+
+-- what a crash may leave now it might have left since earlier
+pub counts_now_of : (d : DiskState) (t : ℕ) (c : List ℕ) → t ≤ moment_of d → MayLeaveOf d c → LeftSinceOf d t c
+counts_now_of d t c le now = (length d.calls, le, omega arith, subst (λ (cs : List DiskCall). MayLeave d.first cs c) (sym (take-length d.calls)) now)
+
+-- since this moment it may leave only what it may leave now
+pub only_now_of : (d : DiskState) (c : List ℕ) → LeftSinceOf d (moment_of d) c → MayLeaveOf d c
+only_now_of d c (k, from, to, left) =
+    let all : k ≡ length d.calls = omega arith in
+    subst (λ (cs : List DiskCall). MayLeave d.first cs c) (take-length d.calls) (subst (λ n. MayLeave d.first (take n d.calls) c) all left)

@@ -1,0 +1,408 @@
+ghost use Rattle.std.specs.Prelude.{◌≡◌, ◌≤◌, ◌∷◌, [], ◌++◌, length, OnOk, OnErr};
+ghost use Rattle.outer_disk.specs.MemDisk.{first_of};
+
+use crate::disk::Disk;
+use crate::disk_call::DiskCall;
+use crate::disk_faults::DiskFaults;
+use crate::image::{image_of, write_into};
+use crate::piece::Piece;
+use outer_io::{Failed, Stop};
+use std::alloc::{AllocError, Global};
+use std::marker::Model;
+
+/// A disk over memory. It tells all, fails at the listed calls, and can be made to crash. It keeps the bytes
+/// that it had at first and the calls that it has taken since, so its memory grows with what is written.
+#[derive(Drop)]
+pub struct MemDisk {
+    alloc: Global,
+    bytes: Vec<u8>,
+    // The first bytes, once it has taken a call.
+    first: Vec<u8>,
+    calls: Vec<DiskCall>,
+    faults: DiskFaults,
+}
+
+impl Model for MemDisk {
+    ghost use Rattle.outer_disk.specs.MemDisk.{DiskState, IsReplay, first_of};
+
+    ghost Value = { DiskState };
+
+    ghost view = { λ d. record {
+      first = first_of d.calls.items d.first.items d.bytes.items;
+      calls = d.calls.items;
+      faults = d.faults;
+    } };
+
+    ghost invariant = { λ d. IsReplay d.calls.items d.first.items d.bytes.items };
+}
+
+impl MemDisk {
+    ghost use Rattle.outer_disk.specs.Crash.{IsImage};
+    ghost use Rattle.outer_disk.specs.Faults.{fresh_faults, after_crash};
+    ghost use Rattle.outer_disk.specs.MemDisk.{held, MayLeaveOf};
+
+    /// A disk with these bytes, all of them on the disk. Its calls with the numbers in `fail` fail, counted from
+    /// 0, and all its calls from the write with the number `stop` on, until a crash.
+    pub fn new(alloc: Global, bytes: Vec<u8>, fail: Vec<u64>, stop: Option<u64>) -> MemDisk
+        ensures bytes { result.first ≡ bytes.items }
+        ensures calls { result.calls ≡ [] }
+        ensures faults { result.faults ≡ fresh_faults fail.items stop }
+    {
+        MemDisk {
+            alloc,
+            bytes,
+            first: Vec::new(alloc),
+            calls: Vec::new(alloc),
+            faults: DiskFaults::new(fail, stop),
+        }
+    }
+
+    /// What a read gives.
+    pub fn bytes(&self) -> &[u8]
+        ensures { result.now ≡ held self.now }
+    {
+        self.bytes.as_slice()
+    }
+
+    /// Crashes. The image that it leaves is picked by a number: the bytes of the last sync at 0, what a read
+    /// gives at 1, and else each byte written since the last sync is, by the rule of the picks, the one that
+    /// was written, that of the last sync, or any. The image is on the disk, and a stop ends. After an `Err` all
+    /// is as it was.
+    pub fn crash(&mut self, pick: u64) -> Result<(), AllocError>
+        ensures image { OnOk result (IsImage pick self.old.first self.old.calls (held self.new)) }
+        ensures allowed { OnOk result (MayLeaveOf self.old (held self.new)) }
+        ensures synced { OnOk result (self.new.calls ≡ []) }
+        ensures faults { OnOk result (self.new.faults ≡ after_crash self.old.faults) }
+        ensures err { OnErr result (self.new ≡ self.old) }
+    {
+        let first = first_bytes(&self.calls, &self.first, &self.bytes);
+        let image = image_of(self.alloc, pick, first, &self.bytes, &self.calls)?;
+        self.bytes = image;
+        self.calls.clear();
+        self.faults.end_stop();
+        Ok(())
+    }
+
+    /// Writes, and notes it. After an `Err` all is as it was.
+    fn take_write(&mut self, at: u64, part: &[u8]) -> Result<(), AllocError>
+        requires { at ≤ length (held self.old) }
+        ensures ok { OnOk result (self.new
+            ≡ record self.old { calls = self.old.calls ++ DiskCall.Write at part.now ∷ [] }) }
+        ensures err { OnErr result (self.new ≡ self.old) }
+    {
+        keep_first(self.alloc, &self.calls, &mut self.first, &self.bytes)?;
+        self.calls.reserve(1)?;
+        let piece = Piece::copy_of(self.alloc, part)?;
+        write_into(&mut self.bytes, at as usize, part)?;
+        self.calls.push(DiskCall::Write { at, part: piece })?;
+        Ok(())
+    }
+
+    /// Cuts, and notes it. After an `Err` all is as it was.
+    fn take_cut(&mut self, to: u64) -> Result<(), AllocError>
+        requires { to ≤ length (held self.old) }
+        ensures ok { OnOk result (self.new
+            ≡ record self.old { calls = self.old.calls ++ DiskCall.Cut to ∷ [] }) }
+        ensures err { OnErr result (self.new ≡ self.old) }
+    {
+        keep_first(self.alloc, &self.calls, &mut self.first, &self.bytes)?;
+        self.calls.push(DiskCall::Cut { to })?;
+        self.bytes.truncate(to as usize);
+        Ok(())
+    }
+
+    /// Notes a sync. After an `Err` all is as it was.
+    fn take_sync(&mut self) -> Result<(), AllocError>
+        ensures ok { OnOk result (self.new
+            ≡ record self.old { calls = self.old.calls ++ DiskCall.Sync ∷ [] }) }
+        ensures err { OnErr result (self.new ≡ self.old) }
+    {
+        keep_first(self.alloc, &self.calls, &mut self.first, &self.bytes)?;
+        self.calls.push(DiskCall::Sync)?;
+        Ok(())
+    }
+}
+
+impl Disk for MemDisk {
+    ghost use Rattle.std.specs.Prelude.{Some, ◌+◌, ◌<◌, ◌↔◌, take, drop, IfErr, IfOk, IsErr, IsTrue};
+    ghost use Rattle.outer_io.specs.Causes.{HasCause, Rose};
+    ghost use Rattle.outer_disk.specs.Disk.{written, Torn, Cut, Follows, LeavesNoMore, Only, Elapses};
+    ghost use Rattle.outer_disk.specs.Faults.{fault_count, fails, write_fails, after_other, after_write};
+    ghost use Rattle.outer_disk.specs.MemDisk.{held, MayLeaveOf, moment_of, LeftSinceOf, counts_now_of, only_now_of};
+
+    ghost told = { λ d. Some (held d) };
+
+    ghost may_leave = { MayLeaveOf };
+
+    ghost moment = { moment_of };
+
+    ghost left_since = { LeftSinceOf };
+
+    ghost faults = { λ d. fault_count d.faults };
+
+    ghost counts_now = { counts_now_of };
+
+    ghost only_now = { only_now_of };
+
+    fn len(&mut self) -> Result<u64, Failed>
+        ensures value { IfOk result (λ n. n ≡ length (held self.old)) }
+        ensures state { self.new ≡ record self.old { faults = after_other self.old.faults } }
+        ensures due { IsErr result ↔ IsTrue (fails self.old.faults) }
+        ensures crash { LeavesNoMore (MayLeaveOf self.old) (MayLeaveOf self.new) }
+        ensures time { Elapses (moment_of self.old) (moment_of self.new)
+            (LeftSinceOf self.old) (LeftSinceOf self.new) (MayLeaveOf self.new) }
+        ensures cause { HasCause (fault_count self.old.faults)
+            (fault_count self.new.faults) result }
+    {
+        if self.faults.is_next_to_fail() {
+            return Err(Failed);
+        }
+        Ok(self.bytes.len() as u64)
+    }
+
+    fn read(&mut self, at: u64, buf: &mut [u8]) -> Result<(), Failed>
+        requires { at + length buf.old ≤ length (held self.old) }
+        ensures ok { OnOk result (buf.new ≡ take (length buf.old) (drop at (held self.old))) }
+        ensures state { self.new ≡ record self.old { faults = after_other self.old.faults } }
+        ensures due { IsErr result ↔ IsTrue (fails self.old.faults) }
+        ensures crash { LeavesNoMore (MayLeaveOf self.old) (MayLeaveOf self.new) }
+        ensures time { Elapses (moment_of self.old) (moment_of self.new)
+            (LeftSinceOf self.old) (LeftSinceOf self.new) (MayLeaveOf self.new) }
+        ensures cause { HasCause (fault_count self.old.faults)
+            (fault_count self.new.faults) result }
+    {
+        if self.faults.is_next_to_fail() {
+            return Err(Failed);
+        }
+        let from = at as usize;
+        let to = from + buf.len();
+        buf.copy_from_slice(&self.bytes[from..to]);
+        Ok(())
+    }
+
+    fn write_at(&mut self, at: u64, part: &[u8]) -> Result<(), Stop>
+        requires { at ≤ length (held self.old) }
+        ensures ok { OnOk result (held self.new ≡ written (held self.old) at part.now) }
+        ensures state { OnOk result (self.new ≡ record self.old {
+          calls = self.old.calls ++ DiskCall.Write at part.now ∷ [];
+          faults = after_write self.old.faults;
+        }) }
+        ensures err { OnErr result (self.new
+            ≡ record self.old { faults = after_write self.old.faults }) }
+        ensures due { (result ≡ Err Stop.Failed) ↔ IsTrue (write_fails self.old.faults) }
+        ensures crash { Follows (Torn at (length part.now))
+            (MayLeaveOf self.old) (MayLeaveOf self.new) }
+        ensures time { Elapses (moment_of self.old) (moment_of self.new)
+            (LeftSinceOf self.old) (LeftSinceOf self.new) (MayLeaveOf self.new) }
+        ensures faults { fault_count self.old.faults ≤ fault_count self.new.faults }
+        ensures failed { IfErr result (λ stop. stop ≡ Stop.Failed
+            → Rose (fault_count self.old.faults) (fault_count self.new.faults)) }
+    {
+        if self.faults.is_next_write_to_fail() {
+            return Err(Stop::Failed);
+        }
+        match self.take_write(at, part) {
+            Ok(()) => Ok(()),
+            Err(_) => Err(Stop::Memory),
+        }
+    }
+
+    fn cut(&mut self, to: u64) -> Result<(), Stop>
+        requires { to ≤ length (held self.old) }
+        ensures ok { OnOk result (held self.new ≡ take to (held self.old)) }
+        ensures state { OnOk result (self.new ≡ record self.old {
+          calls = self.old.calls ++ DiskCall.Cut to ∷ [];
+          faults = after_other self.old.faults;
+        }) }
+        ensures err { OnErr result (self.new
+            ≡ record self.old { faults = after_other self.old.faults }) }
+        ensures due { (result ≡ Err Stop.Failed) ↔ IsTrue (fails self.old.faults) }
+        ensures crash { Follows (Cut to) (MayLeaveOf self.old) (MayLeaveOf self.new) }
+        ensures time { Elapses (moment_of self.old) (moment_of self.new)
+            (LeftSinceOf self.old) (LeftSinceOf self.new) (MayLeaveOf self.new) }
+        ensures faults { fault_count self.old.faults ≤ fault_count self.new.faults }
+        ensures failed { IfErr result (λ stop. stop ≡ Stop.Failed
+            → Rose (fault_count self.old.faults) (fault_count self.new.faults)) }
+    {
+        if self.faults.is_next_to_fail() {
+            return Err(Stop::Failed);
+        }
+        match self.take_cut(to) {
+            Ok(()) => Ok(()),
+            Err(_) => Err(Stop::Memory),
+        }
+    }
+
+    fn sync(&mut self) -> Result<(), Stop>
+        ensures ok { OnOk result (Only (held self.new) (MayLeaveOf self.new)) }
+        ensures same { held self.new ≡ held self.old }
+        ensures state { OnOk result (self.new ≡ record self.old {
+          calls = self.old.calls ++ DiskCall.Sync ∷ [];
+          faults = after_other self.old.faults;
+        }) }
+        ensures err { OnErr result (self.new
+            ≡ record self.old { faults = after_other self.old.faults }) }
+        ensures due { (result ≡ Err Stop.Failed) ↔ IsTrue (fails self.old.faults) }
+        ensures crash { LeavesNoMore (MayLeaveOf self.old) (MayLeaveOf self.new) }
+        ensures time { Elapses (moment_of self.old) (moment_of self.new)
+            (LeftSinceOf self.old) (LeftSinceOf self.new) (MayLeaveOf self.new) }
+        ensures faults { fault_count self.old.faults ≤ fault_count self.new.faults }
+        ensures failed { IfErr result (λ stop. stop ≡ Stop.Failed
+            → Rose (fault_count self.old.faults) (fault_count self.new.faults)) }
+    {
+        if self.faults.is_next_to_fail() {
+            return Err(Stop::Failed);
+        }
+        match self.take_sync() {
+            Ok(()) => Ok(()),
+            Err(_) => Err(Stop::Memory),
+        }
+    }
+}
+
+/// The first bytes: those that are kept, or those that stand there where no call was taken.
+fn first_bytes<'a>(calls: &[DiskCall], kept: &'a [u8], bytes: &'a [u8]) -> &'a [u8]
+    ensures { result.now ≡ first_of calls.now kept.now bytes.now }
+{
+    if calls.is_empty() { bytes } else { kept }
+}
+
+/// Keeps the bytes as the first ones, where no call was taken yet.
+fn keep_first(
+    alloc: Global,
+    calls: &[DiskCall],
+    first: &mut Vec<u8>,
+    bytes: &[u8],
+) -> Result<(), AllocError>
+    ensures ok { OnOk result (first.new.items ≡ first_of calls.now first.old.items bytes.now) }
+    ensures err { OnErr result (first.new.items ≡ first.old.items) }
+{
+    if calls.is_empty() {
+        *first = bytes.to_vec(alloc)?;
+    }
+    Ok(())
+}
+
+#[cfg(test)]
+mod tests {
+    use super::*;
+    use std::test::Fail;
+
+    fn disk_with(
+        alloc: Global,
+        text: &str,
+        fail: &[u64],
+        stop: Option<u64>,
+    ) -> Result<MemDisk, Fail> {
+        let bytes = text.as_bytes().to_vec(alloc)?;
+        Ok(MemDisk::new(alloc, bytes, fail.to_vec(alloc)?, stop))
+    }
+
+    // Writes where a part may begin there.
+    fn write(disk: &mut MemDisk, at: u64, part: &str) -> Result<(), Stop> {
+        if at as usize > disk.bytes().len() {
+            return Err(Stop::Memory);
+        }
+        disk.write_at(at, part.as_bytes())
+    }
+
+    // Cuts where there are so many bytes.
+    fn cut(disk: &mut MemDisk, to: u64) -> Result<(), Stop> {
+        if to as usize > disk.bytes().len() {
+            return Err(Stop::Memory);
+        }
+        disk.cut(to)
+    }
+
+    fn sync(disk: &mut MemDisk) -> Result<(), Stop> {
+        disk.sync()
+    }
+
+    fn len(disk: &mut MemDisk) -> Result<u64, Failed> {
+        disk.len()
+    }
+
+    // Two bytes from a place on, where it has them.
+    fn read(disk: &mut MemDisk, at: u64) -> Result<[u8; 2], Failed> {
+        let mut buf = [0u8; 2];
+        if at > 9 || disk.bytes().len() < at as usize + 2 {
+            return Err(Failed);
+        }
+        disk.read(at, &mut buf)?;
+        Ok(buf)
+    }
+
+    fn crash(disk: &mut MemDisk, pick: u64) -> Result<(), Fail> {
+        disk.crash(pick)?;
+        Ok(())
+    }
+
+    #[test]
+    fn a_crash_leaves_the_image_that_is_picked(rt: HostRuntime) -> Result<(), Fail> {
+        let alloc = rt.alloc();
+        let images: [(u64, &[u8]); 6] = [
+            (0, b"aXYdef"),
+            (1, b"zXYdPQRS"),
+            (2, &[99, 88, 89, 100, 31, 75, 0, 83]),
+            (3, &[122, 88, 89, 100, 101, 180, 0, 202]),
+            (5, &[64, 88, 89, 100, 80, 135, 0, 0]),
+            (u64::MAX, &[135, 88, 89, 100, 85, 14, 0, 35]),
+        ];
+        for (pick, image) in images {
+            let mut disk = disk_with(alloc, "abcdef", &[], None)?;
+            assert_eq!(rt; write(&mut disk, 1, "XY"), Ok(()));
+            assert_eq!(rt; sync(&mut disk), Ok(()));
+            assert_eq!(rt; write(&mut disk, 4, "PQRS"), Ok(()));
+            assert_eq!(rt; write(&mut disk, 0, "z"), Ok(()));
+            crash(&mut disk, pick)?;
+            assert_eq!(rt; disk.bytes(), image, "at {pick}");
+            crash(&mut disk, 0)?;
+            assert_eq!(rt; disk.bytes(), image, "at {pick}, again");
+        }
+        Ok(())
+    }
+
+    #[test]
+    fn a_crash_behind_a_cut(rt: HostRuntime) -> Result<(), Fail> {
+        let alloc = rt.alloc();
+        let images: [(u64, &[u8]); 4] = [
+            (0, b"abcdef"),
+            (1, b"abxyz"),
+            (3, &[97, 98, 120, 100, 180]),
+            (5, &[97, 98, 64, 121, 135]),
+        ];
+        for (pick, image) in images {
+            let mut disk = disk_with(alloc, "abcdef", &[], None)?;
+            assert_eq!(rt; cut(&mut disk, 2), Ok(()));
+            assert_eq!(rt; write(&mut disk, 2, "xyz"), Ok(()));
+            crash(&mut disk, pick)?;
+            assert_eq!(rt; disk.bytes(), image, "at {pick}");
+        }
+        Ok(())
+    }
+
+    #[test]
+    fn listed_calls_and_those_behind_a_stop_do_nothing(rt: HostRuntime) -> Result<(), Fail> {
+        let alloc = rt.alloc();
+        let mut disk = disk_with(alloc, "abc", &[0, 2, 4, 6, 8], Some(2))?;
+        assert_eq!(rt; len(&mut disk), Err(Failed));
+        assert_eq!(rt; len(&mut disk), Ok(3));
+        assert_eq!(rt; read(&mut disk, 1), Err(Failed));
+        assert_eq!(rt; read(&mut disk, 1), Ok(*b"bc"));
+        assert_eq!(rt; write(&mut disk, 3, "d"), Err(Stop::Failed));
+        assert_eq!(rt; write(&mut disk, 3, "e"), Ok(()));
+        assert_eq!(rt; cut(&mut disk, 1), Err(Stop::Failed));
+        assert_eq!(rt; cut(&mut disk, 3), Ok(()));
+        assert_eq!(rt; sync(&mut disk), Err(Stop::Failed));
+        assert_eq!(rt; sync(&mut disk), Ok(()));
+        // The third write is the one from which it stands still.
+        assert_eq!(rt; write(&mut disk, 0, "x"), Err(Stop::Failed));
+        assert_eq!(rt; len(&mut disk), Err(Failed));
+        assert_eq!(rt; sync(&mut disk), Err(Stop::Failed));
+        assert_eq!(rt; disk.bytes(), b"abc".as_slice());
+        crash(&mut disk, 1)?;
+        assert_eq!(rt; write(&mut disk, 0, "x"), Ok(()));
+        assert_eq!(rt; disk.bytes(), b"xbc".as_slice());
+        Ok(())
+    }
+}
