@@ -1,0 +1,2 @@
+pub mod OneRecord
+pub mod NoRecord
