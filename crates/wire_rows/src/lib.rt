@@ -11,4 +11,6 @@ mod frames;
 #[cfg(test)]
 mod queues;
 #[cfg(test)]
+mod records;
+#[cfg(test)]
 mod windows;
