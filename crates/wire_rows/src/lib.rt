@@ -13,4 +13,6 @@ mod messages;
 #[cfg(test)]
 mod queues;
 #[cfg(test)]
+mod records;
+#[cfg(test)]
 mod windows;

@@ -1,0 +1,3 @@
+pub mod OneRecord
+pub mod NoRecord
+pub mod OrderedRecords

@@ -1,0 +1,144 @@
+ghost use Rattle.std.specs.Prelude.{◌≡◌, ℕ, List, ◌≤◌, ◌++◌, ◌∷◌, length, drop, Err, IfOk, IfSome, IfNone};
+ghost use Rattle.plain_orders.specs.declared.entry.Entry.{Entry};
+ghost use Rattle.journal_records.specs.Records.{entry_bytes, IsRecord, NoRecordAhead};
+
+use crate::item_head::take_item_head;
+use crate::record_error::RecordError;
+use crate::record_kinds::{CLOSED, COMMIT, EPOCH, OPENED, ROLLBACK, UPDATE};
+use crate::record_op::is_record_op;
+use field_bytes::{take_op, take_u8, take_u32, take_u64};
+use plain_orders::Entry;
+use std::alloc::{AllocError, Global};
+
+/// An Epoch behind its kind, and what follows it.
+#[tactic(auto, using(crate::proofs::NoRecord::no_epoch))]
+fn take_epoch(bytes: &[u8]) -> Option<(Entry, &[u8])>
+    ensures some { IfSome result (λ got. 1 ∷ bytes.now ≡ entry_bytes got.0 ++ got.1.now) }
+    ensures is_record { IfSome result (λ got. IsRecord got.0) }
+    ensures none { IfNone result (NoRecordAhead (1 ∷ bytes.now)) }
+{
+    let (number, rest) = take_u32(bytes)?;
+    Some((Entry::Epoch { number }, rest))
+}
+
+/// An Opened behind its kind, and what follows it.
+#[tactic(auto, using(crate::proofs::NoRecord::no_opened, crate::proofs::NoRecord::no_app))]
+fn take_opened(bytes: &[u8]) -> Option<(Entry, &[u8])>
+    ensures some { IfSome result (λ got. 2 ∷ bytes.now ≡ entry_bytes got.0 ++ got.1.now) }
+    ensures is_record { IfSome result (λ got. IsRecord got.0) }
+    ensures none { IfNone result (NoRecordAhead (2 ∷ bytes.now)) }
+{
+    let (session, rest) = take_u64(bytes)?;
+    let (app, rest) = take_u8(rest)?;
+    Some((Entry::Opened { session, app }, rest))
+}
+
+/// A Closed behind its kind, and what follows it.
+#[tactic(auto, using(crate::proofs::NoRecord::no_closed))]
+fn take_closed(bytes: &[u8]) -> Option<(Entry, &[u8])>
+    ensures some { IfSome result (λ got. 3 ∷ bytes.now ≡ entry_bytes got.0 ++ got.1.now) }
+    ensures is_record { IfSome result (λ got. IsRecord got.0) }
+    ensures none { IfNone result (NoRecordAhead (3 ∷ bytes.now)) }
+{
+    let (session, rest) = take_u64(bytes)?;
+    Some((Entry::Closed { session }, rest))
+}
+
+/// An Update behind its kind, and what follows it.
+fn take_update(alloc: Global, bytes: &[u8]) -> Result<Option<(Entry, &[u8])>, AllocError>
+    ensures some { IfOk result (λ taken. IfSome taken (λ got.
+        4 ∷ bytes.now ≡ entry_bytes got.0 ++ got.1.now)) }
+    ensures is_record { IfOk result (λ taken. IfSome taken (λ got. IsRecord got.0)) }
+    ensures none { IfOk result (λ taken. IfNone taken (NoRecordAhead (4 ∷ bytes.now))) }
+{
+    let Some((head, rest)) = take_item_head(bytes) else {
+        return Ok(None);
+    };
+    let Some((op, rest)) = take_op(alloc, rest)? else {
+        return Ok(None);
+    };
+    if !is_record_op(head.txn, &op) {
+        return Ok(None);
+    }
+    let entry = Entry::Update {
+        session: head.session,
+        w: head.w,
+        job: head.job,
+        txn: head.txn,
+        op,
+    };
+    Ok(Some((entry, rest)))
+}
+
+/// A Commit behind its kind, and what follows it.
+#[tactic(auto, using(crate::proofs::NoRecord::no_commit))]
+fn take_commit(bytes: &[u8]) -> Option<(Entry, &[u8])>
+    ensures some { IfSome result (λ got. 5 ∷ bytes.now ≡ entry_bytes got.0 ++ got.1.now) }
+    ensures is_record { IfSome result (λ got. IsRecord got.0) }
+    ensures none { IfNone result (NoRecordAhead (5 ∷ bytes.now)) }
+{
+    let (head, rest) = take_item_head(bytes)?;
+    let entry = Entry::Commit {
+        session: head.session,
+        w: head.w,
+        job: head.job,
+        txn: head.txn,
+    };
+    Some((entry, rest))
+}
+
+/// A Rollback behind its kind, and what follows it.
+#[tactic(auto, using(crate::proofs::NoRecord::no_rollback))]
+fn take_rollback(bytes: &[u8]) -> Option<(Entry, &[u8])>
+    ensures some { IfSome result (λ got. 6 ∷ bytes.now ≡ entry_bytes got.0 ++ got.1.now) }
+    ensures is_record { IfSome result (λ got. IsRecord got.0) }
+    ensures none { IfNone result (NoRecordAhead (6 ∷ bytes.now)) }
+{
+    let (head, rest) = take_item_head(bytes)?;
+    let entry = Entry::Rollback {
+        session: head.session,
+        w: head.w,
+        job: head.job,
+        txn: head.txn,
+    };
+    Some((entry, rest))
+}
+
+/// The entry whose record stands in front, and what follows it.
+fn take_entry(alloc: Global, bytes: &[u8]) -> Result<Option<(Entry, &[u8])>, AllocError>
+    ensures some { IfOk result (λ taken. IfSome taken (λ got.
+        bytes.now ≡ entry_bytes got.0 ++ got.1.now)) }
+    ensures is_record { IfOk result (λ taken. IfSome taken (λ got. IsRecord got.0)) }
+    ensures none { IfOk result (λ taken. IfNone taken (NoRecordAhead bytes.now)) }
+{
+    let Some((kind, rest)) = take_u8(bytes) else {
+        return Ok(None);
+    };
+    match kind {
+        EPOCH => Ok(take_epoch(rest)),
+        OPENED => Ok(take_opened(rest)),
+        CLOSED => Ok(take_closed(rest)),
+        UPDATE => take_update(alloc, rest),
+        COMMIT => Ok(take_commit(rest)),
+        ROLLBACK => Ok(take_rollback(rest)),
+        _ => Ok(None),
+    }
+}
+
+/// The entry whose record stands in front of the bytes, and how many bytes it takes. What is taken of
+/// memory is as much as the record holds.
+pub fn read_entry(alloc: Global, bytes: &[u8]) -> Result<(Entry, usize), RecordError>
+    ensures ok { IfOk result (λ got. bytes.now ≡ entry_bytes got.0 ++ drop got.1 bytes.now) }
+    ensures count { IfOk result (λ got. got.1 ≡ length (entry_bytes got.0)) }
+    ensures within { IfOk result (λ got. got.1 ≤ length bytes.now) }
+    ensures is_record { IfOk result (λ got. IsRecord got.0) }
+    ensures not_a_record { result ≡ Err RecordError.NotARecord → NoRecordAhead bytes.now }
+    ensures again { (entry : Entry) (rest : List ℕ) → IsRecord entry →
+        bytes.now ≡ entry_bytes entry ++ rest → IfOk result (λ got. got.0 ≡ entry) }
+{
+    match take_entry(alloc, bytes) {
+        Ok(Some((entry, rest))) => Ok((entry, bytes.len() - rest.len())),
+        Ok(None) => Err(RecordError::NotARecord),
+        Err(error) => Err(RecordError::Memory(error)),
+    }
+}

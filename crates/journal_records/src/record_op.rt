@@ -1,0 +1,19 @@
+ghost use Rattle.std.specs.Prelude.{◌↔◌, IsTrue};
+ghost use Rattle.field_bytes.specs.Fields.{IsOpField};
+ghost use Rattle.journal_records.specs.Records.{IsRecordOp};
+
+use plain_orders::Op;
+
+/// The least number of 19 digits.
+const AMOUNT_LIMIT: u64 = 1_000_000_000_000_000_000;
+
+/// Whether a record may hold an operation that was read, in a transaction or, at 0, in none.
+pub fn is_record_op(txn: u32, op: &Op) -> bool
+    requires { IsOpField op.now }
+    ensures { IsTrue result ↔ IsRecordOp txn op.now }
+{
+    match op {
+        Op::Add { amount, .. } => txn == 0 && amount.unsigned_abs() < AMOUNT_LIMIT,
+        Op::Set { .. } | Op::Kill { .. } => true,
+    }
+}
