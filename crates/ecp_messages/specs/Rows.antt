@@ -50,13 +50,15 @@ about_number Committed = 4
 about_number RolledBack = 5
 about_number Synced = 6
 
--- a mode, whether an Answer is wanted and what it tells stand in one byte
+-- a mode in one byte
 unfoldable pub mode_bytes : Mode → List ℕ
 mode_bytes mode = u8_bytes (mode_number mode)
 
+-- whether an Answer is wanted, in one byte
 unfoldable pub wanted_bytes : Bool → List ℕ
 wanted_bytes wanted = u8_bytes (wanted_number wanted)
 
+-- what an Answer tells, in one byte
 unfoldable pub about_bytes : About → List ℕ
 about_bytes about = u8_bytes (about_number about)
 
@@ -134,10 +136,11 @@ pub record Row : Type 0 where
   pub fields : List Field
   pub sum_kept : Bool
 
--- rows with no sum
+-- rows with no sum, of messages without a number
 abbrev pub unnumbered : ℕ → List Field → Row
 unnumbered kind fields = record { kind = kind; numbered = false; fields = fields; sum_kept = true }
 
+-- and those of numbered messages
 abbrev pub numbered : ℕ → List Field → Row
 numbered kind fields = record { kind = kind; numbered = true; fields = fields; sum_kept = true }
 

@@ -12,7 +12,8 @@ use std::alloc::Global;
 
 /// Reads a body whose answer is right of it.
 fn read_down(alloc: Global, body: &[u8]) -> Result<DownFrame, MessageError>
-    ensures { Reads down_frame_bytes IsDownFrame (HasUnknownKind down_row body.now) body.now result }
+    ensures { Reads down_frame_bytes IsDownFrame
+        (HasUnknownKind down_row body.now) body.now result }
 {
     let Some((head, rest)) = take_head(body) else {
         return Err(MessageError::BadField);
@@ -37,7 +38,8 @@ fn read_down(alloc: Global, body: &[u8]) -> Result<DownFrame, MessageError>
     })
 }
 
-/// The frame whose bytes the body is. Unless memory is wanting each error is answered exactly where it is right.
+/// The frame whose bytes the body is. Unless memory is wanting, `BadKind` is answered exactly where the 17th byte
+/// is no kind of the table, `LeftOver` exactly where bytes follow a frame, and `BadField` exactly elsewhere.
 pub fn decode_down(alloc: Global, body: &[u8]) -> Result<DownFrame, MessageError>
     ensures ok { IfOk result (λ frame. IsDownFrame frame × (down_frame_bytes frame ≡ body.now)) }
     ensures again { (frame : DownFrame) → IsDownFrame frame → down_frame_bytes frame ≡ body.now →

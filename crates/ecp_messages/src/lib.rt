@@ -1,7 +1,7 @@
-//! The messages between an application server and a data server, and their bytes. A frame has its number, the
-//! count of what was taken from the other end, and one message: its kind and its fields, which one table for each
-//! direction states. Bytes of a frame are read in one way or refused for one cause, and a frame has one
-//! spelling: `messages_have_one_spelling`.
+//! The messages between an application server and a data server, and their bytes. A frame has its number,
+//! the count of what was taken from the other end, and one message: its kind and its fields, as one table for
+//! each direction states (`specs/Ups`, `specs/Downs`). A body is read in one way or refused for one cause,
+//! and a frame has one spelling: `messages_have_one_spelling`. No clause says what a message is for.
 #![tactic(auto)]
 
 mod about;

@@ -3,10 +3,11 @@ use plain_orders::Op;
 use std::alloc::{AllocError, Global};
 use std::test::*;
 
-/// The first numbered update of a session, `set ^x 5`.
-const UPDATE: [u8; 39] = [
-    0, 0, 0, 0, 0, 0, 0, 1, 0, 0, 0, 0, 0, 0, 0, 0, 3, 0, 0, 0, 0, 0, 0, 0, 1, 0, 0, 0, 0, 0, 0, 1,
-    0, 2, 0x78, 0, 0, 1, 0x35,
+/// Frames of a session: the update `set ^x 5`, then job 2 asks for ^x shared, then 64 messages were taken.
+const SESSION: [&[u8]; 3] = [
+    b"\0\0\0\0\0\0\0\x01\0\0\0\0\0\0\0\0\x03\0\0\0\0\0\0\0\x01\0\0\0\0\0\0\x01\0\x02x\0\0\x015",
+    b"\0\0\0\0\0\0\0\x02\0\0\0\0\0\0\0\x03\x06\0\0\0\x07\0\x02\x02\0\x02x\0",
+    b"\0\0\0\0\0\0\0\0\0\0\0\0\0\0\0\x40\x7F",
 ];
 
 /// Numbers, kinds and fields of up messages: each with its smallest and its greatest fields.
@@ -247,7 +248,9 @@ fn is_block(alloc: Global, body: &[u8], bytes: &[u8]) -> Result<bool, MessageErr
 #[test]
 fn up_messages_are_read_and_written(rt: HostRuntime) -> Result<(), Fail> {
     let alloc = rt.alloc();
-    assert_eq!(rt; up_again(alloc, &UPDATE)?.as_slice(), UPDATE.as_slice());
+    for frame in SESSION {
+        assert_eq!(rt; up_again(alloc, frame)?.as_slice(), frame);
+    }
     for (seq, kind, fields) in UPS {
         let mut body = body(alloc, seq, kind, fields)?;
         assert_eq!(rt;
