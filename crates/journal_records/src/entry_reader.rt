@@ -125,8 +125,8 @@ fn take_entry(alloc: Global, bytes: &[u8]) -> Result<Option<(Entry, &[u8])>, All
     }
 }
 
-/// The entry whose record stands in front of the bytes, and how many bytes it takes. What is taken of
-/// memory is as much as the record holds.
+/// The entry whose record stands in front of the bytes, and how many bytes it takes. It takes
+/// no more memory than the bytes that stand there justify.
 pub fn read_entry(alloc: Global, bytes: &[u8]) -> Result<(Entry, usize), RecordError>
     ensures ok { IfOk result (λ got. bytes.now ≡ entry_bytes got.0 ++ drop got.1 bytes.now) }
     ensures count { IfOk result (λ got. got.1 ≡ length (entry_bytes got.0)) }

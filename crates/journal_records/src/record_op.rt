@@ -7,7 +7,8 @@ use plain_orders::Op;
 /// The least number of 19 digits.
 const AMOUNT_LIMIT: u64 = 1_000_000_000_000_000_000;
 
-/// Whether a record may hold an operation that was read, in a transaction or, at 0, in none.
+/// Whether an operation whose parts stand in fields may stand in a record; `txn` is its transaction, 0
+/// being none.
 pub fn is_record_op(txn: u32, op: &Op) -> bool
     requires { IsOpField op.now }
     ensures { IsTrue result ↔ IsRecordOp txn op.now }
