@@ -20,12 +20,13 @@ use Rattle.job_script.specs.Parts.{Part, NewName, NewGlobal, OfKind, ASetting, A
 use Rattle.job_script.specs.Rows.{Row}
 use Rattle.job_script.specs.Words.{IsAhead, IsWordEnd, first_word}
 
--- a new name: its form, declared already, one too many
+-- Want of memory says nothing. A new name: its form, declared already, one too many
 abbrev pub RefusesNewName : Declared → NameKind → List ℕ → LineFault → Type 0
 RefusesNewName d kind text (Bad Words) = text ≡ []
 RefusesNewName d kind text (Bad Name) = (text ≢ []) × (IsNodeName (first_word text) → ⊥)
 RefusesNewName d kind text (Bad Twice) = IsNodeName (first_word text) × (has_name d (first_word text) ≡ true)
 RefusesNewName d kind text (Bad TooMany) = IsNodeName (first_word text) × (has_name d (first_word text) ≡ false) × (HasRoom d kind → ⊥)
+RefusesNewName d kind text (Memory error) = Unit {0}
 RefusesNewName d kind text fault = ⊥
 
 -- a caret and a name are the first word
@@ -38,6 +39,7 @@ RefusesNewGlobal d text (Bad Words) = text ≡ []
 RefusesNewGlobal d text (Bad Name) = (text ≢ []) × ((name : List ℕ) → IsGlobal name text → ⊥)
 RefusesNewGlobal d text (Bad Twice) = (name : List ℕ) × IsGlobal name text × (server_of d.globals name ≢ None)
 RefusesNewGlobal d text (Bad TooMany) = (name : List ℕ) × IsGlobal name text × (server_of d.globals name ≡ None) × (GLOBALS ≤ length d.globals)
+RefusesNewGlobal d text (Memory error) = Unit {0}
 RefusesNewGlobal d text fault = ⊥
 
 -- a name that must be declared as one of this kind
@@ -106,6 +108,7 @@ RefusesNode d text (Bad Words) = text ≡ []
 RefusesNode d text (Bad Node) = (text ≢ []) × HasBadNode d HasEmpty text
 RefusesNode d text UnknownName = HasUnknownGlobal d text
 RefusesNode d text (Bad Key) = HasLongKey d text
+RefusesNode d text (Memory error) = Unit {0}
 RefusesNode d text fault = ⊥
 
 -- a subscript before the last is empty
@@ -119,6 +122,7 @@ RefusesNext d text (Bad Node) = (text ≢ []) × HasBadNode d HasEmptyFront text
 RefusesNext d text UnknownName = HasUnknownGlobal d text
 RefusesNext d text (Bad Key) = HasLongKey d text
 RefusesNext d text (Bad NoSub) = (name : List ℕ) × (rest : List ℕ) × IsDeclared d name text × ReadsParts name [] text rest × IsWordEnd rest
+RefusesNext d text (Memory error) = Unit {0}
 RefusesNext d text fault = ⊥
 
 -- a value
@@ -130,13 +134,14 @@ RefusesValue text (Bad Value) =
     ⊎ (HasValueFault text Unclosed
     ⊎ ((value : List ℕ) × (rest : List ℕ) × ReadsString value text rest × (length value ≤ 3000) × (IsWordEnd rest → ⊥))))
 RefusesValue text (Bad Long) = HasValueFault text ValueTooLong
+RefusesValue text (Memory error) = Unit {0}
 RefusesValue text fault = ⊥
 
 -- a wait whose number is wanting or wrong
 abbrev pub RefusesWait : List ℕ → LineFault → Type 0
 RefusesWait text fault = (behind : List ℕ) × IsAhead (codes "wait") text behind × RefusesNumber 1 10000 behind fault
 
--- a text doesn't begin with a part of this kind, whatever the part says; or memory is wanting
+-- a text doesn't begin with a part of this kind, whatever the part says
 abbrev pub RefusesPart : Declared → Part → List ℕ → LineFault → Type 0
 RefusesPart d (NewName kind name) text fault = RefusesNewName d kind text fault
 RefusesPart d (NewGlobal name) text fault = RefusesNewGlobal d text fault
@@ -156,9 +161,14 @@ abbrev pub RefusesParts : Declared → List Part → List ℕ → LineFault → 
 RefusesParts d [] text fault = (text ≢ []) × (fault ≡ Bad Words)
 RefusesParts d (p ∷ parts) text fault = RefusesPart d p text fault ⊎ ((rest : List ℕ) × TakesPart d p text rest × RefusesParts d parts rest fault)
 
+-- behind this first word of a table a part is refused
+pub record RefusesBehind {X : Type 0} (row_of : X → Row) (d : Declared) (word text : List ℕ) (fault : LineFault) : Type 0 where
+  pub line : X
+  pub word_is : (row_of line).word ≡ word
+  pub parts : RefusesParts d (row_of line).parts text fault
+
 -- the first word begins a line of a table, and a part behind it is refused
 pub record Refuses {X : Type 0} (row_of : X → Row) (d : Declared) (text : List ℕ) (fault : LineFault) : Type 0 where
-  pub line : X
   pub rest : List ℕ
-  pub word : IsAhead (row_of line).word text rest
-  pub parts : RefusesParts d (row_of line).parts rest fault
+  pub ahead : IsAhead (first_word text) text rest
+  pub behind : RefusesBehind row_of d (first_word text) rest fault

@@ -65,11 +65,16 @@ command_row (Commit sync) = row (codes "tcommit") (AFlag (codes "sync") sync ∷
 command_row Rollback = row (codes "trollback") []
 command_row (Sync server) = row (codes "sync") (OfKind Server server ∷ [])
 
+-- behind this first word of a table a text says this
+pub record ReadsBehind {X : Type 0} (row_of : X → Row) (d : Declared) (word text : List ℕ) (x : X) : Type 0 where
+  pub word_is : (row_of x).word ≡ word
+  pub parts : TakesParts d (row_of x).parts text
+
 -- a text is a line of a table that says this
 pub record Reads {X : Type 0} (row_of : X → Row) (d : Declared) (text : List ℕ) (x : X) : Type 0 where
   pub rest : List ℕ
-  pub word : IsAhead (row_of x).word text rest
-  pub parts : TakesParts d (row_of x).parts rest
+  pub ahead : IsAhead (first_word text) text rest
+  pub behind : ReadsBehind row_of d (first_word text) rest x
 
 -- no line of a table begins with this word
 abbrev pub IsUnknown : {X : Type 0} → (X → Row) → List ℕ → Type 0
