@@ -11,7 +11,7 @@ use Rattle.global_text.specs.Faults.{HasNodeFault, HasValueFault, StopsBehind}
 use Rattle.std.specs.Char.{is_ascii_alphanumeric}
 use Rattle.job_script.specs.declared.declared.Declared.{Declared}
 use Rattle.job_script.specs.declared.line_fault.LineFault.{LineFault}
-use Rattle.job_script.specs.declared.line_fault.LineFault.TheVariants.{Bad, Unknown as UnknownName}
+use Rattle.job_script.specs.declared.line_fault.LineFault.TheVariants.{Bad, Unknown as UnknownName, Memory}
 use Rattle.job_script.specs.declared.line_kind.LineKind.TheVariants.{Twice, TooMany, Name, Node, Key, NoSub, NoValue, Value, Long, Number, Words}
 use Rattle.job_script.specs.declared.name_kind.NameKind.{NameKind}
 use Rattle.job_script.specs.declared.setting.Setting.{Setting}

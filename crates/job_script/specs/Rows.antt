@@ -1,5 +1,5 @@
 -- The lines of a script, a row each: the first word, and the parts behind it with what they say.
-use Rattle.std.specs.Prelude.{◌≢◌, ℕ, Bool, true, false, List, [], ◌∷◌, codes}
+use Rattle.std.specs.Prelude.{◌≡◌, ◌≢◌, ℕ, Bool, true, false, List, [], ◌∷◌, codes}
 use Rattle.plain_orders.specs.declared.mode.Mode.{Mode}
 use Rattle.plain_orders.specs.declared.mode.Mode.TheVariants.{Exclusive, Shared}
 use Rattle.app_job.specs.declared.command.Command.{Command}
@@ -11,7 +11,7 @@ use Rattle.job_script.specs.declared.name_kind.NameKind.TheVariants.{Server, App
 use Rattle.job_script.specs.declared.todo.Todo.{Todo}
 use Rattle.job_script.specs.declared.todo.Todo.TheVariants.{Job as JobTodo, Hold, Flow, Up, Down, Save, Pump, Tick, Break, Mend, Crash, Restart, Die, Await}
 use Rattle.job_script.specs.Parts.{Part, NewName, NewGlobal, OfKind, ASetting, ANumber, APick, AnAmount, ANode, ANext, AValue, AFlag, AWait, TakesParts}
-use Rattle.job_script.specs.Words.{IsAhead}
+use Rattle.job_script.specs.Words.{IsAhead, first_word}
 
 -- a row of a table
 pub record Row : Type 0 where
