@@ -10,6 +10,7 @@ mod entry_printer;
 mod job_acts;
 mod key_printer;
 mod layout_printer;
+mod laws;
 mod link_acts;
 mod list_acts;
 mod lock_acts;
@@ -23,4 +24,5 @@ mod words;
 
 pub use act_printer::print_act;
 pub use answer_printer::print_answer;
+pub use laws::{an_act_has_one_text, an_answer_has_one_text};
 pub use layout_printer::print_layout;
