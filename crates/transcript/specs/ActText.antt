@@ -156,25 +156,29 @@ entries_behind act = []
 abbrev pub AreActLines : Act → List ℕ → Type 0
 AreActLines act text = (line : List ℕ) × (rest : List ℕ) × IsActText act line × AreEntryLines (entries_behind act) rest × (text ≡ line ++ (10 ∷ rest))
 
--- What can be printed: each key is a node's, and each subscript has its form.
+-- an update can be printed where its key is a node's
 abbrev pub CanPrintOp : Op → Type 0
 CanPrintOp (Set key value) = IsKey key
 CanPrintOp (Kill key) = IsKey key
 CanPrintOp (Add key amount) = IsKey key
 
+-- an entry, where its update can be printed
 abbrev pub CanPrintEntry : Entry → Type 0
 CanPrintEntry (Update session w job txn op) = CanPrintOp op
 CanPrintEntry entry = Unit {0}
 
+-- an item, where its update can be printed
 abbrev pub CanPrintItem : Item → Type 0
 CanPrintItem (OpItem op) = CanPrintOp op
 CanPrintItem item = Unit {0}
 
+-- a read, where its key is a node's and its subscripts have their forms
 abbrev pub CanPrintQuestion : Question → Type 0
 CanPrintQuestion (Get key value) = IsKey key
 CanPrintQuestion (Data key code) = IsKey key
 CanPrintQuestion (Next parent sub found) = IsKey parent × IfSome sub HasForm × IfSome found HasForm
 
+-- an act, where each of its keys is a node's and each of its subscripts has its form
 abbrev pub CanPrintAct : Act → Type 0
 CanPrintAct (Opened server entries) = AllByRecursion CanPrintEntry entries
 CanPrintAct (Enter server entry) = CanPrintEntry entry
