@@ -1,7 +1,6 @@
 -- The text of acts.
-use Rattle.std.specs.Prelude.{◌≡◌, ℕ, List, [], ◌∷◌, ◌++◌, Some, codes, length, IfSome}
+use Rattle.std.specs.Prelude.{◌≡◌, ℕ, List, [], ◌∷◌, ◌++◌, codes, length, IfSome}
 use Rattle.std.specs.List.{AllByRecursion}
-use Rattle.std.specs.Fmt.{signed_decimal}
 use Rattle.subscript_keys.specs.Key.{IsKey, HasForm}
 use Rattle.plain_orders.specs.declared.layout.Layout.{Layout}
 use Rattle.plain_orders.specs.declared.causes.ShutCause.{ShutCause}
@@ -25,19 +24,24 @@ use Rattle.plain_orders.specs.declared.question.Question.{Question}
 use Rattle.plain_orders.specs.declared.question.Question.TheVariants.{Get, Data, Next}
 use Rattle.plain_orders.specs.declared.act.Act.{Act}
 use Rattle.plain_orders.specs.declared.act.Act.TheVariants.{Opened, Enter, Synced, Shut, Release, Met, Told, Back, Crash, Issue, Read, Grant, Granted, GiveUp, Quit, Free, Counted, NotWhole, Range, Committed, RolledBack, Reached, Level, Done, Refused as RefusedAct, Broke, Mended, Tick, Lose, Died}
-use Rattle.transcript.specs.Parts.{field, fields, via_word, mode_word, link_word, IsValueText, found_text, IsKeyText, IsBehindText}
+use Rattle.global_text.specs.Printed.{IsPrinted}
+use Rattle.transcript.specs.Parts.{field, fields, signed_field, via_word, mode_word, link_word, IsValueText, found_text, IsKeyText, IsBehindText}
 
 -- the line of the times, and for each job the index of its application server
 abbrev pub times_line : Layout → List ℕ
 times_line l =
     codes "times" ++ (fields (l.times.retry ∷ l.times.trouble ∷ l.times.recover ∷ l.times.round ∷ []) ++ (fields l.job_apps ++ 10 ∷ []))
 
+-- a node is set to a value
+abbrev pub IsSetText : List ℕ → List ℕ → List ℕ → Type 0
+IsSetText key value text =
+    (node : List ℕ) × (shown : List ℕ) × IsKeyText key node × IsPrinted value shown × (text ≡ codes "set " ++ (node ++ (32 ∷ shown)))
+
 -- what an update does
 abbrev pub IsOpText : Op → List ℕ → Type 0
-IsOpText (Set key value) text =
-    (node : List ℕ) × (shown : List ℕ) × IsKeyText key node × IsValueText (Some value) shown × (text ≡ codes "set " ++ (node ++ (32 ∷ shown)))
+IsOpText (Set key value) text = IsSetText key value text
 IsOpText (Kill key) text = (node : List ℕ) × IsKeyText key node × (text ≡ codes "kill " ++ node)
-IsOpText (Add key amount) text = (node : List ℕ) × IsKeyText key node × (text ≡ codes "add " ++ (node ++ (32 ∷ signed_decimal amount)))
+IsOpText (Add key amount) text = (node : List ℕ) × IsKeyText key node × (text ≡ codes "add " ++ (node ++ signed_field amount))
 
 -- an entry
 abbrev pub IsEntryText : Entry → List ℕ → Type 0
@@ -95,7 +99,7 @@ refused_text LockTimeout = codes "locktimeout"
 refused_text (Network server state reason) = codes "network" ++ (field server ++ (32 ∷ (link_word state ++ (32 ∷ reason_name_word reason))))
 
 -- a mode and the node of a lock's name
-abbrev pub IsLockText : Mode → List ℕ → List ℕ → Type 0
+unfoldable pub IsLockText : Mode → List ℕ → List ℕ → Type 0
 IsLockText mode key text = (node : List ℕ) × IsKeyText key node × (text ≡ mode_word mode ++ (32 ∷ node))
 
 -- the first line of an act, without its LF
@@ -122,7 +126,7 @@ IsActText (Quit job line server mode key) text =
     (shown : List ℕ) × IsLockText mode key shown × (text ≡ codes "quit" ++ (fields (job ∷ line ∷ server ∷ []) ++ (32 ∷ shown)))
 IsActText (Free server session job mode key) text =
     (shown : List ℕ) × IsLockText mode key shown × (text ≡ codes "free" ++ (fields (server ∷ session ∷ job ∷ []) ++ (32 ∷ shown)))
-IsActText (Counted job line server at sum) text = text ≡ codes "counted" ++ (fields (job ∷ line ∷ server ∷ at ∷ []) ++ (32 ∷ signed_decimal sum))
+IsActText (Counted job line server at sum) text = text ≡ codes "counted" ++ (fields (job ∷ line ∷ server ∷ at ∷ []) ++ signed_field sum)
 IsActText (NotWhole job line server at) text = text ≡ codes "notwhole" ++ fields (job ∷ line ∷ server ∷ at ∷ [])
 IsActText (Range job line server at) text = text ≡ codes "range" ++ fields (job ∷ line ∷ server ∷ at ∷ [])
 IsActText (Committed job line server at) text = text ≡ codes "committed" ++ fields (job ∷ line ∷ server ∷ at ∷ [])
@@ -152,25 +156,29 @@ entries_behind act = []
 abbrev pub AreActLines : Act → List ℕ → Type 0
 AreActLines act text = (line : List ℕ) × (rest : List ℕ) × IsActText act line × AreEntryLines (entries_behind act) rest × (text ≡ line ++ (10 ∷ rest))
 
--- What can be printed: each key is a node's, and each subscript has its form.
+-- an update can be printed where its key is a node's
 abbrev pub CanPrintOp : Op → Type 0
 CanPrintOp (Set key value) = IsKey key
 CanPrintOp (Kill key) = IsKey key
 CanPrintOp (Add key amount) = IsKey key
 
+-- an entry, where its update can be printed
 abbrev pub CanPrintEntry : Entry → Type 0
 CanPrintEntry (Update session w job txn op) = CanPrintOp op
 CanPrintEntry entry = Unit {0}
 
+-- an item, where its update can be printed
 abbrev pub CanPrintItem : Item → Type 0
 CanPrintItem (OpItem op) = CanPrintOp op
 CanPrintItem item = Unit {0}
 
+-- a read, where its key is a node's and its subscripts have their forms
 abbrev pub CanPrintQuestion : Question → Type 0
 CanPrintQuestion (Get key value) = IsKey key
 CanPrintQuestion (Data key code) = IsKey key
 CanPrintQuestion (Next parent sub found) = IsKey parent × IfSome sub HasForm × IfSome found HasForm
 
+-- an act, where each of its keys is a node's and each of its subscripts has its form
 abbrev pub CanPrintAct : Act → Type 0
 CanPrintAct (Opened server entries) = AllByRecursion CanPrintEntry entries
 CanPrintAct (Enter server entry) = CanPrintEntry entry

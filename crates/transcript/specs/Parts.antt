@@ -1,7 +1,7 @@
 -- The parts that the texts of answers and acts are made of.
-use Rattle.std.specs.Prelude.{◌≡◌, ℕ, List, [], ◌∷◌, ◌++◌, Option, None, Some, codes, slice_index_or}
+use Rattle.std.specs.Prelude.{◌≡◌, ℕ, ℤ, List, [], ◌∷◌, ◌++◌, Option, None, Some, codes, slice_index_or}
 use Rattle.std.specs.List.{flat_map}
-use Rattle.std.specs.Fmt.{decimal}
+use Rattle.std.specs.Fmt.{decimal, signed_decimal}
 use Rattle.subscript_keys.specs.declared.node.Node.{Node}
 use Rattle.subscript_keys.specs.declared.sub.Sub.{Sub}
 use Rattle.subscript_keys.specs.declared.sub.Sub.TheVariants.{Text}
@@ -22,6 +22,10 @@ field n = 32 ∷ decimal n
 -- numbers, a space before each
 abbrev pub fields : List ℕ → List ℕ
 fields numbers = flat_map field numbers
+
+-- a space and a number with its sign
+abbrev pub signed_field : ℤ → List ℕ
+signed_field n = 32 ∷ signed_decimal n
 
 -- a declared name by its index; an index that isn't declared has none
 abbrev pub name_at : List (List ℕ) → ℕ → List ℕ

@@ -70,7 +70,7 @@ fn put_answer(to: &mut Printer, names: &Names, answer: &Answer) -> Result<(), Al
         Answer::Queued { places } => put_placed(to, servers, b"queued", b':', places.as_slice()),
         Answer::Value { value, at, via } => {
             to.bytes(b"value ")?;
-            to.value(value)?;
+            to.value_or_none(value)?;
             put_held(to, *at, *via)
         }
         Answer::Shape { code, at, via } => {
@@ -80,7 +80,7 @@ fn put_answer(to: &mut Printer, names: &Names, answer: &Answer) -> Result<(), Al
         }
         Answer::Next { sub, at, via } => {
             to.bytes(b"next ")?;
-            to.sub(sub)?;
+            to.sub_or_empty(sub)?;
             put_held(to, *at, *via)
         }
         Answer::Counted { sum, at } => {

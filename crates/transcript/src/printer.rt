@@ -3,8 +3,8 @@ ghost use Rattle.std.specs.Fmt.{signed_decimal};
 ghost use Rattle.std.specs.List.{AllByRecursion};
 ghost use Rattle.subscript_keys.specs.Key.{HasForm};
 ghost use Rattle.global_text.specs.Nodes.{node_text};
-ghost use Rattle.global_text.specs.Printed.{Appends};
-ghost use Rattle.transcript.specs.Parts.{field, fields, name_at, IsValueText, found_text};
+ghost use Rattle.global_text.specs.Printed.{Appends, IsPrinted};
+ghost use Rattle.transcript.specs.Parts.{field, fields, signed_field, name_at, IsValueText, found_text};
 
 use global_text::{print_node, print_sub, print_value};
 use itoa::Buffer;
@@ -35,6 +35,11 @@ impl Printer {
         Printer {
             text: Vec::new(alloc),
         }
+    }
+
+    /// The allocator of the text.
+    pub fn alloc(&self) -> Global {
+        *self.text.allocator()
     }
 
     pub fn as_slice(&self) -> &[u8]
@@ -74,6 +79,14 @@ impl Printer {
         self.number(number)
     }
 
+    /// A space and a number behind its sign.
+    pub fn signed_field(&mut self, number: i64) -> Result<(), AllocError>
+        ensures { OnOk result (self.new ≡ self.old ++ signed_field number) }
+    {
+        self.bytes(b" ")?;
+        self.signed(number)
+    }
+
     /// Numbers, a space before each.
     pub fn fields(&mut self, numbers: &[u64]) -> Result<(), AllocError>
         ensures { OnOk result (self.new ≡ self.old ++ fields numbers.now) }
@@ -102,18 +115,25 @@ impl Printer {
         }
     }
 
+    /// A value.
+    pub fn value(&mut self, value: &ValueBytes) -> Result<(), AllocError>
+        ensures { OnOk result (Appends (IsPrinted value.now) self.old self.new) }
+    {
+        print_value(value, &mut self.text)
+    }
+
     /// A value that may be wanting.
-    pub fn value(&mut self, value: &Option<ValueBytes>) -> Result<(), AllocError>
+    pub fn value_or_none(&mut self, value: &Option<ValueBytes>) -> Result<(), AllocError>
         ensures { OnOk result (Appends (IsValueText value.now) self.old self.new) }
     {
         match value {
-            Some(value) => print_value(value, &mut self.text),
+            Some(value) => self.value(value),
             None => self.bytes(b"none"),
         }
     }
 
     /// A subscript that may be wanting.
-    pub fn sub(&mut self, sub: &Option<Sub>) -> Result<(), AllocError>
+    pub fn sub_or_empty(&mut self, sub: &Option<Sub>) -> Result<(), AllocError>
         requires { IfSome sub.now HasForm }
         ensures { OnOk result (self.new ≡ self.old ++ found_text sub.now) }
     {

@@ -2,9 +2,10 @@
 ghost use Rattle.std.specs.Prelude.{◌≡◌};
 ghost use Rattle.transcript.specs.Parts.{via_word, mode_word, link_word};
 ghost use Rattle.transcript.specs.AnswerText.{why_word, reason_word};
+ghost use Rattle.transcript.specs.ActText.{end_word, reason_name_word};
 
 use app_job::{Reason, Why};
-use plain_orders::{LinkName, Mode, Via};
+use plain_orders::{LinkName, Mode, PairEnd, ReasonName, Via};
 
 /// Where an answer came from.
 pub fn via_word(via: Via) -> &'static [u8]
@@ -61,5 +62,26 @@ pub fn reason_word(reason: Reason) -> &'static [u8]
         Reason::Reset { .. } => b"reset",
         Reason::Expired { .. } => b"expired",
         Reason::NoWay { .. } => b"noway",
+    }
+}
+
+/// The same, by its name alone.
+pub fn reason_name_word(reason: ReasonName) -> &'static [u8]
+    ensures { result.now ≡ reason_name_word reason }
+{
+    match reason {
+        ReasonName::Reset => b"reset",
+        ReasonName::Expired => b"expired",
+        ReasonName::NoWay => b"noway",
+    }
+}
+
+/// The end that noticed a break.
+pub fn end_word(end: PairEnd) -> &'static [u8]
+    ensures { result.now ≡ end_word end }
+{
+    match end {
+        PairEnd::App => b"app",
+        PairEnd::Server => b"server",
     }
 }
