@@ -7,17 +7,17 @@ use Rattle.plain_orders.specs.declared.layout.Layout.{Layout}
 use Rattle.plain_runs.specs.Plain.{Plain}
 use Rattle.plain_runs.specs.Step.{MayCome, after}
 use Rattle.cluster_call.specs.Fits.{acts_of, if_of, job_of, answer_of, tick_of, end_of, loss_of}
-use Rattle.cluster_call.specs.Running.{Adds}
-use Rattle.cluster_call.specs.TrailText.{CanPrint, AllCanPrint}
+use Rattle.transcript.specs.ActText.{CanPrintAct}
+use Rattle.cluster_call.specs.Running.{Adds, AllCanPrint}
 
 -- an act that moves no clock, breaks nothing and loses nothing
 pub record IsPlain (a : Act) : Type 0 where
   pub clock : tick_of a ≡ []
   pub ends : end_of a ≡ []
   pub losses : loss_of a ≡ []
-  pub printed : CanPrint a
+  pub printed : CanPrintAct a
 
-AllCanPrint-more : (acts : List Act) (a : Act) → AllCanPrint acts → CanPrint a → AllCanPrint (acts ++ a ∷ [])
+AllCanPrint-more : (acts : List Act) (a : Act) → AllCanPrint acts → CanPrintAct a → AllCanPrint (acts ++ a ∷ [])
 AllCanPrint-more [] a all can = (can, tt)
 AllCanPrint-more (b ∷ acts) a all can = (all.0, AllCanPrint-more acts a all.1 can)
 

@@ -1,10 +1,7 @@
-pub mod AddLemmas
-pub mod CanRunLemmas
-pub mod FitLemmas
-pub mod LineLemmas
-pub mod PrintLemmas
-pub mod PutLemmas
-pub mod ReadLemmas
-pub mod RunSteps
-pub mod ScriptLemmas
-pub mod StatusLemmas
+mod AddLemmas
+mod BuiltLemmas
+mod FitLemmas
+mod PrintLemmas
+mod PutLemmas
+mod RunSteps
+mod StatusLemmas

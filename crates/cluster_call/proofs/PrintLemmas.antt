@@ -1,64 +1,29 @@
 -- What the printing of an output puts.
-use Rattle.std.proofs.Common.{◌≡◌, ℕ, zero, suc, ◌+◌, ◌<◌, List, [], ◌∷◌, ◌++◌, length, take, get_or, refl, sym, ap, ◌∙◌, subst, inl, inr, append_assoc, append-nil, arith, length-append}
-use Rattle.std.proofs.Math.Seq.{take-append_seam}
+use Rattle.std.proofs.Common.{◌≡◌, ℕ, zero, suc, ◌+◌, ◌<◌, List, [], ◌∷◌, ◌++◌, length, take, get_or, refl, sym, ap, ◌∙◌, subst, append_assoc, append-nil, arith}
 use Rattle.std.proofs.lemmas.List.{take_more}
 use Rattle.std.specs.Prelude.{codes}
-use Rattle.std.specs.List.{IsLastAndRest}
-use Rattle.subscript_keys.specs.declared.node.Node.{Node}
-use Rattle.subscript_keys.specs.Decimal.{IsNumberText}
-use Rattle.subscript_keys.specs.Key.{IsName, IsNode, key_of}
+use Rattle.std.specs.List.{AllByRecursion, flat_map}
 use Rattle.plain_orders.specs.declared.act.Act.{Act}
+use Rattle.plain_orders.specs.declared.act.Act.TheVariants.{Issue, Read}
+use Rattle.plain_orders.specs.declared.item.Item.{Item}
+use Rattle.plain_orders.specs.declared.item.Item.TheVariants.{Op as OpItem}
+use Rattle.plain_orders.specs.declared.op.Op.TheVariants.{Set, Kill}
+use Rattle.plain_orders.specs.declared.question.Question.{Question}
+use Rattle.plain_orders.specs.declared.question.Question.TheVariants.{Get, Data, Next}
 use Rattle.plain_orders.specs.declared.layout.Names.{Names}
-use Rattle.cluster_call.specs.declared.answer.AnswerLine.{AnswerLine}
-use Rattle.cluster_call.specs.Printing.{Puts}
-use Rattle.cluster_call.specs.Texts.{quoted, IsNodeText, IsValueText, node_text}
-use Rattle.cluster_call.specs.OutputText.{IsOutputText}
+use Rattle.plain_orders.specs.declared.via.Via.{Via}
+use Rattle.global_text.specs.Printed.{Appends}
+use Rattle.job_script.specs.declared.script.Script.{Script}
+use Rattle.transcript.specs.ActText.{AreActLines, CanPrintAct, CanPrintQuestion, times_line}
+use Rattle.transcript.specs.AnswerText.{IsAnswerLine, CanPrintAnswer}
+use Rattle.cluster_call.specs.declared.answer_line.AnswerLine.{AnswerLine}
 use Rattle.cluster_call.specs.declared.output.Output.{Output}
-use Rattle.cluster_call.specs.declared.scripts.Script.{Script}
-use Rattle.cluster_call.specs.Transcript.{IsAnswerLine, IsTranscript}
-use Rattle.cluster_call.specs.TrailText.{times_text, IsGlobalKey, IsActText, AreActLines, CanPrint, AllCanPrint}
-
--- a canonical number stands bare
-pub bare_puts : (value bytes before after : List ℕ) → bytes ≡ value → IsNumberText bytes → after ≡ before ++ bytes → Puts (IsValueText value) before after
-bare_puts value bytes before after same is put = (value, inl (subst IsNumberText same is, refl), put ∙ ap (λ v. before ++ v) same)
-
--- any other string in quotes
-pub quoted_puts : (value bytes before after : List ℕ) → bytes ≡ value → (IsNumberText bytes → ⊥) → after ≡ before ++ quoted bytes → Puts (IsValueText value) before after
-quoted_puts value bytes before after same other put = (quoted value, inr (λ is. other (subst IsNumberText (sym same) is), refl), put ∙ ap (λ v. before ++ quoted v) same)
-
--- a list with one more element has one front
-one_front : (xs ys key : List ℕ) (x y : ℕ) → key ≡ xs ++ x ∷ [] → key ≡ ys ++ y ∷ [] → length xs ≡ length ys → xs ≡ ys
-one_front xs ys key x y is also same =
-    sym (take-append_seam xs (x ∷ []))
-    ∙ ap (take (length xs)) (sym is ∙ also)
-    ∙ ap (λ n. take n (ys ++ y ∷ [])) same
-    ∙ take-append_seam ys (y ∷ [])
-
--- the global with this name
-global : List ℕ → Node
-global name = record { name = name; subs = [] }
-
--- its key is the name and the byte 00
-global-key : (name : List ℕ) → key_of (global name) ≡ name ++ 0 ∷ []
-unfolding global key_of
-global-key name = refl
-
-global-is : (name : List ℕ) → IsName name → IsNode (global name)
-unfolding global
-global-is name is = record { name = is; subs = tt }
-
-global-text : (name : List ℕ) → 94 ∷ name ≡ node_text (global name)
-unfolding global
-global-text name = sym (append-nil (94 ∷ name))
-
--- a caret and a global's name
-pub node_puts : (key name before after : List ℕ) (end : ℕ) → IsGlobalKey key → IsLastAndRest key end name → after ≡ (before ++ 94 ∷ []) ++ name → Puts (IsNodeText key) before after
-node_puts key name before after end is parts put =
-    let same : name ≡ is.0 = one_front name is.0 key end 0 parts.0 is.2 (omega (arith, parts.1, ap length is.2, length-append is.0 (0 ∷ []))) in
-    (94 ∷ name, (global is.0, global-is is.0 is.1, global-key is.0 ∙ sym is.2, ap (λ n. 94 ∷ n) same ∙ global-text is.0), put ∙ append_assoc before (94 ∷ []) name)
+use Rattle.cluster_call.specs.Fits.{answer_of, item_answer, read_answer}
+use Rattle.cluster_call.specs.OutputText.{AreTrailLines, IsOutputText, IsTranscript}
+use Rattle.cluster_call.specs.Running.{AllCanAnswer, AllCanPrint}
 
 -- the lines of answers and one more
-IsTranscript-more : (names : Names) (answers : List AnswerLine) (a : AnswerLine) (text line : List ℕ) → IsTranscript names answers text → IsAnswerLine names a line → IsTranscript names (answers ++ a ∷ []) (text ++ line)
+IsTranscript-more : (names : Names) (answers : List AnswerLine) (a : AnswerLine) (text line : List ℕ) → IsTranscript names answers text → IsAnswerLine names a.job a.line a.answer line → IsTranscript names (answers ++ a ∷ []) (text ++ line)
 IsTranscript-more names [] a text line is more = (line, [], more, refl, ap (λ t. t ++ line) is ∙ sym (append-nil line))
 IsTranscript-more names (b ∷ answers) a text line is more =
     (is.0, is.1 ++ line, is.2, IsTranscript-more names answers a is.1 line is.3 more, ap (λ t. t ++ line) is.4 ∙ append_assoc is.0 is.1 line)
@@ -69,7 +34,7 @@ behind before text line between after is more = more ∙ ap (λ t. t ++ line) is
 
 -- the line of the answer at a place
 pub answers_more : (names : Names) (answers : List AnswerLine) (i : ℕ) (a : AnswerLine) (before between after : List ℕ) → i < length answers → a ≡ get_or answers i a
-    → Puts (IsTranscript names (take i answers)) before between → Puts (IsAnswerLine names a) between after → Puts (IsTranscript names (take (i + 1) answers)) before after
+    → Appends (IsTranscript names (take i answers)) before between → Appends (IsAnswerLine names a.job a.line a.answer) between after → Appends (IsTranscript names (take (i + 1) answers)) before after
 answers_more names answers i a before between after low at so more = (
   so.0 ++ more.0,
   subst (λ xs. IsTranscript names xs (so.0 ++ more.0)) (sym (take_more answers i a low ∙ ap (λ x. take i answers ++ x ∷ []) (sym at))) (IsTranscript-more names (take i answers) a so.0 more.0 so.1 more.1),
@@ -77,39 +42,67 @@ answers_more names answers i a before between after low at so more = (
 )
 
 -- the lines of acts and one more
-AreActLines-more : (acts : List Act) (a : Act) (text line : List ℕ) → AreActLines acts text → IsActText a line → AreActLines (acts ++ a ∷ []) (text ++ (line ++ 10 ∷ []))
-AreActLines-more [] a text line is more = (line, [], more, refl, ap (λ t. t ++ (line ++ 10 ∷ [])) is)
-AreActLines-more (b ∷ acts) a text line is more =
-    (is.0, is.1 ++ (line ++ 10 ∷ []), is.2, AreActLines-more acts a is.1 line is.3 more, ap (λ t. t ++ (line ++ 10 ∷ [])) is.4 ∙ append_assoc is.0 (10 ∷ is.1) (line ++ 10 ∷ []))
+AreTrailLines-more : (acts : List Act) (a : Act) (text lines : List ℕ) → AreTrailLines acts text → AreActLines a lines → AreTrailLines (acts ++ a ∷ []) (text ++ lines)
+AreTrailLines-more [] a text lines is more = (lines, [], more, refl, ap (λ t. t ++ lines) is ∙ sym (append-nil lines))
+AreTrailLines-more (b ∷ acts) a text lines is more =
+    (is.0, is.1 ++ lines, is.2, AreTrailLines-more acts a is.1 lines is.3 more, ap (λ t. t ++ lines) is.4 ∙ append_assoc is.0 is.1 lines)
 
--- the line of the act at a place, with its LF
-pub acts_more : (acts : List Act) (i : ℕ) (a : Act) (before between with_act after : List ℕ) → i < length acts → a ≡ get_or acts i a
-    → Puts (AreActLines (take i acts)) before between → Puts (IsActText a) between with_act → after ≡ with_act ++ 10 ∷ [] → Puts (AreActLines (take (i + 1) acts)) before after
-acts_more acts i a before between with_act after low at so more ends = (
-  so.0 ++ (more.0 ++ 10 ∷ []),
-  subst (λ xs. AreActLines xs (so.0 ++ (more.0 ++ 10 ∷ []))) (sym (take_more acts i a low ∙ ap (λ x. take i acts ++ x ∷ []) (sym at))) (AreActLines-more (take i acts) a so.0 more.0 so.1 more.1),
-  behind before so.0 (more.0 ++ 10 ∷ []) between after so.2 (behind between more.0 (10 ∷ []) with_act after more.2 ends),
+-- the lines of the act at a place
+pub acts_more : (acts : List Act) (i : ℕ) (a : Act) (before between after : List ℕ) → i < length acts → a ≡ get_or acts i a
+    → Appends (AreTrailLines (take i acts)) before between → Appends (AreActLines a) between after → Appends (AreTrailLines (take (i + 1) acts)) before after
+acts_more acts i a before between after low at so more = (
+  so.0 ++ more.0,
+  subst (λ xs. AreTrailLines xs (so.0 ++ more.0)) (sym (take_more acts i a low ∙ ap (λ x. take i acts ++ x ∷ []) (sym at))) (AreTrailLines-more (take i acts) a so.0 more.0 so.1 more.1),
+  behind before so.0 more.0 between after so.2 more.2,
 )
 
--- each of the acts can be printed
-pub can_print_at : (acts : List Act) (i : ℕ) (a : Act) → AllCanPrint acts → i < length acts → a ≡ get_or acts i a → CanPrint a
-can_print_at [] i a all low at = absurd (omega arith)
-can_print_at (b ∷ acts) zero a all low at = subst CanPrint (sym at) all.0
-can_print_at (b ∷ acts) (suc i) a all low at = can_print_at acts i a all.1 (omega arith) at
+-- what holds of each holds at a place
+pub all_at : {X : Type 0} (P : X → Type 0) (xs : List X) (i : ℕ) (x : X) → AllByRecursion P xs → i < length xs → x ≡ get_or xs i x → P x
+all_at P [] i x all low at = absurd (omega arith)
+all_at P (y ∷ xs) zero x all low at = subst P (sym at) all.0
+all_at P (y ∷ xs) (suc i) x all low at = all_at P xs i x all.1 (omega arith) at
+
+all_both : {X : Type 0} (P : X → Type 0) (xs ys : List X) → AllByRecursion P xs → AllByRecursion P ys → AllByRecursion P (xs ++ ys)
+all_both P [] ys x y = y
+all_both P (a ∷ xs) ys x y = (x.0, all_both P xs ys x.1 y)
+
+item_can : (job line d w : ℕ) (item : Item) → AllCanAnswer (item_answer job line d w item)
+item_can job line d w (OpItem (Set key value)) = (tt, tt)
+item_can job line d w (OpItem (Kill key)) = (tt, tt)
+item_can job line d w _ = tt
+
+read_can : (job line at : ℕ) (via : Via) (question : Question) → CanPrintQuestion question → AllCanAnswer (read_answer job line at via question)
+read_can job line at via (Get key value) can = (tt, tt)
+read_can job line at via (Data key code) can = (tt, tt)
+read_can job line at via (Next parent sub found) can = (can.2, tt)
+
+act_can : (a : Act) → CanPrintAct a → AllCanAnswer (answer_of a)
+act_can (Issue job line d w item) can = item_can job line d w item
+act_can (Read job line d at via question) can = read_can job line at via question can
+act_can _ can = tt
+
+-- the answers of acts that can be printed can be printed
+pub answers_can : (acts : List Act) (answers : List AnswerLine) → answers ≡ flat_map answer_of acts → AllCanPrint acts → AllCanAnswer answers
+answers_can acts answers e can = subst AllCanAnswer (sym e) (go acts can)
+  where
+    go : (xs : List Act) → AllCanPrint xs → AllCanAnswer (flat_map answer_of xs)
+    go [] can = tt
+    go (x ∷ xs) can = all_both (λ (a : AnswerLine). CanPrintAnswer a.answer) (answer_of x) (flat_map answer_of xs) (act_can x can.0) (go xs can.1)
 
 -- the answers, the line `trail`, the line of the times, and the acts
-pub output_puts : (script : Script) (out : Output) (answers : List AnswerLine) (acts : List Act) (with_answers with_word with_times with_acts text : List ℕ)
+pub output_puts : (script : Script) (out : Output) (answers : List AnswerLine) (acts : List Act) (with_answers with_word with_times text : List ℕ)
     → answers ≡ out.answers.items → acts ≡ out.trail
-    → Puts (IsTranscript script.names answers) [] with_answers → with_word ≡ with_answers ++ codes "trail\n" → with_times ≡ with_word ++ times_text script.layout → Puts (AreActLines acts) with_times with_acts → text ≡ with_acts
+    → Appends (IsTranscript script.names answers) [] with_answers → with_word ≡ with_answers ++ codes "trail\n" → with_times ≡ with_word ++ times_line script.layout → Appends (AreTrailLines acts) with_times text
     → IsOutputText script out text
-output_puts script out answers acts with_answers with_word with_times with_acts text given also told word times acted is = (
+output_puts script out answers acts with_answers with_word with_times text given also told word times acted = (
   told.0,
   acted.0,
   record {
     transcript = subst (λ xs. IsTranscript script.names xs told.0) given told.1;
-    trail = subst (λ xs. AreActLines xs acted.0) also acted.1;
+    trail = subst (λ xs. AreTrailLines xs acted.0) also acted.1;
     whole =
-        is ∙ acted.2 ∙ ap (λ t. t ++ acted.0) (times ∙ ap (λ t. t ++ times_text script.layout) (word ∙ ap (λ t. t ++ codes "trail\n") told.2))
-        ∙ simp append_assoc;
+        acted.2 ∙ ap (λ t. t ++ acted.0) (times ∙ ap (λ t. t ++ times_line script.layout) (word ∙ ap (λ t. t ++ codes "trail\n") told.2))
+        ∙ append_assoc (told.0 ++ codes "trail\n") (times_line script.layout) acted.0
+        ∙ append_assoc told.0 (codes "trail\n") (times_line script.layout ++ acted.0);
   },
 )

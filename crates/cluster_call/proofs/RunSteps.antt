@@ -1,21 +1,40 @@
 -- Steps of the plain machine that a script's lines make.
-use Rattle.std.proofs.Common.{◌≡◌, ℕ, ◌+◌, true, false, List, [], ◌∷◌, ◌++◌, length, Option, Some, refl, ap, ◌∙◌, arith, length-append}
+use Rattle.std.proofs.Common.{◌≡◌, ℕ, ◌+◌, Bool, true, false, cond, not, List, [], ◌∷◌, ◌++◌, length, Option, None, Some, refl, ap, sym, ◌∙◌, arith, length-append, append-nil, append_assoc}
+use Rattle.std.specs.Option.{IfSome}
+use Rattle.std.specs.List.{filter, AllByRecursion}
+use Rattle.std.proofs.lemmas.Bool.{false≢true}
 use Rattle.plain_orders.specs.declared.act.Act.{Act}
 use Rattle.plain_orders.specs.declared.act.Act.TheVariants.{Opened, Enter, Synced, Met, Issue, Read}
 use Rattle.plain_orders.specs.declared.entry.Entry.{Entry}
 use Rattle.plain_orders.specs.declared.entry.Entry.TheVariants.{Opened as OpenedEntry, Update}
 use Rattle.plain_orders.specs.declared.item.Item.TheVariants.{Op as OpItem}
-use Rattle.plain_orders.specs.declared.op.Op.TheVariants.{Set}
-use Rattle.plain_orders.specs.declared.question.Question.TheVariants.{Get}
+use Rattle.plain_orders.specs.declared.op.Op.{Op}
+use Rattle.plain_orders.specs.declared.op.Op.TheVariants.{Set, Kill, Add}
+use Rattle.plain_orders.specs.declared.question.Question.{Question}
 use Rattle.plain_orders.specs.declared.via.Via.TheVariants.{Fetched}
 use Rattle.plain_orders.specs.declared.layout.Layout.{Layout}
-use Rattle.plain_orders.specs.Fold.{Folded, fold_step, nothing_folded}
+use Rattle.plain_orders.specs.Fold.{Folded, fold_step, nothing_folded, op_after}
+use Rattle.plain_orders.specs.Ordered.{OpMay, KeyMay}
+use Rattle.plain_orders.specs.PairMap.{Map, is_under}
+use Rattle.plain_programs.specs.Keys.{HasKeys}
+use Rattle.plain_programs.proofs.OrderKeys.{put_keys}
+use Rattle.plain_programs.proofs.KeyLemmas.{child_key}
+use Rattle.plain_runs.specs.Items.{is_change_op}
+use Rattle.plain_runs.specs.JobRows.{asked_key}
+use Rattle.plain_orders.specs.declared.question.Question.TheVariants.{Next as NextQuestion}
+use Rattle.plain_orders.specs.Answers.{next_key, IsSubIn}
+use Rattle.subscript_keys.specs.declared.node.Node.{Node}
+use Rattle.subscript_keys.specs.declared.sub.Sub.{Sub}
+use Rattle.subscript_keys.specs.declared.sub.Sub.TheVariants.{Num, Text}
+use Rattle.subscript_keys.specs.Key.{IsSub, HasForm, key_of, sub_bytes, subs_bytes}
+use Rattle.app_job.specs.Sites.{Site, IsSite}
+use Rattle.app_job.specs.Limits.{NextMay}
 use Rattle.plain_orders.proofs.EntryLemmas.{count-push, live-push}
 use Rattle.plain_orders.proofs.FoldLemmas.{fold-push}
 use Rattle.plain_orders.specs.Own.{Issued}
 use Rattle.plain_runs.specs.Plain.{Plain, Session, start}
 use Rattle.plain_runs.specs.Step.{after}
-use Rattle.cluster_call.specs.Running.{Stands, HasJob, SESSION}
+use Rattle.cluster_call.specs.Running.{Stands, HasJob, IsAnswered, SESSION}
 
 pub opened_stands : (l : Layout) → Stands (after l start (Opened 0 [])) 1 0 false nothing_folded
 opened_stands l = record {
@@ -25,6 +44,7 @@ opened_stands l = record {
   synced = refl;
   not_due = refl;
   folds = refl;
+  keys = tt;
   unbroken = refl;
   seen = omega arith;
   free = refl;
@@ -55,6 +75,7 @@ connected_stands l p entries issued store h job = record {
   synced = refl;
   not_due = h.not_due;
   folds = fold-push (p.server_at 0).order (OpenedEntry SESSION 0) ∙ h.folds;
+  keys = h.keys;
   unbroken = refl;
   seen = rw job.job (omega arith);
   free = rw job.job h.free;
@@ -73,72 +94,90 @@ connected_stands l p entries issued store h job = record {
   );
 }
 
--- the entry that a set becomes
-abbrev pub set_entry : ℕ → List ℕ → List ℕ → Entry
-set_entry w key value = Update SESSION w 0 0 (Set key value)
+-- the entry that an update becomes
+abbrev pub update_entry : ℕ → Op → Entry
+update_entry w op = Update SESSION w 0 0 op
 
-abbrev pub behind_issue : Layout → Plain → ℕ → ℕ → List ℕ → List ℕ → Plain
-behind_issue l p line w key value = after l p (Issue 0 line 0 w (OpItem (Set key value)))
+abbrev pub behind_issue : Layout → Plain → ℕ → ℕ → Op → Plain
+behind_issue l p line w op = after l p (Issue 0 line 0 w (OpItem op))
 
-abbrev pub behind_enter : Layout → Plain → ℕ → ℕ → List ℕ → List ℕ → Plain
-behind_enter l p line w key value = after l (behind_issue l p line w key value) (Enter 0 (set_entry w key value))
+abbrev pub behind_enter : Layout → Plain → ℕ → ℕ → Op → Plain
+behind_enter l p line w op = after l (behind_issue l p line w op) (Enter 0 (update_entry w op))
 
-abbrev pub behind_set : Layout → Plain → ℕ → ℕ → ℕ → List ℕ → List ℕ → Plain
-behind_set l p line w entries key value = after l (behind_enter l p line w key value) (Synced 0 entries)
+abbrev pub behind_update : Layout → Plain → ℕ → ℕ → ℕ → Op → Plain
+behind_update l p line w entries op = after l (behind_enter l p line w op) (Synced 0 entries)
 
 -- nothing is known of a session that no server has
 abbrev no_session : Session
 no_session = record { app = 0; issued = []; told = 0 }
 
--- the set as it was issued
-abbrev issued_set : ℕ → List ℕ → List ℕ → Issued
-issued_set line key value = record { item = OpItem (Set key value); txn = 0; job = 0; line = line }
+-- the update as it was issued
+abbrev issued_op : ℕ → Op → Issued
+issued_op line op = record { item = OpItem op; txn = 0; job = 0; line = line }
 
 -- the session with one item more
-abbrev with_set : Session → ℕ → List ℕ → List ℕ → Session
-with_set its line key value = record its { issued = its.issued ++ issued_set line key value ∷ [] }
+abbrev with_op : Session → ℕ → Op → Session
+with_op its line op = record its { issued = its.issued ++ issued_op line op ∷ [] }
 
-known_after : (l : Layout) (p : Plain) (entries issued line w : ℕ) (store : Folded) (key value : List ℕ) → (h : Stands p entries issued true store) → HasJob l
-    → ((behind_issue l p line w key value).server_at 0).session_at SESSION ≡ Some (with_set h.pair.0 line key value)
-known_after l p entries issued line w store key value h job =
-    rw job.job (rw h.pair.1.session (rw h.pair.1.known (rw h.level refl)))
+known_after : (l : Layout) (p : Plain) (entries issued line w : ℕ) (store : Folded) (op : Op) → is_change_op op ≡ true → (h : Stands p entries issued true store) → HasJob l
+    → ((behind_issue l p line w op).server_at 0).session_at SESSION ≡ Some (with_op h.pair.0 line op)
+known_after l p entries issued line w store (Set key value) e h job = rw job.job (rw h.pair.1.session (rw h.pair.1.known (rw h.level refl)))
+known_after l p entries issued line w store (Kill key) e h job = rw job.job (rw h.pair.1.session (rw h.pair.1.known (rw h.level refl)))
+known_after l p entries issued line w store (Add key amount) e h job = absurd (false≢true e)
 
-pub set_stands : (l : Layout) (p : Plain) (entries issued line : ℕ) (store : Folded) (key value : List ℕ) → Stands p entries issued true store → HasJob l
-    → Stands (behind_set l p line (issued + 1) (entries + 1) key value) (entries + 1) (issued + 1) true (fold_step store (set_entry (issued + 1) key value))
-set_stands l p entries issued line store key value h job = record {
+-- what stays outside a node
+outside_keys : (f : List ℕ → Bool) (m : Map) → HasKeys m → HasKeys (filter (λ q. f q.0) m)
+outside_keys f [] h = tt
+outside_keys f (q ∷ m) h = go (f q.0) (outside_keys f m h.1)
+  where
+    go : (t : Bool) → HasKeys (filter (λ r. f r.0) m) → HasKeys (cond t (q ∷ filter (λ r. f r.0) m) (filter (λ r. f r.0) m))
+    go true more = (h.0, more)
+    go false more = more
+
+-- the keys behind an update
+op_keys : (m : Map) (op : Op) → is_change_op op ≡ true → OpMay 0 op → HasKeys m → HasKeys (op_after m op)
+op_keys m (Set key value) e may h = put_keys key value m may.key_may.is_key h
+op_keys m (Kill key) e may h = outside_keys (λ k. not (is_under key k)) m h
+op_keys m (Add key amount) e may h = absurd (false≢true e)
+
+pub op_stands : (l : Layout) (p : Plain) (entries issued line : ℕ) (store : Folded) (op : Op) → is_change_op op ≡ true → OpMay 0 op → Stands p entries issued true store → HasJob l
+    → Stands (behind_update l p line (issued + 1) (entries + 1) op) (entries + 1) (issued + 1) true (fold_step store (update_entry (issued + 1) op))
+op_stands l p entries issued line store op e may h job = record {
   opened = h.opened;
   past = h.past;
-  size = omega (arith, h.size, length-append (p.server_at 0).order (set_entry (issued + 1) key value ∷ []));
+  size = omega (arith, h.size, length-append (p.server_at 0).order (update_entry (issued + 1) op ∷ []));
   synced = refl;
   not_due = h.not_due;
-  folds = fold-push (p.server_at 0).order (set_entry (issued + 1) key value) ∙ ap (λ f. fold_step f (set_entry (issued + 1) key value)) h.folds;
+  folds = fold-push (p.server_at 0).order (update_entry (issued + 1) op) ∙ ap (λ f. fold_step f (update_entry (issued + 1) op)) h.folds;
+  keys = op_keys store.pairs op e may h.keys;
   unbroken = h.unbroken;
   seen = omega (arith, h.seen);
   free = h.free;
   level = h.level;
   alive = h.alive;
   pair = (
-    with_set h.pair.0 line key value,
+    with_op h.pair.0 line op,
     record {
       session = h.pair.1.session;
-      known = known_after l p entries issued line (issued + 1) store key value h job;
+      known = known_after l p entries issued line (issued + 1) store op e h job;
       told = h.pair.1.told;
-      all_issued = omega (arith, h.pair.1.all_issued, length-append h.pair.0.issued (issued_set line key value ∷ []));
-      is_live = live-push (p.server_at 0).order (set_entry (issued + 1) key value) SESSION ∙ h.pair.1.is_live;
-      count = count-push (p.server_at 0).order (set_entry (issued + 1) key value) SESSION ∙ omega (arith, h.pair.1.count);
+      all_issued = omega (arith, h.pair.1.all_issued, length-append h.pair.0.issued (issued_op line op ∷ []));
+      is_live = live-push (p.server_at 0).order (update_entry (issued + 1) op) SESSION ∙ h.pair.1.is_live;
+      count = count-push (p.server_at 0).order (update_entry (issued + 1) op) SESSION ∙ omega (arith, h.pair.1.count);
     },
   );
 }
 
-pub read_stands : (l : Layout) (p : Plain) (entries issued line : ℕ) (store : Folded) (key : List ℕ) (value : Option (List ℕ)) → Stands p entries issued true store
-    → Stands (after l p (Read 0 line 0 entries Fetched (Get key value))) entries issued true store
-read_stands l p entries issued line store key value h = record {
+pub read_stands : (l : Layout) (p : Plain) (entries issued line : ℕ) (store : Folded) (question : Question) → Stands p entries issued true store
+    → Stands (after l p (Read 0 line 0 entries Fetched question)) entries issued true store
+read_stands l p entries issued line store question h = record {
   opened = h.opened;
   past = h.past;
   size = h.size;
   synced = h.synced;
   not_due = h.not_due;
   folds = h.folds;
+  keys = h.keys;
   unbroken = h.unbroken;
   seen = omega arith;
   free = h.free;
@@ -156,3 +195,27 @@ read_stands l p entries issued line store key value h = record {
     },
   );
 }
+
+-- a subscript that is one has its form
+sub_form : (sub : Sub) → IsSub sub → HasForm sub
+sub_form (Num number) is = is
+sub_form (Text text) is = is.no_number
+
+-- the node behind which a next looks
+asked_may : (site : Site) (sub : Option Sub) → IsSite site → NextMay site sub → KeyMay (asked_key site.key sub)
+asked_may site None is may = record { is_key = (site.node, is.node, is.key); within = is.within }
+asked_may site (Some sub) is may = record { is_key = child_key site.key sub (site.node, is.node, is.key) may.0; within = may.1 }
+
+found_form : (parent : List ℕ) (key : Option (List ℕ)) (found : Option Sub) → IsSubIn parent key found → IfSome found HasForm
+found_form parent None None is = tt
+found_form parent None (Some sub) is = absurd is
+found_form parent (Some key) None is = absurd is
+found_form parent (Some key) (Some sub) is = sub_form sub is.0
+
+asked_form : (site : Site) (sub : Option Sub) → NextMay site sub → IfSome sub HasForm
+asked_form site None may = tt
+asked_form site (Some sub) may = sub_form sub may.0
+
+-- what a next finds is an answer
+pub next_answered : (m : Map) (site : Site) (sub found : Option Sub) → IsSite site → NextMay site sub → IsSubIn site.key (next_key m site.key sub) found → IsAnswered m (NextQuestion site.key sub found)
+next_answered m site sub found is may in_it = (in_it, asked_may site sub is may, (site.node, is.node, is.key), asked_form site sub may, found_form site.key (next_key m site.key sub) found in_it)

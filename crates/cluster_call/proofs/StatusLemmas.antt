@@ -2,12 +2,12 @@
 use Rattle.std.proofs.Common.{◌≡◌, ◌⊎◌, ℕ, List, inl, inr, subst, sym}
 use Rattle.std.specs.Io.KnownBytes.{Appends}
 use Rattle.plain_runs.specs.Run.{IsRun}
+use Rattle.job_script.specs.declared.script.Script.{Script}
 use Rattle.cluster_call.specs.declared.output.Output.{Output}
-use Rattle.cluster_call.specs.declared.scripts.Script.{Script}
 use Rattle.cluster_call.specs.Fits.{Fits}
 use Rattle.cluster_call.specs.OutputText.{IsOutputText}
 use Rattle.cluster_call.specs.declared.status.Status.{Status}
-use Rattle.cluster_call.specs.declared.status.Status.TheVariants.{Ok, Usage, NotBuilt, TooLarge, ReadFault, WriteFault, OutOfMemory}
+use Rattle.cluster_call.specs.declared.status.Status.TheVariants.{Ok, Usage, BadLine, UnknownName, NotBuilt, TooLarge, ReadFault, WriteFault, OutOfMemory}
 use Rattle.cluster_call.specs.Outside.{Outside, SinkStopped, HoldsFrontOf}
 use Rattle.cluster_call.specs.StatusCauses.{Answers, Ends, HasRead, fault_line}
 
@@ -15,6 +15,8 @@ use Rattle.cluster_call.specs.StatusCauses.{Answers, Ends, HasRead, fault_line}
 refused : (o : Outside) (status : Status) → Ends o status → HoldsFrontOf o.sink (fault_line status) → Answers o status
 refused o Ok because put = absurd because
 refused o Usage because put = record { because = because; put = put }
+refused o (BadLine line kind) because put = record { because = because; put = put }
+refused o (UnknownName line) because put = record { because = because; put = put }
 refused o (NotBuilt line) because put = record { because = because; put = put }
 refused o TooLarge because put = record { because = because; put = put }
 refused o ReadFault because put = record { because = because; put = put }

@@ -5,19 +5,20 @@ use Rattle.plain_orders.specs.declared.act.Act.{Act}
 use Rattle.plain_orders.specs.declared.act.Act.TheVariants.{Opened, Enter, Synced, Shut, Release, Met, Told, Back, Crash, Issue, Read, Grant, Granted, GiveUp, Quit, Free, Counted, NotWhole, Range, Committed, RolledBack, Reached, Level, Done, Refused, Broke, Mended, Tick, Lose, Died}
 use Rattle.plain_orders.specs.declared.item.Item.{Item}
 use Rattle.plain_orders.specs.declared.item.Item.TheVariants.{Op as OpItem}
-use Rattle.plain_orders.specs.declared.op.Op.TheVariants.{Set as SetOp}
+use Rattle.plain_orders.specs.declared.op.Op.TheVariants.{Set as SetOp, Kill as KillOp}
 use Rattle.plain_orders.specs.declared.question.Question.{Question}
-use Rattle.plain_orders.specs.declared.question.Question.TheVariants.{Get as GetQuestion}
+use Rattle.plain_orders.specs.declared.question.Question.TheVariants.{Get as GetQuestion, Data as DataQuestion, Next as NextQuestion}
 use Rattle.plain_orders.specs.declared.via.Via.{Via}
-use Rattle.cluster_call.specs.declared.answer.Answer.TheVariants.{Queued, Value}
-use Rattle.cluster_call.specs.declared.answer.AnswerLine.{AnswerLine}
-use Rattle.cluster_call.specs.declared.command.Command.{Command}
-use Rattle.cluster_call.specs.declared.command.Command.TheVariants.{Set, Get}
+use Rattle.subscript_keys.specs.declared.sub.Sub.{Sub}
+use Rattle.app_job.specs.declared.answer.Answer.TheVariants.{Queued, Value, Shape as ShapeAnswer, Next as NextAnswer}
+use Rattle.app_job.specs.declared.command.Command.{Command}
+use Rattle.app_job.specs.declared.command.Command.TheVariants.{Set, Kill, Get, Shape, Next}
+use Rattle.job_script.specs.declared.script.Script.{Script}
+use Rattle.job_script.specs.declared.script_line.ScriptLine.{ScriptLine}
+use Rattle.job_script.specs.declared.todo.Todo.{Todo}
+use Rattle.job_script.specs.declared.todo.Todo.TheVariants.{Job}
+use Rattle.cluster_call.specs.declared.answer_line.AnswerLine.{AnswerLine}
 use Rattle.cluster_call.specs.declared.output.Output.{Output}
-use Rattle.cluster_call.specs.declared.script_line.ScriptLine.{ScriptLine}
-use Rattle.cluster_call.specs.declared.script_line.Todo.{Todo}
-use Rattle.cluster_call.specs.declared.script_line.Todo.TheVariants.{Job}
-use Rattle.cluster_call.specs.declared.scripts.Script.{Script}
 
 -- the job of an act that a job makes
 abbrev pub job_of : Act → Option ℕ
@@ -64,33 +65,45 @@ acts_of j acts = flat_map (λ a. if_of j (job_of a) a) acts
 -- a line of this job alone
 abbrev pub line_if_of : ℕ → ScriptLine → Todo → List ScriptLine
 line_if_of j line (Job job command) = if job == j then line ∷ [] else []
+line_if_of j line todo = []
 
 -- the lines of a job, in order
 abbrev pub lines_of : ℕ → List ScriptLine → List ScriptLine
 lines_of j lines = flat_map (λ line. line_if_of j line line.todo) lines
 
--- Which acts a command has, one case a command:
--- a set is issued, and a get is read, at the command's own line and node
+-- Which acts a command has, one case a command, at the command's own line and node:
+-- a set and a kill are issued; a get, a shape and a next are read. No other command has acts yet.
 abbrev pub DoesCommand : ℕ → ℕ → Command → List Act → Type 0
 DoesCommand job line (Set at value) acts = (w : ℕ) × (acts ≡ Issue job line at.server w (OpItem (SetOp at.key value)) ∷ [])
+DoesCommand job line (Kill at) acts = (w : ℕ) × (acts ≡ Issue job line at.server w (OpItem (KillOp at.key)) ∷ [])
 DoesCommand job line (Get at) acts = (n : ℕ) × (via : Via) × (value : Option (List ℕ)) × (acts ≡ Read job line at.server n via (GetQuestion at.key value) ∷ [])
+DoesCommand job line (Shape at) acts = (n : ℕ) × (via : Via) × (code : ℕ) × (acts ≡ Read job line at.server n via (DataQuestion at.key code) ∷ [])
+DoesCommand job line (Next parent sub) acts = (n : ℕ) × (via : Via) × (found : Option Sub) × (acts ≡ Read job line parent.server n via (NextQuestion parent.key sub found) ∷ [])
+DoesCommand job line command acts = ⊥
 
 abbrev pub DoesTodo : ℕ → Todo → List Act → Type 0
 DoesTodo line (Job job command) acts = DoesCommand job line command acts
+DoesTodo line todo acts = ⊥
 
 -- the acts of a line
 abbrev pub DoesLine : ScriptLine → List Act → Type 0
 DoesLine line acts = DoesTodo line.line line.todo acts
 
+-- the answer that an update is on its way, with its running number
+abbrev pub queued : ℕ → ℕ → ℕ → ℕ → List AnswerLine
+queued job line d w = record { job = job; line = line; answer = Queued (record { server = d; number = w } ∷ []) } ∷ []
+
 -- the answer that an issued item gives, one case a kind of item
 abbrev pub item_answer : ℕ → ℕ → ℕ → ℕ → Item → List AnswerLine
-item_answer job line d w (OpItem (SetOp key value)) = record { job = job; line = line; answer = Queued d w } ∷ []
+item_answer job line d w (OpItem (SetOp key value)) = queued job line d w
+item_answer job line d w (OpItem (KillOp key)) = queued job line d w
 item_answer job line d w item = []
 
 -- the answer that a read gives
 abbrev pub read_answer : ℕ → ℕ → ℕ → Via → Question → List AnswerLine
 read_answer job line at via (GetQuestion key value) = record { job = job; line = line; answer = Value value at via } ∷ []
-read_answer job line at via question = []
+read_answer job line at via (DataQuestion key code) = record { job = job; line = line; answer = ShapeAnswer code at via } ∷ []
+read_answer job line at via (NextQuestion parent sub found) = record { job = job; line = line; answer = NextAnswer found at via } ∷ []
 
 -- the answer of a command that this act ends
 abbrev pub answer_of : Act → List AnswerLine

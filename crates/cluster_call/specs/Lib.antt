@@ -1,14 +1,7 @@
+pub mod Built
 pub mod Fits
-pub mod Lines
-pub mod Names
 pub mod OutputText
 pub mod Outside
-pub mod Printing
 pub mod Reading
 pub mod Running
-pub mod Script
-pub mod ScriptText
 pub mod StatusCauses
-pub mod Texts
-pub mod TrailText
-pub mod Transcript

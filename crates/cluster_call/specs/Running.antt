@@ -1,45 +1,61 @@
 -- What a run of a script goes by.
-use Rattle.std.specs.Prelude.{◌≡◌, ℕ, ◌<◌, ◌≤◌, Bool, true, false, List, [], ◌∷◌, ◌++◌, length, Some, None, All}
-use Rattle.std.specs.List.{flat_map}
+use Rattle.std.specs.Prelude.{◌≡◌, ℕ, ◌<◌, ◌≤◌, Bool, true, false, List, [], ◌∷◌, ◌++◌, length, Some, None, IfSome, All}
+use Rattle.std.specs.List.{flat_map, AllByRecursion}
 use Rattle.plain_orders.specs.declared.act.Act.{Act}
 use Rattle.plain_orders.specs.declared.entry.Entry.TheVariants.{Epoch}
 use Rattle.plain_orders.specs.declared.layout.Layout.{Layout}
 use Rattle.plain_orders.specs.Entries.{count, live}
 use Rattle.plain_orders.specs.Fold.{Folded, fold}
-use Rattle.plain_orders.specs.Ordered.{KeyMay, SetMay}
+use Rattle.subscript_keys.specs.Key.{HasForm, IsKey}
+use Rattle.plain_orders.specs.declared.question.Question.{Question}
+use Rattle.plain_orders.specs.declared.question.Question.TheVariants.{Get as GetQuestion, Data as DataQuestion, Next as NextQuestion}
+use Rattle.plain_orders.specs.Answers.{data_at, next_key, IsSubIn}
+use Rattle.plain_orders.specs.Ordered.{KeyMay}
+use Rattle.plain_orders.specs.PairMap.{Map, value_at}
+use Rattle.plain_programs.specs.Keys.{HasKeys}
+use Rattle.plain_runs.specs.JobRows.{asked_key}
 use Rattle.plain_runs.specs.Plain.{Plain, Server, Session}
-use Rattle.cluster_call.specs.declared.command.Command.{Command}
-use Rattle.cluster_call.specs.declared.command.Command.TheVariants.{Set, Get}
-use Rattle.cluster_call.specs.declared.script_line.ScriptLine.{ScriptLine}
-use Rattle.cluster_call.specs.declared.script_line.Todo.{Todo}
-use Rattle.cluster_call.specs.declared.script_line.Todo.TheVariants.{Job}
-use Rattle.cluster_call.specs.declared.scripts.Script.{Script}
-use Rattle.cluster_call.specs.declared.answer.Answer.{Answer}
-use Rattle.cluster_call.specs.declared.answer.AnswerLine.{AnswerLine}
-use Rattle.cluster_call.specs.Fits.{DoesCommand, DoesLine, acts_of, answer_of, tick_of, end_of, loss_of}
-use Rattle.cluster_call.specs.TrailText.{AllCanPrint, IsGlobalKey}
+use Rattle.app_job.specs.declared.answer.Answer.{Answer}
+use Rattle.app_job.specs.declared.command.Command.{Command}
+use Rattle.app_job.specs.declared.command.Command.TheVariants.{Set, Kill, Get, Shape, Next}
+use Rattle.app_job.specs.Limits.{NextMay}
+use Rattle.app_job.specs.Sites.{Site, IsSite}
+use Rattle.job_script.specs.declared.script.Script.{Script}
+use Rattle.job_script.specs.declared.script_line.ScriptLine.{ScriptLine}
+use Rattle.job_script.specs.declared.todo.Todo.{Todo}
+use Rattle.job_script.specs.declared.todo.Todo.TheVariants.{Job, Await}
+use Rattle.transcript.specs.ActText.{CanPrintAct}
+use Rattle.transcript.specs.AnswerText.{CanPrintAnswer}
+use Rattle.cluster_call.specs.declared.answer_line.AnswerLine.{AnswerLine}
+use Rattle.cluster_call.specs.Fits.{DoesCommand, acts_of, answer_of, tick_of, end_of, loss_of}
 
--- a command that can be run: its node is a global at the only data server
-abbrev pub CommandMay : Command → Type 0
-CommandMay (Set at value) = (at.server ≡ 0) × IsGlobalKey at.key × SetMay at.key value
-CommandMay (Get at) = (at.server ≡ 0) × IsGlobalKey at.key × KeyMay at.key
+-- a node at the only data server
+abbrev pub IsHere : Site → Type 0
+IsHere at = (at.server ≡ 0) × IsSite at
 
--- a line that can be run: a command of the only job
-abbrev pub TodoMay : Todo → Type 0
-TodoMay (Job job command) = (job ≡ 0) × CommandMay command
-
-abbrev pub AllMay : List ScriptLine → Type 0
-AllMay lines = All (λ line. TodoMay line.todo) lines
+-- a command that can be run
+abbrev pub CommandRuns : Command → Type 0
+CommandRuns (Set at value) = IsHere at × (length value ≤ 3000)
+CommandRuns (Kill at) = IsHere at
+CommandRuns (Get at) = IsHere at
+CommandRuns (Shape at) = IsHere at
+CommandRuns (Next parent sub) = IsHere parent × NextMay parent sub
+CommandRuns command = ⊥
 
 -- there is a data server, and a job on the first application server
 pub record HasJob (l : Layout) : Type 0 where
   pub server : 0 < l.servers
   pub job : l.job_apps ≡ 0 ∷ []
 
+-- a line that can be run: a command of the only job, or an await
+abbrev pub TodoRuns : Layout → Todo → Type 0
+TodoRuns l (Job job command) = HasJob l × (job ≡ 0) × CommandRuns command
+TodoRuns l (Await job) = Unit {0}
+TodoRuns l todo = ⊥
+
 -- a script that can be run
-pub record CanRun (script : Script) : Type 0 where
-  pub lines : AllMay script.lines
-  pub job : 0 < length script.lines → HasJob script.layout
+abbrev pub CanRun : Script → Type 0
+CanRun script = All (λ line. TodoRuns script.layout line.todo) script.lines
 
 -- the only session is the second entry of the list
 abbrev pub SESSION : ℕ
@@ -73,12 +89,28 @@ pub record Stands (p : Plain) (entries issued : ℕ) (connected : Bool) (store :
   pub synced : (p.server_at 0).synced ≡ entries
   pub not_due : (p.server_at 0).due ≡ None
   pub folds : fold (p.server_at 0).order ≡ store
+  pub keys : HasKeys store.pairs
   pub unbroken : ((p.server_at 0).pair_at 0).broke ≡ None
   pub seen : ((p.server_at 0).known_at 0).seen ≤ entries
   pub free : ((p.server_at 0).known_at 0).bar ≡ None
   pub level : (p.job_at 0).level ≡ 0
   pub alive : p.died_at 0 ≡ false
   pub pair : IsConnected (p.server_at 0) issued connected
+
+-- a question has its answer on the store's pairs, and its node is within the limits
+abbrev pub IsAnswered : Map → Question → Type 0
+IsAnswered m (GetQuestion key value) = (value ≡ value_at m key) × KeyMay key
+IsAnswered m (DataQuestion key code) = (code ≡ data_at m key) × KeyMay key
+IsAnswered m (NextQuestion parent sub found) =
+    IsSubIn parent (next_key m parent sub) found × KeyMay (asked_key parent sub) × IsKey parent × IfSome sub HasForm × IfSome found HasForm
+
+-- each act can be printed
+abbrev pub AllCanPrint : List Act → Type 0
+AllCanPrint acts = AllByRecursion CanPrintAct acts
+
+-- each answer can be printed
+abbrev pub AllCanAnswer : List AnswerLine → Type 0
+AllCanAnswer answers = AllByRecursion (λ (a : AnswerLine). CanPrintAnswer a.answer) answers
 
 -- What some more acts add: those of them that jobs make, with their answers. They move no clock, break nothing and lose nothing,
 -- and all of them can be printed.
@@ -96,8 +128,8 @@ pub record DidCommand (line : ℕ) (command : Command) (old new made : List Act)
   pub adds : Adds old new made
   pub gives : flat_map answer_of made ≡ record { job = 0; line = line; answer = answer } ∷ []
 
--- a line was done
-pub record DidLine (line : ScriptLine) (old new made : List Act) (answer : AnswerLine) : Type 0 where
-  pub does : DoesLine line made
-  pub adds : Adds old new made
-  pub gives : flat_map answer_of made ≡ answer ∷ []
+-- a line was done: a command with its answer, or nothing
+abbrev pub DidTodo : ℕ → Todo → List Act → List Act → List AnswerLine → Type 0
+DidTodo line (Job job command) old new answers =
+    (made : List Act) × (answer : Answer) × DidCommand line command old new made answer × (answers ≡ record { job = 0; line = line; answer = answer } ∷ [])
+DidTodo line todo old new answers = (new ≡ old) × (answers ≡ [])

@@ -1,4 +1,4 @@
-use crate::answer::AnswerLine;
+use crate::answer_line::AnswerLine;
 use plain_orders::Trail;
 
 /// What a script puts out: the answers in the order in which they were given, and the trail.

@@ -1,13 +1,19 @@
 ghost use Rattle.std.specs.Prelude.{◌≡◌};
 
-/// How a call ended.
+use job_script::LineKind;
+
+/// How a call ended. Lines count from 1.
 #[derive(Clone, Copy, Debug, PartialEq, Eq)]
 pub enum Status {
     /// The input was read to its end and all output was put.
     Ok,
     /// The words aren't a form of the command.
     Usage,
-    /// The first line of a form that isn't built yet.
+    /// The first line that is outside the grammar.
+    BadLine { line: u32, kind: LineKind },
+    /// The first bad line, which names what isn't declared.
+    UnknownName { line: u32 },
+    /// The first line of a form that isn't built yet, where no line is bad.
     NotBuilt { line: u32 },
     /// More bytes or lines than a script may have.
     TooLarge,
@@ -26,7 +32,7 @@ impl Status {
         match self {
             Status::Ok => 0,
             Status::Usage => 2,
-            Status::NotBuilt { .. } => 3,
+            Status::BadLine { .. } | Status::UnknownName { .. } | Status::NotBuilt { .. } => 3,
             Status::TooLarge => 4,
             Status::ReadFault => 5,
             Status::WriteFault => 6,

@@ -1,7 +1,7 @@
 //! The calls behind the program's commands.
 ghost use Rattle.std.specs.Prelude.{◌≡◌, ◌⊎◌, ◌↔◌, IsTrue, IfOk, IfErr};
 ghost use Rattle.cluster_call.specs.Outside.{Outside, SinkTold};
-ghost use Rattle.cluster_call.specs.StatusCauses.{Answers, Ends, HasRead, IsScriptForm, fault_line};
+ghost use Rattle.cluster_call.specs.StatusCauses.{Answers, Ends, HasRead, IsScriptForm, about_line, fault_line};
 ghost use Rattle.outer_io.specs.Took.{TookFront};
 ghost use Rattle.plain_runs.specs.Run.{IsRun};
 ghost use Rattle.cluster_call.specs.Fits.{Fits};
@@ -9,18 +9,23 @@ ghost use Rattle.cluster_call.specs.OutputText.{IsOutputText};
 ghost use Rattle.cluster_call.specs.Running.{CanRun};
 ghost use Rattle.cluster_call.specs.declared.output.Output.{Output};
 
-use crate::limits::LINE_LIMIT;
+use crate::built::first_unbuilt;
 use crate::output_text::print_output;
 use crate::put_all::put_all;
-use crate::script_reader::{ReadError, read_script};
 use crate::script_run::run_script;
-use crate::scripts::Script;
 use crate::source_text::{TextError, read_text};
-use crate::splits::{count_lines, is_same};
 use crate::status::Status;
 use itoa::Buffer;
+use job_script::{Script, ScriptError, read_script};
 use outer_io::{Sink, Source, Stop, Word};
 use std::alloc::{AllocError, Global};
+
+/// Whether these are the same bytes.
+fn is_same(a: &[u8], b: &[u8]) -> bool
+    ensures { IsTrue result ↔ (a.now ≡ b.now) }
+{
+    a == b
+}
 
 /// Whether the words are `script FILE`, where FILE isn't empty and doesn't begin with a dash.
 fn is_script_form(words: &[Word]) -> bool
@@ -38,19 +43,28 @@ fn is_script_form(words: &[Word]) -> bool
     }
 }
 
+/// The line about a line of the script.
+fn about_line(alloc: Global, line: u32, text: &[u8]) -> Result<Vec<u8>, AllocError>
+    ensures { IfOk result (λ shown. shown.items ≡ about_line line text.now) }
+{
+    let mut buffer = Buffer::new();
+    let mut shown = Vec::from_slice(alloc, b"ecp: line ")?;
+    shown.extend_from_slice(buffer.format(line).as_bytes())?;
+    shown.extend_from_slice(b": ")?;
+    shown.extend_from_slice(text)?;
+    shown.push(b'\n')?;
+    Ok(shown)
+}
+
 /// The line that is put where this status refuses.
-fn fault_text(alloc: Global, status: &Status) -> Result<Vec<u8>, AllocError>
-    ensures { IfOk result (λ text. text.items ≡ fault_line status.now) }
+fn fault_text(alloc: Global, status: Status) -> Result<Vec<u8>, AllocError>
+    ensures { IfOk result (λ text. text.items ≡ fault_line status) }
 {
     match status {
         Status::Usage => Vec::from_slice(alloc, b"usage: ecp script FILE\n"),
-        Status::NotBuilt { line } => {
-            let mut buffer = Buffer::new();
-            let mut text = Vec::from_slice(alloc, b"ecp: line ")?;
-            text.extend_from_slice(buffer.format(*line).as_bytes())?;
-            text.extend_from_slice(b": not built yet\n")?;
-            Ok(text)
-        }
+        Status::BadLine { line, kind } => about_line(alloc, line, kind.text()),
+        Status::UnknownName { line } => about_line(alloc, line, b"unknown name"),
+        Status::NotBuilt { line } => about_line(alloc, line, b"not built yet"),
         Status::TooLarge => Vec::from_slice(alloc, b"ecp: too large\n"),
         Status::ReadFault => Vec::from_slice(alloc, b"ecp: read fault\n"),
         _ => Ok(Vec::new(alloc)),
@@ -62,7 +76,7 @@ fn refuse<K: Sink>(alloc: Global, out: &mut K, status: Status) -> Status
     ensures answer { (result ≡ status) ⊎ (result ≡ Status.OutOfMemory) }
     ensures put { TookFront (K.held out.old) (K.held out.new) (fault_line status) }
 {
-    let Ok(line) = fault_text(alloc, &status) else {
+    let Ok(line) = fault_text(alloc, status) else {
         return Status::OutOfMemory;
     };
     match put_all(out, &line) {
@@ -94,13 +108,16 @@ fn read_source<S: Source>(alloc: Global, words: &[Word], src: &mut S) -> Result<
         Err(TextError::Fault) => return Err(Status::ReadFault),
         Err(TextError::TooLarge) => return Err(Status::TooLarge),
     };
-    if count_lines(&text) > LINE_LIMIT as usize {
-        return Err(Status::TooLarge);
-    }
-    match read_script(alloc, &text) {
-        Ok(script) => Ok(script),
-        Err(ReadError::Memory) => Err(Status::OutOfMemory),
-        Err(ReadError::Other { line }) => Err(Status::NotBuilt { line }),
+    let script = match read_script(alloc, &text) {
+        Ok(script) => script,
+        Err(ScriptError::BadLine { line, kind }) => return Err(Status::BadLine { line, kind }),
+        Err(ScriptError::UnknownName { line }) => return Err(Status::UnknownName { line }),
+        Err(ScriptError::TooManyLines) => return Err(Status::TooLarge),
+        Err(ScriptError::Memory(_)) => return Err(Status::OutOfMemory),
+    };
+    match first_unbuilt(&script) {
+        Some(line) => Err(Status::NotBuilt { line }),
+        None => Ok(script),
     }
 }
 

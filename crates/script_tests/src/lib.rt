@@ -3,6 +3,10 @@
 #![tactic(auto)]
 
 #[cfg(test)]
+mod bad_lines;
+#[cfg(test)]
+mod built;
+#[cfg(test)]
 mod faults;
 #[cfg(test)]
 mod forms;
