@@ -169,12 +169,12 @@ one-name name other text rest behind is it n m e k =
 
 -- a node that is read has no fault in its subscripts
 no-list-fault : (name text rest : List ℕ) (subs : List Sub) (error : TextError) → ReadsParts name subs text rest → HasListFault text error → IsMemory error
-no-list-fault name text rest subs error (inl (none, (is, e, n))) (other, more, at, inl (before, fault)) =
+no-list-fault name text rest subs error (inl (none, (is, e, n))) (other, more, (at, inl (before, fault))) =
     absurd (no-paren rest before.listed.0 n (one-name name other text rest (40 ∷ before.listed.0) is before.named (whole-name rest n) (paren-ends before.listed.0) e before.listed.2).1)
-no-list-fault name text rest subs error (inl (none, (is, e, n))) (other, more, at, inr (behind, fault)) =
+no-list-fault name text rest subs error (inl (none, (is, e, n))) (other, more, (at, inr (behind, fault))) =
     let before = behind.last.3 in
     absurd (no-paren rest before.listed.0 n (one-name name other text rest (40 ∷ before.listed.0) is before.named (whole-name rest n) (paren-ends before.listed.0) e before.listed.2).1)
-no-list-fault name text rest subs error (inr read) (other, more, at, inl (before, fault)) =
+no-list-fault name text rest subs error (inr read) (other, more, (at, inl (before, fault))) =
     let here = read.last.3 in
     let same = one-name name other text (40 ∷ here.listed.0) (40 ∷ before.listed.0) here.named before.named (paren-ends here.listed.0) (paren-ends before.listed.0) here.listed.2 before.listed.2 in
     let lists : before.listed.0 ≡ here.listed.0 = let whole : 40 ∷ here.listed.0 ≡ 40 ∷ before.listed.0 = same.1 in cc in
@@ -182,7 +182,7 @@ no-list-fault name text rest subs error (inr read) (other, more, at, inl (before
     (omega (arith, read.within, ap (λ l. length (subs_bytes l)) read.last.5))
     (subst (λ (t : List ℕ). ReadsSubs more t at) lists before.listed.1)
     (subst (λ (n : List ℕ). HasSubFault (key_length n more) at error) (sym same.0) fault)
-no-list-fault name text rest subs error (inr read) (other, more, at, inr (behind, fault)) =
+no-list-fault name text rest subs error (inr read) (other, more, (at, inr (behind, fault))) =
     let here = read.last.3 in
     let before = behind.last.3 in
     let same = one-name name other text (40 ∷ here.listed.0) (40 ∷ before.listed.0) here.named before.named (paren-ends here.listed.0) (paren-ends before.listed.0) here.listed.2 before.listed.2 in

@@ -35,18 +35,18 @@ no-name text token after e p n none = (text, refl, λ name rest is m k. none (su
 
 -- what a fault of the subscripts says of the node
 pub list-fault : (text : List ℕ) (error : TextError) → HasListFault text error → HasNodeFault text error
-list-fault text NoCaret (name, subs, rest, inl (before, fault)) = absurd fault
-list-fault text NoCaret (name, subs, rest, inr (behind, fault)) = absurd fault
-list-fault text BadName (name, subs, rest, inl (before, fault)) = absurd fault
-list-fault text BadName (name, subs, rest, inr (behind, fault)) = absurd fault
+list-fault text NoCaret (name, subs, (rest, inl (before, fault))) = absurd fault
+list-fault text NoCaret (name, subs, (rest, inr (behind, fault))) = absurd fault
+list-fault text BadName (name, subs, (rest, inl (before, fault))) = absurd fault
+list-fault text BadName (name, subs, (rest, inr (behind, fault))) = absurd fault
 list-fault text BadSubscript fault = fault
 list-fault text Unclosed fault = fault
 list-fault text KeyTooLong fault = fault
 list-fault text (Memory error) fault = tt
-list-fault text BadValue (name, subs, rest, inl (before, fault)) = fault
-list-fault text BadValue (name, subs, rest, inr (behind, fault)) = fault
-list-fault text ValueTooLong (name, subs, rest, inl (before, fault)) = fault
-list-fault text ValueTooLong (name, subs, rest, inr (behind, fault)) = fault
+list-fault text BadValue (name, subs, (rest, inl (before, fault))) = fault
+list-fault text BadValue (name, subs, (rest, inr (behind, fault))) = fault
+list-fault text ValueTooLong (name, subs, (rest, inl (before, fault))) = fault
+list-fault text ValueTooLong (name, subs, (rest, inr (behind, fault))) = fault
 
 -- a spelling stands in front of the rest
 abbrev pub Front : List ℕ → List ℕ → Type 0

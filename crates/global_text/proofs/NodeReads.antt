@@ -43,8 +43,8 @@ string-shorter s text next c (inr ((items, is, e), n)) = omega (arith, ap length
 
 -- a fault before a subscript
 pub fault-before : (text name rest : List ℕ) (subs : List Sub) (key : ℕ) (error : TextError) → BeforeSub text name subs rest → key ≡ key_length name subs → HasSubFault key rest error → HasListFault text error
-fault-before text name rest subs key error before e fault = (name, subs, rest, inl (before, subst (λ (k : ℕ). HasSubFault k rest error) e fault))
+fault-before text name rest subs key error before e fault = (name, subs, (rest, inl (before, subst (λ (k : ℕ). HasSubFault k rest error) e fault)))
 
 -- a fault behind one
 pub fault-behind : (text name rest : List ℕ) (subs : List Sub) (error : TextError) → BehindSub text name subs rest → HasMarkFault rest error → HasListFault text error
-fault-behind text name rest subs error behind fault = (name, subs, rest, inr (behind, fault))
+fault-behind text name rest subs error behind fault = (name, subs, (rest, inr (behind, fault)))

@@ -191,23 +191,23 @@ same-list text name other place at ss ts p q =
     (same.0, let lists : q.listed.0 ≡ p.listed.0 = let whole : 40 ∷ p.listed.0 ≡ 40 ∷ q.listed.0 = same.1 in cc in lists)
 
 one-list-fault : (text : List ℕ) (error other : TextError) → HasListFault text error → HasListFault text other → AreOne error other
-one-list-fault text error other (name, ss, place, inl (p, fault)) (name', ts, at, inl (q, also)) =
+one-list-fault text error other (name, ss, (place, inl (p, fault))) (name', ts, (at, inl (q, also))) =
     let same = same-list text name name' place at ss ts p q in
     both-before (length name + 1) ss ts p.listed.0 place at error other p.listed.1 (subst (λ (t : List ℕ). ReadsSubs ts t at) same.1 q.listed.1) p.within (omega (arith, q.within, ap length same.0)) fault (subst (λ (n : List ℕ). HasSubFault (key_length n ts) at other) (sym same.0) also)
-one-list-fault text error other (name, ss, place, inl (p, fault)) (name', ts, behind, inr (q, also)) =
+one-list-fault text error other (name, ss, (place, inl (p, fault))) (name', ts, (behind, inr (q, also))) =
     let same = same-list text name name' place q.last.2 ss q.last.0 p q.last.3 in
     before-behind (length name + 1) ss q.last.0 q.last.1 p.listed.0 place q.last.2 behind error other p.listed.1 (subst (λ (t : List ℕ). ReadsSubs q.last.0 t q.last.2) same.1 q.last.3.listed.1) q.last.4 (omega (arith, q.within, ap length same.0, ap (λ l. length (subs_bytes l)) q.last.5)) fault also
-one-list-fault text error other (name, ss, rest, inr (p, fault)) (name', ts, at, inl (q, also)) =
+one-list-fault text error other (name, ss, (rest, inr (p, fault))) (name', ts, (at, inl (q, also))) =
     let same = same-list text name' name at p.last.2 ts p.last.0 q p.last.3 in
     swapped other error (before-behind (length name' + 1) ts p.last.0 p.last.1 q.listed.0 at p.last.2 rest other error q.listed.1 (subst (λ (t : List ℕ). ReadsSubs p.last.0 t p.last.2) same.1 p.last.3.listed.1) p.last.4 (omega (arith, p.within, ap length same.0, ap (λ l. length (subs_bytes l)) p.last.5)) also fault)
-one-list-fault text error other (name, ss, rest, inr (p, fault)) (name', ts, behind, inr (q, also)) =
+one-list-fault text error other (name, ss, (rest, inr (p, fault))) (name', ts, (behind, inr (q, also))) =
     let same = same-list text name name' p.last.2 q.last.2 p.last.0 q.last.0 p.last.3 q.last.3 in
     both-behind p.last.0 q.last.0 p.last.1 q.last.1 p.last.3.listed.0 p.last.2 q.last.2 rest behind error other p.last.3.listed.1 p.last.4 (subst (λ (t : List ℕ). ReadsSubs q.last.0 t q.last.2) same.1 q.last.3.listed.1) q.last.4 fault also
 
 -- a list of subscripts stands behind a caret and a name
 list-named : (text : List ℕ) (error : TextError) → HasListFault text error → (name : List ℕ) × (list : List ℕ) × IsName name × (text ≡ 94 ∷ (name ++ 40 ∷ list))
-list-named text error (name, ss, place, inl (p, fault)) = (name, p.listed.0, p.named, p.listed.2)
-list-named text error (name, ss, rest, inr (p, fault)) = (name, p.last.3.listed.0, p.last.3.named, p.last.3.listed.2)
+list-named text error (name, ss, (place, inl (p, fault))) = (name, p.listed.0, p.named, p.listed.2)
+list-named text error (name, ss, (rest, inr (p, fault))) = (name, p.last.3.listed.0, p.last.3.named, p.last.3.listed.2)
 
 caret-or-list : (text : List ℕ) (error : TextError) → BeginsOtherwise (λ b. b == 94) text → HasListFault text error → ⊥
 caret-or-list text error n fault = let named = list-named text error fault in no-caret text (named.0 ++ 40 ∷ named.1) n named.3

@@ -67,9 +67,14 @@ HasMarkFault text BadValue = ⊥
 HasMarkFault text ValueTooLong = ⊥
 HasMarkFault text (NoMemory error) = ⊥
 
+-- behind a name and these subscripts, which are read, the next one or the byte behind the last has this fault
+abbrev pub StopsBehind : List ℕ → List ℕ → List Sub → TextError → Type 0
+StopsBehind text name subs error =
+    (rest : List ℕ) × ((BeforeSub text name subs rest × HasSubFault (key_length name subs) rest error) ⊎ (BehindSub text name subs rest × HasMarkFault rest error))
+
 -- the subscripts have a fault, and all before it is read
 abbrev pub HasListFault : List ℕ → TextError → Type 0
-HasListFault text error = (name : List ℕ) × (subs : List Sub) × (rest : List ℕ) × ((BeforeSub text name subs rest × HasSubFault (key_length name subs) rest error) ⊎ (BehindSub text name subs rest × HasMarkFault rest error))
+HasListFault text error = (name : List ℕ) × (subs : List Sub) × StopsBehind text name subs error
 
 -- no letter stands behind the caret, or more than 31 letters and digits
 abbrev pub HasBadName : List ℕ → Type 0

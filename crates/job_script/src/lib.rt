@@ -1,0 +1,26 @@
+//! Reading scripts. Contracts say which script a text is, or at which line and for which fault from the left it
+//! is none. Each form of a line is a row of one table: its first word, and the parts behind it.
+#![tactic(auto)]
+
+mod declaration;
+mod declared;
+mod declared_line;
+mod global;
+mod limits;
+mod line;
+mod line_fault;
+mod line_kind;
+mod name_kind;
+mod script;
+mod script_error;
+mod script_line;
+mod setting;
+mod todo;
+
+pub use declared_line::{DeclaredLine, DeclaredLines, DeclaringWord};
+pub use limits::LINE_LIMIT;
+pub use line_kind::LineKind;
+pub use script::Script;
+pub use script_error::ScriptError;
+pub use script_line::{ScriptLine, ScriptLines};
+pub use todo::Todo;
