@@ -6,6 +6,7 @@ mod declaration;
 mod declared;
 mod declared_line;
 mod global;
+mod laws;
 mod limits;
 mod line;
 mod line_fault;
@@ -18,6 +19,7 @@ mod setting;
 mod todo;
 
 pub use declared_line::{DeclaredLine, DeclaredLines, DeclaringWord};
+pub use laws::{scripts_are_read_in_one_way, scripts_may_run};
 pub use limits::LINE_LIMIT;
 pub use line_kind::LineKind;
 pub use script::Script;
