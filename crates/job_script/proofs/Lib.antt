@@ -1,3 +1,4 @@
 pub mod WordLaws
 pub mod FaultLaws
 pub mod PartLaws
+pub mod PartFaults

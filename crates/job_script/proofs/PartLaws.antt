@@ -126,6 +126,25 @@ one-wait (Some m) (Some n) text r s (a, ahead, number, is) (b, first, other, it)
     let same = one-ahead (decimal m) (decimal n) b r s (subst (λ (x : List ℕ). IsAhead (decimal m) x r) behind number) other in
     (ap Some (one-number m n 10000 is.1 it.1 (omega arith) same.0), same.1)
 
+-- lists with a last subscript
+pub one-last : (ss ts : List Sub) (s t : Sub) → ss ++ s ∷ [] ≡ ts ++ t ∷ [] → (ss ≡ ts) × (s ≡ t)
+one-last [] [] s t e = (refl, let same : s ≡ t = cc in same)
+one-last [] (u ∷ ts) s t e = absurd (some ts t (let same : [] ≡ ts ++ t ∷ [] = cc in same))
+  where
+    some : (ts : List Sub) (t : Sub) → [] ≡ ts ++ t ∷ [] → ⊥
+    some [] t e = cc
+    some (u ∷ ts) t e = cc
+one-last (u ∷ ss) [] s t e = absurd (some ss s (let same : ss ++ s ∷ [] ≡ [] = cc in same))
+  where
+    some : (ts : List Sub) (t : Sub) → ts ++ t ∷ [] ≡ [] → ⊥
+    some [] t e = cc
+    some (u ∷ ts) t e = cc
+one-last (u ∷ ss) (v ∷ ts) s t e =
+    let rest = one-last ss ts s t (let same : ss ++ s ∷ [] ≡ ts ++ t ∷ [] = cc in same) in
+    let first : u ≡ v = cc in
+    let others : ss ≡ ts = rest.0 in
+    (cc, rest.1)
+
 -- a parent and the subscript behind it are read in one way
 one-next : (d : Declared) (a b : Site) (x y : Option Sub) (text r s : List ℕ) → TakesPart d (ANext a x) text r → TakesPart d (ANext b y) text s → (ANext a x ≡ ANext b y) × (r ≡ s)
 one-next d a b x y text r s (last, behind, read, is, site, declared, end) (other, next, also, it, place, known, ends) =
@@ -138,23 +157,6 @@ one-next d a b x y text r s (last, behind, read, is, site, declared, end) (other
     let subs : x ≡ y = is ∙ ap asked parts.1 ∙ sym it in
     (ap (λ p. ANext p x) sites ∙ ap (λ q. ANext b q) subs, one-end behind next r s same.1 end ends)
   where
-    one-last : (ss ts : List Sub) (s t : Sub) → ss ++ s ∷ [] ≡ ts ++ t ∷ [] → (ss ≡ ts) × (s ≡ t)
-    one-last [] [] s t e = (refl, let same : s ≡ t = cc in same)
-    one-last [] (u ∷ ts) s t e = absurd (some ts t (let same : [] ≡ ts ++ t ∷ [] = cc in same))
-      where
-        some : (ts : List Sub) (t : Sub) → [] ≡ ts ++ t ∷ [] → ⊥
-        some [] t e = cc
-        some (u ∷ ts) t e = cc
-    one-last (u ∷ ss) [] s t e = absurd (some ss s (let same : ss ++ s ∷ [] ≡ [] = cc in same))
-      where
-        some : (ts : List Sub) (t : Sub) → ts ++ t ∷ [] ≡ [] → ⊥
-        some [] t e = cc
-        some (u ∷ ts) t e = cc
-    one-last (u ∷ ss) (v ∷ ts) s t e =
-        let rest = one-last ss ts s t (let same : ss ++ s ∷ [] ≡ ts ++ t ∷ [] = cc in same) in
-        let first : u ≡ v = cc in
-        let others : ss ≡ ts = rest.0 in
-        (cc, rest.1)
     same-parts : (m n : Node) → m.name ≡ n.name → m.subs ≡ n.subs → m ≡ n
     same-parts m n e k =
         let by-name : List ℕ → Node = λ x. record { name = x; subs = m.subs } in
