@@ -2,3 +2,4 @@ pub mod WordLaws
 pub mod FaultLaws
 pub mod PartLaws
 pub mod PartFaults
+pub mod NodeFaults
