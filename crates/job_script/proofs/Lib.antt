@@ -3,3 +3,5 @@ pub mod FaultLaws
 pub mod PartLaws
 pub mod PartFaults
 pub mod NodeFaults
+pub mod RowLaws
+pub mod TableLaws
