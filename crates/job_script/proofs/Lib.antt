@@ -5,3 +5,4 @@ pub mod PartFaults
 pub mod NodeFaults
 pub mod RowLaws
 pub mod TableLaws
+pub mod LineLaws
