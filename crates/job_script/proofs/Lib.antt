@@ -6,3 +6,4 @@ pub mod NodeFaults
 pub mod RowLaws
 pub mod TableLaws
 pub mod LineLaws
+pub mod ScriptLaws
