@@ -14,3 +14,4 @@ pub mod NodeSpellings
 pub mod NumberAgreement
 pub mod OneFault
 pub mod StopLaws
+pub mod ByteReads

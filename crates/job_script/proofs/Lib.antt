@@ -7,3 +7,4 @@ pub mod RowLaws
 pub mod TableLaws
 pub mod LineLaws
 pub mod ScriptLaws
+pub mod TextBytes

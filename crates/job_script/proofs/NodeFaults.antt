@@ -2,6 +2,7 @@
 use Rattle.std.proofs.Common.{◌≡◌, ◌≢◌, ◌⊎◌, ℕ, ◌≤◌, List, [], ◌∷◌, ◌++◌, length, refl, sym, ap, subst, ◌∙◌, inl, inr, arith, length-append}
 use Rattle.std.specs.Prelude.{Option, None, Some}
 use Rattle.std.specs.List.{AllByRecursion}
+use Rattle.std.proofs.lemmas.List.{same_from_push}
 use Rattle.subscript_keys.specs.declared.sub.Sub.{Sub}
 use Rattle.subscript_keys.specs.declared.sub.Sub.TheVariants.{Num, Text}
 use Rattle.subscript_keys.specs.Key.{HasEmpty, IsSub, IsText}
@@ -23,7 +24,6 @@ use Rattle.job_script.specs.Names.{server_of}
 use Rattle.job_script.specs.Parts.{ANode, ANext, AValue, TakesPart, EndsBefore}
 use Rattle.job_script.specs.Refusals.{HasGlobal, IsDeclared, HasBadNode, HasUnknownGlobal, HasLongKey, HasEmptyFront, RefusesNode, RefusesNext, RefusesValue}
 use Rattle.job_script.specs.Words.{IsWordEnd}
-use Rattle.job_script.proofs.PartLaws.{one-last}
 use Rattle.job_script.proofs.FaultLaws.{IsWant, AreOne, Causes, Apart, one-cause, no-cause}
 
 -- the parts of a node that a text begins with are one
@@ -179,7 +179,7 @@ pub one-next-refusal : (d : Declared) (text : List ℕ) (fault other : LineFault
 one-next-refusal d text fault other p q = one-cause (RefusesNext d text) (Bad Words) (Bad Node) UnknownName (Bad Key) (Bad NoSub) fault other (next-apart d text) (next-causes d text fault p) (next-causes d text other q)
 
 no-empty-front : (subs : List Sub) (last : Sub) → AllByRecursion IsSub subs → HasEmptyFront (subs ++ last ∷ []) → ⊥
-no-empty-front subs last all (front, other, e, h) = no-empty subs all (subst HasEmpty (sym (one-last subs front last other e).0) h)
+no-empty-front subs last all (front, other, e, h) = no-empty subs all (subst HasEmpty (sym (same_from_push subs front last other e).0) h)
 
 pub next-taken : (d : Declared) (parent : Site) (sub : Option Sub) (text rest : List ℕ) (fault : LineFault) → TakesPart d (ANext parent sub) text rest → RefusesNext d text fault → IsWant fault
 next-taken d parent sub text rest fault (last, behind, read, asks, is, known, ends) h = no-cause (RefusesNext d text) (Bad Words) (Bad Node) UnknownName (Bad Key) (Bad NoSub) fault

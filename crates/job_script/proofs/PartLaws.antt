@@ -4,7 +4,7 @@ use Rattle.std.specs.Prelude.{Option, None, Some, unsigned_abs, codes, if◌then
 use Rattle.std.specs.Fmt.{decimal, signed_decimal}
 use Rattle.std.specs.Int.Signed.{mag}
 use Rattle.std.proofs.lemmas.Fmt.{decimal_injective, signed_decimal_injective}
-use Rattle.std.proofs.lemmas.List.{append_cancel_right}
+use Rattle.std.proofs.lemmas.List.{same_from_push}
 use Rattle.subscript_keys.specs.declared.node.Node.{Node}
 use Rattle.subscript_keys.specs.declared.sub.Sub.{Sub}
 use Rattle.subscript_keys.specs.Key.{key_of}
@@ -126,32 +126,13 @@ one-wait (Some m) (Some n) text r s (a, ahead, number, is) (b, first, other, it)
     let same = one-ahead (decimal m) (decimal n) b r s (subst (λ (x : List ℕ). IsAhead (decimal m) x r) behind number) other in
     (ap Some (one-number m n 10000 is.1 it.1 (omega arith) same.0), same.1)
 
--- lists with a last subscript
-pub one-last : (ss ts : List Sub) (s t : Sub) → ss ++ s ∷ [] ≡ ts ++ t ∷ [] → (ss ≡ ts) × (s ≡ t)
-one-last [] [] s t e = (refl, let same : s ≡ t = cc in same)
-one-last [] (u ∷ ts) s t e = absurd (some ts t (let same : [] ≡ ts ++ t ∷ [] = cc in same))
-  where
-    some : (ts : List Sub) (t : Sub) → [] ≡ ts ++ t ∷ [] → ⊥
-    some [] t e = cc
-    some (u ∷ ts) t e = cc
-one-last (u ∷ ss) [] s t e = absurd (some ss s (let same : ss ++ s ∷ [] ≡ [] = cc in same))
-  where
-    some : (ts : List Sub) (t : Sub) → ts ++ t ∷ [] ≡ [] → ⊥
-    some [] t e = cc
-    some (u ∷ ts) t e = cc
-one-last (u ∷ ss) (v ∷ ts) s t e =
-    let rest = one-last ss ts s t (let same : ss ++ s ∷ [] ≡ ts ++ t ∷ [] = cc in same) in
-    let first : u ≡ v = cc in
-    let others : ss ≡ ts = rest.0 in
-    (cc, rest.1)
-
 -- a parent and the subscript behind it are read in one way
 one-next : (d : Declared) (a b : Site) (x y : Option Sub) (text r s : List ℕ) → TakesPart d (ANext a x) text r → TakesPart d (ANext b y) text s → (ANext a x ≡ ANext b y) × (r ≡ s)
 one-next d a b x y text r s (last, behind, read, is, site, declared, end) (other, next, also, it, place, known, ends) =
     let same = one-node (record { name = a.node.name; subs = a.node.subs ++ last ∷ [] }) (record { name = b.node.name; subs = b.node.subs ++ other ∷ [] }) text behind next read also in
     let names : a.node.name ≡ b.node.name = ap (λ n. n.name) same.0 in
     let lists : a.node.subs ++ last ∷ [] ≡ b.node.subs ++ other ∷ [] = ap (λ n. n.subs) same.0 in
-    let parts = one-last a.node.subs b.node.subs last other lists in
+    let parts = same_from_push a.node.subs b.node.subs last other lists in
     let nodes : a.node ≡ b.node = same-parts a.node b.node names parts.0 in
     let sites = one-site d.globals a b site place declared known nodes in
     let subs : x ≡ y = is ∙ ap asked parts.1 ∙ sym it in
