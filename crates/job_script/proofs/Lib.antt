@@ -8,3 +8,4 @@ pub mod TableLaws
 pub mod LineLaws
 pub mod ScriptLaws
 pub mod TextBytes
+pub mod CommandLimits
