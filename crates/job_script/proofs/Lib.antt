@@ -9,3 +9,4 @@ pub mod LineLaws
 pub mod ScriptLaws
 pub mod TextBytes
 pub mod CommandLimits
+pub mod ScriptLimits
