@@ -1,13 +1,12 @@
 -- What a line asks for is declared, and a command is within its limits.
-use Rattle.std.proofs.Common.{◌≡◌, ◌≢◌, ℕ, ◌+◌, ◌<◌, ◌≤◌, Bool, true, false, List, [], ◌∷◌, ◌++◌, length, refl, sym, ap, subst, ◌∙◌, inl, inr, arith, length-append}
-use Rattle.std.specs.Prelude.{Option, None, Some, IfSome, All, if◌then◌else◌, unsigned_abs}
+use Rattle.std.proofs.Common.{◌≡◌, ℕ, ◌<◌, ◌≤◌, Bool, true, false, List, [], ◌∷◌, ◌++◌, length, sym, ap, subst, arith, length-append}
+use Rattle.std.specs.Prelude.{Option, None, Some, IfSome, All, if◌then◌else◌}
 use Rattle.std.specs.List.{AllByRecursion}
 use Rattle.std.proofs.lemmas.List.Quantifiers.{position-Some}
-use Rattle.subscript_keys.specs.declared.node.Node.{Node}
 use Rattle.subscript_keys.specs.declared.sub.Sub.{Sub}
 use Rattle.subscript_keys.specs.declared.sub.Sub.TheVariants.{Num, Text}
-use Rattle.subscript_keys.specs.Key.{AreBytes, HasForm, IsSub, IsText, IsWithinLimit, key_of, sub_bytes, subs_bytes}
-use Rattle.global_text.specs.Nodes.{HasBytes, ReadsParts, key_length}
+use Rattle.subscript_keys.specs.Key.{AreBytes, HasForm, IsWithinLimit, key_of, sub_bytes, subs_bytes}
+use Rattle.global_text.specs.Nodes.{HasBytes, key_length}
 use Rattle.global_text.proofs.KeyLengths.{subs-length}
 use Rattle.global_text.proofs.NodeParts.{parts-forms, parts-limit}
 use Rattle.global_text.proofs.ByteReads.{last-bytes}
@@ -22,8 +21,8 @@ use Rattle.job_script.specs.declared.name_kind.NameKind.TheVariants.{Server, App
 use Rattle.job_script.specs.declared.todo.Todo.{Todo}
 use Rattle.job_script.specs.declared.todo.Todo.TheVariants.{Job as JobTodo, Hold, Flow, Up, Down, Save, Pump, Tick, Break, Mend, Crash, Restart, Die, Await}
 use Rattle.job_script.specs.Names.{is_same, names_of, index_of, server_of}
-use Rattle.job_script.specs.Parts.{asked, OfKind, ANode, ANext, AWait, TakesPart, TakesParts, TakesWait}
-use Rattle.job_script.specs.Rows.{Reads, command_row, todo_row}
+use Rattle.job_script.specs.Parts.{asked, OfKind, ANode, ANext, TakesPart, TakesParts, TakesWait}
+use Rattle.job_script.specs.Rows.{Reads, command_row}
 use Rattle.job_script.specs.Scripts.{ReadsTodo, TodoMay, layout_of}
 use Rattle.job_script.specs.Words.{first_word}
 use Rattle.job_script.proofs.TextBytes.{ahead-bytes}

@@ -1,6 +1,6 @@
 -- A line is one thing at most, and is refused for one fault at most.
-use Rattle.std.proofs.Common.{◌≡◌, ◌≢◌, ◌⊎◌, ℕ, ◌+◌, ◌≤◌, Bool, true, false, List, [], ◌∷◌, ◌++◌, length, refl, sym, ap, subst, ◌∙◌, inl, inr, arith}
-use Rattle.std.specs.Prelude.{Option, None, Some}
+use Rattle.std.proofs.Common.{◌≡◌, ◌⊎◌, ℕ, Bool, true, false, List, [], ◌∷◌, ◌++◌, refl, sym, ap, subst, ◌∙◌, inl, inr}
+use Rattle.std.specs.Prelude.{None, Some}
 use Rattle.std.proofs.lemmas.Bool.{false≢true}
 use Rattle.app_job.specs.declared.command.Command.{Command}
 use Rattle.job_script.specs.declared.declared.Declared.{Declared}
@@ -13,15 +13,15 @@ use Rattle.job_script.specs.declared.line_kind.LineKind.TheVariants.{Unknown, La
 use Rattle.job_script.specs.declared.name_kind.NameKind.TheVariants.{Job}
 use Rattle.job_script.specs.declared.todo.Todo.{Todo}
 use Rattle.job_script.specs.declared.todo.Todo.TheVariants.{Job as JobTodo, Hold, Flow, Up, Down, Save, Pump, Tick, Break, Mend, Crash, Restart, Die, Await}
-use Rattle.job_script.specs.Names.{IsNodeName, index_of}
+use Rattle.job_script.specs.Names.{index_of}
 use Rattle.job_script.specs.Refusals.{Refuses}
 use Rattle.job_script.specs.Rows.{Row, Reads, IsUnknown, declaration_row, todo_row, command_row}
 use Rattle.job_script.specs.Scripts.{IsJobAhead, ReadsTodo, ReadsText, RefusesCommand, RefusesJob, IsLate, IsNoLine, RefusesText}
-use Rattle.job_script.specs.Words.{IsAhead, IsSilent, first_word}
+use Rattle.job_script.specs.Words.{IsSilent, first_word}
 use Rattle.job_script.proofs.WordLaws.{one-ahead, has_colon, colon-behind, one-name-before, has_hash, silent-hash, name-no-hash}
 use Rattle.job_script.proofs.FaultLaws.{IsWant, AreOne}
 use Rattle.job_script.proofs.RowLaws.{row-taken, one-row-refusal}
-use Rattle.job_script.proofs.TableLaws.{declaration-table, one-declaration, todo-table, one-todo, command-table, one-command, is_declaring, declaring-word, IsPlainWord, declaration-plain, todo-plain, todo-no-declaring}
+use Rattle.job_script.proofs.TableLaws.{declaration-table, one-declaration, todo-table, one-todo, command-table, one-command, is_declaring, declaring-word, declaration-plain, todo-plain, todo-no-declaring}
 
 -- the line begins with the word of a row
 abbrev BeginsRow : {X : Type 0} → (X → Row) → List ℕ → Type 0

@@ -1,27 +1,26 @@
 -- A text that doesn't begin with a node or a value is refused for one fault, and one that does for none.
-use Rattle.std.proofs.Common.{◌≡◌, ◌≢◌, ◌⊎◌, ℕ, ◌≤◌, List, [], ◌∷◌, ◌++◌, length, refl, sym, ap, subst, ◌∙◌, inl, inr, arith, length-append}
+use Rattle.std.proofs.Common.{◌≡◌, ℕ, ◌≤◌, List, [], ◌∷◌, ◌++◌, length, refl, sym, ap, subst, ◌∙◌, inl, inr, arith, length-append}
 use Rattle.std.specs.Prelude.{Option, None, Some}
 use Rattle.std.specs.List.{AllByRecursion}
 use Rattle.std.proofs.lemmas.List.{same_from_push}
 use Rattle.subscript_keys.specs.declared.sub.Sub.{Sub}
-use Rattle.subscript_keys.specs.declared.sub.Sub.TheVariants.{Num, Text}
 use Rattle.subscript_keys.specs.Key.{HasEmpty, IsSub, IsText}
 use Rattle.global_text.specs.declared.text_error.TextError.{TextError}
-use Rattle.global_text.specs.declared.text_error.TextError.TheVariants.{NoCaret, BadName, BadSubscript, Unclosed, KeyTooLong, BadValue, ValueTooLong}
+use Rattle.global_text.specs.declared.text_error.TextError.TheVariants.{BadSubscript, Unclosed, KeyTooLong, BadValue, ValueTooLong}
 use Rattle.global_text.specs.Nodes.{ReadsParts}
 use Rattle.global_text.specs.Strings.{ReadsString}
-use Rattle.global_text.specs.Faults.{HasNodeFault, HasValueFault, HasListFault, StopsBehind, AreOne as AreOneText, IsMemory}
+use Rattle.global_text.specs.Faults.{HasValueFault, StopsBehind, IsMemory}
 use Rattle.global_text.proofs.NodeLaws.{one-node, no-list-fault, string-no-end}
 use Rattle.global_text.proofs.OneFault.{one-list-fault, one-value-fault}
 use Rattle.global_text.proofs.StringLaws.{one-string, value-no-fault}
-use Rattle.global_text.proofs.StopLaws.{BeginsNamed, one-named, named-some, named-caret, named-good, parts-named, stop-named, one-long}
-use Rattle.app_job.specs.Sites.{Site, IsSite}
+use Rattle.global_text.proofs.StopLaws.{BeginsNamed, one-named, named-some, named-caret, named-good, parts-named, one-long}
+use Rattle.app_job.specs.Sites.{Site}
 use Rattle.job_script.specs.declared.declared.Declared.{Declared}
 use Rattle.job_script.specs.declared.line_fault.LineFault.{LineFault}
 use Rattle.job_script.specs.declared.line_fault.LineFault.TheVariants.{Bad, Unknown as UnknownName, Memory}
 use Rattle.job_script.specs.declared.line_kind.LineKind.TheVariants.{Unknown, Node, Key, NoSub, NoValue, Value, Long, Words}
 use Rattle.job_script.specs.Names.{server_of}
-use Rattle.job_script.specs.Parts.{ANode, ANext, AValue, TakesPart, EndsBefore}
+use Rattle.job_script.specs.Parts.{ANode, ANext, AValue, TakesPart}
 use Rattle.job_script.specs.Refusals.{HasGlobal, IsDeclared, HasBadNode, HasUnknownGlobal, HasLongKey, HasEmptyFront, RefusesNode, RefusesNext, RefusesValue}
 use Rattle.job_script.specs.Words.{IsWordEnd}
 use Rattle.job_script.proofs.FaultLaws.{IsWant, AreOne, Causes, Apart, one-cause, no-cause}

@@ -1,16 +1,16 @@
 -- A text that doesn't begin with a part of a kind is refused for one fault, and one that does for none.
-use Rattle.std.proofs.Common.{◌≡◌, ◌≢◌, ◌⊎◌, ℕ, ◌<◌, ◌≤◌, ◌^◌, false, true, List, [], ◌∷◌, ◌++◌, length, ℤ, refl, sym, ap, subst, ◌∙◌, inl, inr, arith}
+use Rattle.std.proofs.Common.{◌≡◌, ℕ, ◌<◌, ◌≤◌, ◌^◌, List, [], ◌∷◌, ℤ, refl, sym, ap, subst, ◌∙◌, inl, inr, arith}
 use Rattle.std.specs.Prelude.{Option, None, Some, unsigned_abs, codes}
 use Rattle.std.specs.Fmt.{decimal, signed_decimal}
 use Rattle.std.proofs.lemmas.Bool.{false≢true}
 use Rattle.job_script.specs.declared.declared.Declared.{Declared}
 use Rattle.job_script.specs.declared.line_fault.LineFault.{LineFault}
 use Rattle.job_script.specs.declared.line_fault.LineFault.TheVariants.{Bad, Unknown as UnknownName, Memory}
-use Rattle.job_script.specs.declared.line_kind.LineKind.TheVariants.{Unknown, Twice, TooMany, Name, Node, Key, NoSub, NoValue, Value, Long, Number, Words}
+use Rattle.job_script.specs.declared.line_kind.LineKind.TheVariants.{Unknown, Twice, TooMany, Name, Number, Words}
 use Rattle.job_script.specs.declared.name_kind.NameKind.{NameKind}
 use Rattle.job_script.specs.declared.setting.Setting.{Setting}
-use Rattle.job_script.specs.Names.{IsNodeName, has_name, index_of, HasRoom, server_of, GLOBALS, setting_word}
-use Rattle.job_script.specs.Parts.{Part, NewName, NewGlobal, OfKind, ASetting, ANumber, APick, AnAmount, AFlag, AWait, TakesPart, TakesWait}
+use Rattle.job_script.specs.Names.{IsNodeName, has_name, index_of, server_of, setting_word}
+use Rattle.job_script.specs.Parts.{NewName, NewGlobal, OfKind, APick, TakesPart, TakesWait}
 use Rattle.job_script.specs.Refusals.{IsGlobal, RefusesNewName, RefusesNewGlobal, RefusesOfKind, RefusesSetting, RefusesNumber, RefusesPick, RefusesAmount, RefusesWait}
 use Rattle.job_script.specs.Words.{IsAhead, first_word}
 use Rattle.job_script.proofs.WordLaws.{one-ahead, name-some}

@@ -1,5 +1,5 @@
 -- A text begins with one part of a kind at most.
-use Rattle.std.proofs.Common.{◌≡◌, ◌≢◌, ◌⊎◌, ℕ, ◌+◌, ◌<◌, ◌≤◌, ◌^◌, Bool, true, false, List, [], ◌∷◌, ◌++◌, map, ℤ, refl, sym, ap, subst, ◌∙◌, inl, inr, arith, rules}
+use Rattle.std.proofs.Common.{◌≡◌, ◌⊎◌, ℕ, ◌<◌, ◌≤◌, ◌^◌, Bool, true, false, List, [], ◌∷◌, ◌++◌, map, ℤ, refl, sym, ap, subst, ◌∙◌, inl, inr, arith, rules}
 use Rattle.std.specs.Prelude.{Option, None, Some, unsigned_abs, codes, if◌then◌else◌}
 use Rattle.std.specs.Fmt.{decimal, signed_decimal}
 use Rattle.std.specs.Int.Signed.{mag}
@@ -8,8 +8,6 @@ use Rattle.std.proofs.lemmas.List.{same_from_push}
 use Rattle.subscript_keys.specs.declared.node.Node.{Node}
 use Rattle.subscript_keys.specs.declared.sub.Sub.{Sub}
 use Rattle.subscript_keys.specs.Key.{key_of}
-use Rattle.global_text.specs.Nodes.{ReadsParts, ReadsNode}
-use Rattle.global_text.specs.Strings.{ReadsString}
 use Rattle.global_text.proofs.NodeLaws.{one-node}
 use Rattle.global_text.proofs.StringLaws.{one-string}
 use Rattle.app_job.specs.Sites.{Site, IsSite}
@@ -20,7 +18,7 @@ use Rattle.job_script.specs.declared.setting.Setting.{Setting}
 use Rattle.job_script.specs.declared.setting.Setting.TheVariants.{Retry, Trouble, Recover, Round}
 use Rattle.job_script.specs.Names.{is_same, index_of, server_of, setting_word}
 use Rattle.job_script.specs.Parts.{Part, NewName, NewGlobal, OfKind, ASetting, ANumber, APick, AnAmount, ANode, ANext, AValue, AFlag, AWait, EndsBefore, asked, TakesFlag, TakesWait, TakesPart, TakesParts}
-use Rattle.job_script.specs.Words.{IsAhead, first_word, spaces_off}
+use Rattle.job_script.specs.Words.{IsAhead, spaces_off}
 use Rattle.job_script.proofs.WordLaws.{one-ahead}
 
 -- a part's kind, without what the part says

@@ -1,10 +1,10 @@
 -- Lines of a table: behind one first word the parts are of the same kinds, so a text says one thing or has one fault.
-use Rattle.std.proofs.Common.{◌≡◌, ◌⊎◌, ℕ, List, [], ◌∷◌, map, refl, sym, ap, subst, ◌∙◌, inl, inr}
+use Rattle.std.proofs.Common.{◌≡◌, ℕ, List, [], ◌∷◌, map, sym, ap, subst, ◌∙◌, inl, inr}
 use Rattle.job_script.specs.declared.declared.Declared.{Declared}
 use Rattle.job_script.specs.declared.line_fault.LineFault.{LineFault}
 use Rattle.job_script.specs.Parts.{Part, NewName, NewGlobal, OfKind, ASetting, ANumber, APick, AnAmount, ANode, ANext, AValue, AFlag, AWait, TakesPart, TakesParts}
-use Rattle.job_script.specs.Refusals.{RefusesNewName, RefusesNewGlobal, RefusesOfKind, RefusesSetting, RefusesNumber, RefusesPick, RefusesAmount, RefusesNode, RefusesNext, RefusesValue, RefusesWait, RefusesPart, RefusesParts, RefusesBehind, Refuses}
-use Rattle.job_script.specs.Rows.{Row, ReadsBehind, Reads}
+use Rattle.job_script.specs.Refusals.{RefusesNewName, RefusesNewGlobal, RefusesOfKind, RefusesSetting, RefusesNumber, RefusesPick, RefusesAmount, RefusesNode, RefusesNext, RefusesValue, RefusesWait, RefusesPart, RefusesParts, Refuses}
+use Rattle.job_script.specs.Rows.{Row, Reads}
 use Rattle.job_script.specs.Words.{first_word}
 use Rattle.job_script.proofs.WordLaws.{one-ahead}
 use Rattle.job_script.proofs.FaultLaws.{IsWant, AreOne}

@@ -1,15 +1,15 @@
 -- A text is one script at most, and is refused for one error at most.
-use Rattle.std.proofs.Common.{◌≡◌, ◌⊎◌, ℕ, ◌+◌, ◌<◌, ◌≤◌, List, [], ◌∷◌, length, refl, sym, ap, subst, ◌∙◌, inl, inr, arith}
+use Rattle.std.proofs.Common.{◌≡◌, ◌⊎◌, ℕ, ◌+◌, ◌<◌, List, [], ◌∷◌, length, refl, sym, ap, subst, ◌∙◌, inl, inr, arith}
 use Rattle.job_script.specs.declared.declared.Declared.{Declared}
 use Rattle.job_script.specs.declared.limits.TheConstants.{LINE_LIMIT}
 use Rattle.job_script.specs.declared.line.Line.{Line}
 use Rattle.job_script.specs.declared.line_fault.LineFault.{LineFault}
-use Rattle.job_script.specs.declared.line_fault.LineFault.TheVariants.{Bad, Unknown as UnknownName, Memory}
+use Rattle.job_script.specs.declared.line_fault.LineFault.TheVariants.{Bad, Unknown as UnknownName}
 use Rattle.job_script.specs.declared.script.Script.{Script}
 use Rattle.job_script.specs.declared.script_error.ScriptError.{ScriptError}
 use Rattle.job_script.specs.declared.script_error.ScriptError.TheVariants.{BadLine, TooManyLines, UnknownName as UnknownInScript, Memory as NoMemory}
 use Rattle.job_script.specs.Lines.{script_lines}
-use Rattle.job_script.specs.Scripts.{ReadsLine, RefusesLine, behind, nothing_declared, AreLines, RefusesAt, script_of, IsScriptText, HasBadLine, RefusesScript, IsMemory}
+use Rattle.job_script.specs.Scripts.{behind, nothing_declared, AreLines, RefusesAt, script_of, IsScriptText, HasBadLine, RefusesScript, IsMemory}
 use Rattle.job_script.specs.Words.{trimmed}
 use Rattle.job_script.proofs.FaultLaws.{IsWant}
 use Rattle.job_script.proofs.LineLaws.{one-line, line-taken, one-refusal}

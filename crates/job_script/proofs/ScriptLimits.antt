@@ -1,5 +1,5 @@
 -- What a script's text asks for is within its limits and declared.
-use Rattle.std.proofs.Common.{◌≡◌, ℕ, ◌+◌, ◌<◌, ◌≤◌, Bool, true, false, List, [], ◌∷◌, ◌++◌, length, refl, sym, ap, subst, ◌∙◌, inl, inr, arith, length-append}
+use Rattle.std.proofs.Common.{◌≡◌, ℕ, ◌+◌, ◌<◌, true, List, [], ◌∷◌, ◌++◌, length, refl, sym, subst, ◌∙◌, arith}
 use Rattle.std.specs.Prelude.{All}
 use Rattle.std.specs.List.{AllByRecursion}
 use Rattle.std.proofs.lemmas.Bool.{false≢true}
@@ -13,13 +13,11 @@ use Rattle.job_script.specs.declared.declaration.Declaration.TheVariants.{Server
 use Rattle.job_script.specs.declared.global.Global.{Global}
 use Rattle.job_script.specs.declared.line.Line.{Line}
 use Rattle.job_script.specs.declared.line.Line.TheVariants.{Nothing, Declares, Asks}
-use Rattle.job_script.specs.declared.name_kind.NameKind.TheVariants.{Server, App, Job}
+use Rattle.job_script.specs.declared.name_kind.NameKind.TheVariants.{Server, App}
 use Rattle.job_script.specs.declared.script.Script.{Script}
-use Rattle.job_script.specs.declared.script_line.ScriptLine.{ScriptLine}
-use Rattle.job_script.specs.declared.todo.Todo.{Todo}
 use Rattle.job_script.specs.Lines.{script_lines}
-use Rattle.job_script.specs.Parts.{NewName, NewGlobal, OfKind, TakesPart, TakesParts}
-use Rattle.job_script.specs.Rows.{Reads, declaration_row}
+use Rattle.job_script.specs.Parts.{TakesParts}
+use Rattle.job_script.specs.Rows.{declaration_row}
 use Rattle.job_script.specs.Scripts.{ReadsLine, declared_by, behind, nothing_declared, AreLines, declared_behind, todos_from, layout_of, script_of, IsScriptText, TodoMay, LayoutMay, ScriptMay}
 use Rattle.job_script.specs.Words.{trimmed}
 use Rattle.job_script.proofs.CommandLimits.{IsSound, part-below, todo-may}

@@ -1,6 +1,6 @@
 -- The three tables: the kinds of a row's parts by its first word, and the line by its row.
-use Rattle.std.proofs.Common.{◌≡◌, ℕ, ◌<◌, ◌^◌, Bool, true, false, List, [], ◌∷◌, map, ℤ, refl, sym, ap, ◌∙◌, arith}
-use Rattle.std.specs.Prelude.{Option, None, Some, pos, codes, if◌then◌else◌}
+use Rattle.std.proofs.Common.{◌≡◌, ℕ, Bool, true, false, List, [], ◌∷◌, map, ℤ, refl, sym, ap, ◌∙◌, arith}
+use Rattle.std.specs.Prelude.{Option, None, pos, codes, if◌then◌else◌}
 use Rattle.plain_orders.specs.declared.mode.Mode.{Mode}
 use Rattle.plain_orders.specs.declared.mode.Mode.TheVariants.{Exclusive, Shared}
 use Rattle.subscript_keys.specs.declared.sub.Sub.{Sub}
@@ -12,12 +12,12 @@ use Rattle.job_script.specs.declared.declaration.Declaration.{Declaration}
 use Rattle.job_script.specs.declared.declaration.Declaration.TheVariants.{Server as ServerDeclared, App as AppDeclared, Job as JobDeclared, Global as GlobalDeclared, Time as TimeDeclared}
 use Rattle.job_script.specs.declared.name_kind.NameKind.TheVariants.{Server, App, Job}
 use Rattle.job_script.specs.declared.setting.Setting.{Setting}
-use Rattle.job_script.specs.declared.setting.Setting.TheVariants.{Retry, Trouble, Recover, Round}
+use Rattle.job_script.specs.declared.setting.Setting.TheVariants.{Retry}
 use Rattle.job_script.specs.declared.todo.Todo.{Todo}
 use Rattle.job_script.specs.declared.todo.Todo.TheVariants.{Job as JobTodo, Hold, Flow, Up, Down, Save, Pump, Tick, Break, Mend, Crash, Restart, Die, Await}
 use Rattle.job_script.specs.Names.{is_same}
 use Rattle.job_script.specs.Parts.{Part, NewName, NewGlobal, OfKind, ASetting, ANumber, APick, AnAmount, ANode, ANext, AValue, AFlag, AWait}
-use Rattle.job_script.specs.Rows.{Row, declaration_row, todo_row, command_row, is_shared, Reads}
+use Rattle.job_script.specs.Rows.{declaration_row, todo_row, command_row, Reads}
 use Rattle.job_script.specs.Words.{first_word}
 use Rattle.job_script.proofs.WordLaws.{has_colon, has_hash, no-space-ahead}
 use Rattle.job_script.proofs.PartLaws.{Slot, NewNameSlot, NewGlobalSlot, OfKindSlot, SettingSlot, NumberSlot, PickSlot, AmountSlot, NodeSlot, NextSlot, ValueSlot, FlagSlot, WaitSlot, slot_of, AreFit}
