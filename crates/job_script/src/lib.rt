@@ -15,6 +15,7 @@ mod script;
 mod script_error;
 mod script_line;
 mod setting;
+mod splits;
 mod todo;
 
 pub use declared_line::{DeclaredLine, DeclaredLines, DeclaringWord};
