@@ -1,11 +1,10 @@
 //! Reading as much of a node as a text begins with.
-ghost use Rattle.std.specs.Prelude.{◌≡◌, ◌==◌, ◌≤◌, ◌↔◌, ◌∷◌, ◌++◌, [], length, drop, Err, IfOk, IfErr, IfSome, IsNone};
-ghost use Rattle.std.specs.List.{AllByRecursion};
+ghost use Rattle.std.specs.Prelude.{◌≡◌, ◌==◌, ◌↔◌, ◌∷◌, ◌++◌, [], Err, IfOk, IfErr, IfSome, IsNone};
 ghost use Rattle.std.specs.Char.{is_ascii_alphanumeric};
-ghost use Rattle.subscript_keys.specs.Key.{key_of, HasForm, IsName, IsWithinLimit};
+ghost use Rattle.subscript_keys.specs.Key.{IsName};
 ghost use Rattle.global_text.specs.Numbers.{BeginsOtherwise};
-ghost use Rattle.global_text.specs.Nodes.{HasGlobal, ReadsParts};
 ghost use Rattle.global_text.specs.Faults.{HasBadName, HasGlobalFault, StopsBehind};
+ghost use Rattle.global_text.specs.NodeFronts.{IsReadTo, IsFront};
 
 use crate::list_reader::read_subs;
 use crate::name_form::{is_name, split_name};
@@ -59,12 +58,7 @@ fn read_end(
     requires stands { text.now ≡ 94 ∷ (name.now ++ rest.now) }
     requires whole { BeginsOtherwise is_ascii_alphanumeric rest.now }
     requires none { subs.old ≡ [] }
-    ensures read { IfOk result (λ taken.
-        ReadsParts name.now subs.new text.now (drop taken text.now)) }
-    ensures length { IfOk result (λ taken. taken ≤ length text.now) }
-    ensures forms { IfOk result (λ taken. AllByRecursion HasForm subs.new) }
-    ensures limit { IfOk result (λ taken.
-        IsWithinLimit (key_of (record { name = name.now; subs = subs.new }))) }
+    ensures read { IfOk result (IsReadTo text.now name.now subs.new) }
     ensures stop { IfErr result (StopsBehind text.now name.now subs.new) }
 {
     let after = read_subs(alloc, name, rest, subs)?;
@@ -75,16 +69,7 @@ fn read_end(
 /// the first from the left counts; a bare number's is where it begins, and a key passes its limit behind a
 /// subscript, or in a string that no key has room for.
 pub fn read_front(alloc: Global, text: &[u8]) -> Result<NodeFront, TextError>
-    ensures global { IfOk result (λ front. HasGlobal front.name text.now) }
-    ensures read { IfOk result (λ front. IfOk front.end (λ taken.
-        ReadsParts front.name front.subs text.now (drop taken text.now))) }
-    ensures length { IfOk result (λ front. IfOk front.end (λ taken. taken ≤ length text.now)) }
-    ensures forms { IfOk result (λ front. IfOk front.end (λ taken.
-        AllByRecursion HasForm front.subs)) }
-    ensures limit { IfOk result (λ front. IfOk front.end (λ taken.
-        IsWithinLimit (key_of (record { name = front.name; subs = front.subs })))) }
-    ensures stop { IfOk result (λ front. IfErr front.end
-        (StopsBehind text.now front.name front.subs)) }
+    ensures ok { IfOk result (IsFront text.now) }
     ensures err { IfErr result (HasGlobalFault text.now) }
     ensures no_caret { (result ≡ Err TextError.NoCaret) ↔ BeginsOtherwise (λ b. b == 94) text.now }
     ensures bad_name { (result ≡ Err TextError.BadName) ↔ HasBadName text.now }
