@@ -1,9 +1,9 @@
 -- Words of a line.
-use Rattle.std.proofs.Common.{◌≡◌, ◌≢◌, ℕ, zero, suc, ◌+◌, ◌<◌, Bool, true, false, ◌==◌, if◌then◌else◌, List, [], ◌∷◌, ◌++◌, length, take, drop, get_or, All, reverse, refl, sym, ap, ◌∙◌, subst, arith, add-one, add-zero}
+use Rattle.std.proofs.Common.{◌≡◌, ◌≢◌, ℕ, zero, suc, ◌<◌, if◌then◌else◌, List, [], ◌∷◌, ◌++◌, length, take, drop, get_or, All, reverse, refl, sym, ap, ◌∙◌, arith, add-one}
 use Rattle.std.proofs.lemmas.Bool.{eq-eqb, ne_eqb}
 use Rattle.std.proofs.lemmas.List.{reverse-append, reverse-reverse, drop-drop}
 use Rattle.std.proofs.lemmas.List.Elements.{All-head, All-tail}
-use Rattle.job_script.specs.Words.{SPACE, spaces_off, trimmed, first_word, behind_word}
+use Rattle.job_script.specs.Words.{spaces_off, first_word, behind_word}
 
 -- a list at a place
 at-place : (text : List ℕ) (at : ℕ) → at < length text → text ≡ take at text ++ get_or text at 0 ∷ drop (suc at) text
@@ -76,3 +76,7 @@ pub word_behind : (text word rest : List ℕ) → text ≡ word ++ 32 ∷ rest �
 word_behind text word rest e none = ap behind_word e ∙ behind_word_cut word rest none
 
 pub ruleset words = (word_first, word_behind, first_word_whole, behind_word_whole)
+
+-- a text that a word begins isn't empty
+pub word_some : (text word : List ℕ) → first_word text ≡ word → word ≢ [] → text ≢ []
+word_some text word e some none = some (sym e ∙ ap first_word none)

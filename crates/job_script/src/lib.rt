@@ -5,12 +5,16 @@
 mod declaration;
 mod declared;
 mod declared_line;
+mod flag_parts;
 mod global;
 mod limits;
 mod line;
+mod line_end;
 mod line_fault;
 mod line_kind;
+mod name_form;
 mod name_kind;
+mod number_parts;
 mod script;
 mod script_error;
 mod script_line;
