@@ -1,3 +1,4 @@
+pub mod FirstWordLemmas
 pub mod LineLemmas
 pub mod NameLemmas
 pub mod NumberLemmas

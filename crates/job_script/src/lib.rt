@@ -5,6 +5,7 @@
 mod declaration;
 mod declared;
 mod declared_line;
+mod declaring_word;
 mod flag_parts;
 mod global;
 mod kind_names;
@@ -23,6 +24,7 @@ mod script_line;
 mod setting;
 mod splits;
 mod todo;
+mod todo_word;
 
 pub use declared_line::{DeclaredLine, DeclaredLines, DeclaringWord};
 pub use limits::LINE_LIMIT;
