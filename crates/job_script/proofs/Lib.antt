@@ -1,5 +1,7 @@
+pub mod FirstWordLemmas
 pub mod LineLemmas
+pub mod NameLemmas
 pub mod NumberLemmas
 pub mod WordLemmas
-pub mod NodeLemmas
+pub mod WordEnds
 pub mod NodeRefusals

@@ -1,3 +1,4 @@
+pub mod FirstWords
 pub mod Kinds
 pub mod Lines
 pub mod Names

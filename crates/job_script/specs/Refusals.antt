@@ -18,6 +18,12 @@ use Rattle.job_script.specs.Parts.{Part, NewName, NewGlobal, OfKind, ASetting, A
 use Rattle.job_script.specs.Rows.{Row}
 use Rattle.job_script.specs.Words.{IsAhead, IsWordEnd, first_word}
 
+-- memory was wanting
+abbrev pub IsMemoryFault : LineFault → Type 0
+IsMemoryFault (Bad kind) = ⊥
+IsMemoryFault UnknownName = ⊥
+IsMemoryFault (Memory error) = Unit {0}
+
 -- Want of memory says nothing. A new name: its form, declared already, one too many
 abbrev pub RefusesNewName : Declared → NameKind → List ℕ → LineFault → Type 0
 RefusesNewName d kind text (Bad Words) = text ≡ []

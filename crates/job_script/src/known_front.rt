@@ -11,7 +11,6 @@ ghost use Rattle.job_script.specs.Refusals.{IsDeclared, RefusesNode, RefusesNext
 use crate::declared::Declared;
 use crate::line_fault::LineFault;
 use crate::line_kind::LineKind;
-use crate::server_finder::find_server;
 use crate::word_end::word_end;
 use global_text::{NodeFront, TextError, read_front};
 use std::alloc::Global;
@@ -53,7 +52,7 @@ pub fn read_known(
     ensures next { IfErr result (RefusesNext declared.now text.now) }
 {
     let front = read_global(alloc, text)?;
-    match find_server(declared.globals.as_slice(), front.name.as_slice()) {
+    match declared.server_of(front.name.as_slice()) {
         Some(server) => Ok(KnownFront { server, front }),
         None => Err(LineFault::Unknown),
     }

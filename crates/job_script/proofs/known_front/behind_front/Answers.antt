@@ -10,13 +10,13 @@ use Rattle.job_script.proofs.known_front.behind_front.Goals as goal
 
 pub returns-in-Err-clause-node : goal.returns-in-Err-clause-node
 returns-in-Err-clause-node c =
-    let P : List Sub → Type 0 = λ l. StopsBehind c.args.text.now c.args.front.now.name l c.in-Err.error.now in
-    λ d declared. c.subs_fault.ensures.node d c.args.front.now.name c.args.text.now (c.requires.global, declared) (subst P (sym c.as_slice.ensures) (front_stop c.args.text.now c.args.front.now c.in-Err.error.now c.requires c.in-Err.is))
+    let P : List Sub → Type 0 = λ l. StopsBehind c.args.text.now c.args.front.now.name l c.in-Err.error in
+    λ d declared. c.subs_fault.ensures.node d c.args.front.now.name c.args.text.now (c.requires.global, declared) (subst P (sym c.as_slice.ensures) (front_stop c.args.text.now c.args.front.now c.in-Err.error c.requires c.in-Err.is))
 
 pub returns-in-Err-clause-next : goal.returns-in-Err-clause-next
 returns-in-Err-clause-next c =
-    let P : List Sub → Type 0 = λ l. StopsBehind c.args.text.now c.args.front.now.name l c.in-Err.error.now in
-    λ d declared. c.subs_fault.ensures.next d c.args.front.now.name c.args.text.now (c.requires.global, declared) (subst P (sym c.as_slice.ensures) (front_stop c.args.text.now c.args.front.now c.in-Err.error.now c.requires c.in-Err.is))
+    let P : List Sub → Type 0 = λ l. StopsBehind c.args.text.now c.args.front.now.name l c.in-Err.error in
+    λ d declared. c.subs_fault.ensures.next d c.args.front.now.name c.args.text.now (c.requires.global, declared) (subst P (sym c.as_slice.ensures) (front_stop c.args.text.now c.args.front.now c.in-Err.error c.requires c.in-Err.is))
 
 pub returns-in-Some-clause-ok : goal.returns-in-Some-clause-ok
 returns-in-Some-clause-ok c =
