@@ -5,3 +5,4 @@ pub mod NumberLemmas
 pub mod WordLemmas
 pub mod WordEnds
 pub mod NodeRefusals
+pub mod CommandLemmas

@@ -2,6 +2,7 @@
 //! is none. Each form of a line is a row of one table: its first word, and the parts behind it.
 #![tactic(auto)]
 
+mod command_word;
 mod declaration;
 mod declared;
 mod declared_line;
@@ -26,6 +27,7 @@ mod script_line;
 mod setting;
 mod splits;
 mod todo;
+mod value_part;
 mod word_end;
 mod todo_word;
 
