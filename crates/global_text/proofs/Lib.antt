@@ -15,3 +15,4 @@ pub mod NumberAgreement
 pub mod OneFault
 pub mod StopLaws
 pub mod ByteReads
+pub mod NodeEnds

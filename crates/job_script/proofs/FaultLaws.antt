@@ -1,17 +1,11 @@
 -- A fault of one cause, where the causes exclude each other.
 use Rattle.std.proofs.Common.{◌≡◌, ◌⊎◌, sym, ◌∙◌, inl, inr}
 use Rattle.job_script.specs.declared.line_fault.LineFault.{LineFault}
-use Rattle.job_script.specs.declared.line_fault.LineFault.TheVariants.{Bad, Unknown, Memory}
-
--- memory was wanting
-abbrev pub IsWant : LineFault → Type 0
-IsWant (Memory error) = Unit {0}
-IsWant (Bad kind) = ⊥
-IsWant Unknown = ⊥
+use Rattle.job_script.specs.Refusals.{IsMemoryFault}
 
 -- two faults are one, but for want of memory
 abbrev pub AreOne : LineFault → LineFault → Type 0
-AreOne fault other = IsWant fault ⊎ (IsWant other ⊎ (fault ≡ other))
+AreOne fault other = IsMemoryFault fault ⊎ (IsMemoryFault other ⊎ (fault ≡ other))
 
 -- this is the fault, and what it says holds
 abbrev pub Cause : (LineFault → Type 0) → LineFault → LineFault → Type 0
@@ -19,7 +13,7 @@ Cause R a fault = R a × (fault ≡ a)
 
 -- one of five faults, or want of memory
 abbrev pub Causes : (R : LineFault → Type 0) (a b c d e fault : LineFault) → Type 0
-Causes R a b c d e fault = Cause R a fault ⊎ (Cause R b fault ⊎ (Cause R c fault ⊎ (Cause R d fault ⊎ (Cause R e fault ⊎ IsWant fault))))
+Causes R a b c d e fault = Cause R a fault ⊎ (Cause R b fault ⊎ (Cause R c fault ⊎ (Cause R d fault ⊎ (Cause R e fault ⊎ IsMemoryFault fault))))
 
 -- no two of five faults hold
 pub record Apart (R : LineFault → Type 0) (a b c d e : LineFault) : Type 0 where
@@ -72,7 +66,7 @@ one-cause R a b c d e fault other apart (inr (inr (inr (inr (inl p))))) (inr (in
 one-cause R a b c d e fault other apart (inr (inr (inr (inr (inr p))))) q = inl p
 
 -- where none of them holds, memory was wanting
-pub no-cause : (R : LineFault → Type 0) (a b c d e fault : LineFault) → (R a → ⊥) → (R b → ⊥) → (R c → ⊥) → (R d → ⊥) → (R e → ⊥) → Causes R a b c d e fault → IsWant fault
+pub no-cause : (R : LineFault → Type 0) (a b c d e fault : LineFault) → (R a → ⊥) → (R b → ⊥) → (R c → ⊥) → (R d → ⊥) → (R e → ⊥) → Causes R a b c d e fault → IsMemoryFault fault
 no-cause R a b c d e fault n m o k h (inl p) = absurd (n p.0)
 no-cause R a b c d e fault n m o k h (inr (inl p)) = absurd (m p.0)
 no-cause R a b c d e fault n m o k h (inr (inr (inl p))) = absurd (o p.0)

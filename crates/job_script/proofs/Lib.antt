@@ -10,3 +10,11 @@ pub mod ScriptLaws
 pub mod TextBytes
 pub mod CommandLimits
 pub mod ScriptLimits
+pub mod FirstWordLemmas
+pub mod LineLemmas
+pub mod NameLemmas
+pub mod NumberLemmas
+pub mod WordLemmas
+pub mod WordEnds
+pub mod NodeRefusals
+pub mod CommandLemmas

@@ -14,12 +14,12 @@ use Rattle.job_script.specs.declared.name_kind.NameKind.TheVariants.{Job}
 use Rattle.job_script.specs.declared.todo.Todo.{Todo}
 use Rattle.job_script.specs.declared.todo.Todo.TheVariants.{Job as JobTodo, Hold, Flow, Up, Down, Save, Pump, Tick, Break, Mend, Crash, Restart, Die, Await}
 use Rattle.job_script.specs.Names.{index_of}
-use Rattle.job_script.specs.Refusals.{Refuses}
+use Rattle.job_script.specs.Refusals.{IsMemoryFault, Refuses}
 use Rattle.job_script.specs.Rows.{Row, Reads, IsUnknown, declaration_row, todo_row, command_row}
 use Rattle.job_script.specs.Scripts.{IsJobAhead, ReadsTodo, ReadsText, RefusesCommand, RefusesJob, IsLate, IsNoLine, RefusesText}
 use Rattle.job_script.specs.Words.{IsSilent, first_word}
 use Rattle.job_script.proofs.WordLaws.{one-ahead, has_colon, colon-behind, one-name-before, has_hash, silent-hash, name-no-hash}
-use Rattle.job_script.proofs.FaultLaws.{IsWant, AreOne}
+use Rattle.job_script.proofs.FaultLaws.{AreOne}
 use Rattle.job_script.proofs.RowLaws.{row-taken, one-row-refusal}
 use Rattle.job_script.proofs.TableLaws.{declaration-table, one-declaration, todo-table, one-todo, command-table, one-command, is_declaring, declaring-word, declaration-plain, todo-plain, todo-no-declaring}
 
@@ -140,7 +140,7 @@ Reasons d text fault =
     ⊎ (Refuses todo_row d text fault
     ⊎ RefusesJob d text fault)))
 
-reasons : (d : Declared) (text : List ℕ) (fault : LineFault) → RefusesText d text fault → IsWant fault ⊎ Reasons d text fault
+reasons : (d : Declared) (text : List ℕ) (fault : LineFault) → RefusesText d text fault → IsMemoryFault fault ⊎ Reasons d text fault
 reasons d text (Memory error) h = inl tt
 reasons d text (Bad kind) h = inr h
 reasons d text UnknownName h = inr h
@@ -158,7 +158,7 @@ job-no-line : (d : Declared) (text : List ℕ) (fault : LineFault) → IsNoLine 
 job-no-line d text fault none (name, rest, ahead, h) = none.no_job name rest ahead
 
 -- a command is not refused where it is read, and else for one fault
-command-taken : (d : Declared) (text : List ℕ) (x : Command) (fault : LineFault) → Reads command_row d text x → RefusesCommand d text fault → IsWant fault
+command-taken : (d : Declared) (text : List ℕ) (x : Command) (fault : LineFault) → Reads command_row d text x → RefusesCommand d text fault → IsMemoryFault fault
 command-taken d text x fault p (inl h) = absurd (unknown-no-row command_row text h.0 (reads-begins command_row d text x p))
 command-taken d text x fault p (inr h) = row-taken command_row command-table d text x fault p h
 
@@ -169,7 +169,7 @@ one-command-refusal d text fault other (inr p) (inl q) = absurd (unknown-no-row 
 one-command-refusal d text fault other (inr p) (inr q) = one-row-refusal command_row command-table d text fault other p q
 
 -- so a job's line
-job-taken : (d : Declared) (text : List ℕ) (todo : Todo) (fault : LineFault) → ReadsJob d text todo → RefusesJob d text fault → IsWant fault
+job-taken : (d : Declared) (text : List ℕ) (todo : Todo) (fault : LineFault) → ReadsJob d text todo → RefusesJob d text fault → IsMemoryFault fault
 job-taken d text todo fault (i, a, name, rest, e, ahead, at, read) (other, behind, first, inl h) =
     let same = one-job-ahead name other text rest behind ahead first in
     let none : Some i ≡ None = sym at ∙ ap (λ n. index_of d Job n) same.0 ∙ h.0 in
@@ -188,7 +188,7 @@ one-job-refusal d text fault other (a, rest, ahead, inr p) (b, behind, first, in
     one-command-refusal d behind fault other (subst (λ (t : List ℕ). RefusesCommand d t fault) (one-job-ahead a b text rest behind ahead first).1 p.1) q.1
 
 -- a line that does nothing
-silent-taken : (d : Declared) (text : List ℕ) (fault : LineFault) → IsSilent text → Reasons d text fault → IsWant fault
+silent-taken : (d : Declared) (text : List ℕ) (fault : LineFault) → IsSilent text → Reasons d text fault → IsMemoryFault fault
 silent-taken d text fault p (inl h) = absurd (h.0.loud p)
 silent-taken d text fault p (inr (inl h)) = absurd (silent-no-declaration text p (late-begins d text h.0))
 silent-taken d text fault p (inr (inr (inl h))) = absurd (silent-no-declaration text p (refused-begins declaration_row d text fault h.1))
@@ -196,7 +196,7 @@ silent-taken d text fault p (inr (inr (inr (inl h)))) = absurd (silent-no-todo t
 silent-taken d text fault p (inr (inr (inr (inr (name, rest, ahead, h))))) = absurd (silent-no-job name text rest p ahead)
 
 -- a line that declares something
-declares-taken : (d : Declared) (text : List ℕ) (x : Declaration) (fault : LineFault) → d.is_closed ≡ false → Reads declaration_row d text x → Reasons d text fault → IsWant fault
+declares-taken : (d : Declared) (text : List ℕ) (x : Declaration) (fault : LineFault) → d.is_closed ≡ false → Reads declaration_row d text x → Reasons d text fault → IsMemoryFault fault
 declares-taken d text x fault fresh p (inl h) = absurd (h.0.no_declaration x p.behind.word_is)
 declares-taken d text x fault fresh p (inr (inl h)) = absurd (closed-late d.is_closed fresh h.0.0)
 declares-taken d text x fault fresh p (inr (inr (inl h))) = row-taken declaration_row declaration-table d text x fault p h.1
@@ -204,7 +204,7 @@ declares-taken d text x fault fresh p (inr (inr (inr (inl h)))) = absurd (declar
 declares-taken d text x fault fresh p (inr (inr (inr (inr (name, rest, ahead, h))))) = absurd (declaration-no-job name text rest (reads-begins declaration_row d text x p) ahead)
 
 -- a line of the other table
-todo-taken : (d : Declared) (text : List ℕ) (x : Todo) (fault : LineFault) → Reads todo_row d text x → Reasons d text fault → IsWant fault
+todo-taken : (d : Declared) (text : List ℕ) (x : Todo) (fault : LineFault) → Reads todo_row d text x → Reasons d text fault → IsMemoryFault fault
 todo-taken d text x fault p (inl h) = absurd (h.0.no_todo x p.behind.word_is)
 todo-taken d text x fault p (inr (inl h)) = absurd (declaration-no-todo text (late-begins d text h.0) (reads-begins todo_row d text x p))
 todo-taken d text x fault p (inr (inr (inl h))) = absurd (declaration-no-todo text (refused-begins declaration_row d text fault h.1) (reads-begins todo_row d text x p))
@@ -212,14 +212,14 @@ todo-taken d text x fault p (inr (inr (inr (inl h)))) = row-taken todo_row todo-
 todo-taken d text x fault p (inr (inr (inr (inr (name, rest, ahead, h))))) = absurd (todo-no-job name text rest (reads-begins todo_row d text x p) ahead)
 
 -- a job's line
-job-line-taken : (d : Declared) (text : List ℕ) (x : Todo) (fault : LineFault) → ReadsJob d text x → Reasons d text fault → IsWant fault
+job-line-taken : (d : Declared) (text : List ℕ) (x : Todo) (fault : LineFault) → ReadsJob d text x → Reasons d text fault → IsMemoryFault fault
 job-line-taken d text x fault p (inl h) = absurd (h.0.no_job p.2 p.3 p.5)
 job-line-taken d text x fault p (inr (inl h)) = absurd (declaration-no-job p.2 text p.3 (late-begins d text h.0) p.5)
 job-line-taken d text x fault p (inr (inr (inl h))) = absurd (declaration-no-job p.2 text p.3 (refused-begins declaration_row d text fault h.1) p.5)
 job-line-taken d text x fault p (inr (inr (inr (inl h)))) = absurd (todo-no-job p.2 text p.3 (refused-begins todo_row d text fault h) p.5)
 job-line-taken d text x fault p (inr (inr (inr (inr h)))) = job-taken d text x fault p h
 
-line-reasons : (d : Declared) (text : List ℕ) (line : Line) (fault : LineFault) → ReadsText d text line → Reasons d text fault → IsWant fault
+line-reasons : (d : Declared) (text : List ℕ) (line : Line) (fault : LineFault) → ReadsText d text line → Reasons d text fault → IsMemoryFault fault
 line-reasons d text Nothing fault p h = silent-taken d text fault p h
 line-reasons d text (Declares x) fault p h = declares-taken d text x fault p.0 p.1 h
 line-reasons d text (Asks x) fault p h = elim (todo-cases d text x p) [
@@ -228,7 +228,7 @@ line-reasons d text (Asks x) fault p h = elim (todo-cases d text x p) [
 ]
 
 -- a line that is read is not refused
-pub line-taken : (d : Declared) (text : List ℕ) (line : Line) (fault : LineFault) → ReadsText d text line → RefusesText d text fault → IsWant fault
+pub line-taken : (d : Declared) (text : List ℕ) (line : Line) (fault : LineFault) → ReadsText d text line → RefusesText d text fault → IsMemoryFault fault
 line-taken d text line fault p h = elim (reasons d text fault h) [
   | inl k ↦ k
   | inr k ↦ line-reasons d text line fault p k

@@ -7,7 +7,7 @@ use Rattle.subscript_keys.specs.declared.sub.Sub.{Sub}
 use Rattle.subscript_keys.specs.Key.{HasEmpty, IsSub, IsText}
 use Rattle.global_text.specs.declared.text_error.TextError.{TextError}
 use Rattle.global_text.specs.declared.text_error.TextError.TheVariants.{BadSubscript, Unclosed, KeyTooLong, BadValue, ValueTooLong}
-use Rattle.global_text.specs.Nodes.{ReadsParts}
+use Rattle.global_text.specs.Nodes.{HasGlobal, ReadsParts}
 use Rattle.global_text.specs.Strings.{ReadsString}
 use Rattle.global_text.specs.Faults.{HasValueFault, StopsBehind, IsMemory}
 use Rattle.global_text.proofs.NodeLaws.{one-node, no-list-fault, string-no-end}
@@ -21,9 +21,9 @@ use Rattle.job_script.specs.declared.line_fault.LineFault.TheVariants.{Bad, Unkn
 use Rattle.job_script.specs.declared.line_kind.LineKind.TheVariants.{Unknown, Node, Key, NoSub, NoValue, Value, Long, Words}
 use Rattle.job_script.specs.Names.{server_of}
 use Rattle.job_script.specs.Parts.{ANode, ANext, AValue, TakesPart}
-use Rattle.job_script.specs.Refusals.{HasGlobal, IsDeclared, HasBadNode, HasUnknownGlobal, HasLongKey, HasEmptyFront, RefusesNode, RefusesNext, RefusesValue}
+use Rattle.job_script.specs.Refusals.{IsMemoryFault, IsDeclared, HasBadNode, HasUnknownGlobal, HasLongKey, HasEmptyFront, RefusesNode, RefusesNext, RefusesValue}
 use Rattle.job_script.specs.Words.{IsWordEnd}
-use Rattle.job_script.proofs.FaultLaws.{IsWant, AreOne, Causes, Apart, one-cause, no-cause}
+use Rattle.job_script.proofs.FaultLaws.{AreOne, Causes, Apart, one-cause, no-cause}
 
 -- the parts of a node that a text begins with are one
 one-parts : (name other text rest behind : List ℕ) (subs ts : List Sub) → ReadsParts name subs text rest → ReadsParts other ts text behind → (name ≡ other) × (subs ≡ ts) × (rest ≡ behind)
@@ -134,7 +134,7 @@ no-empty [] all h = h
 no-empty (s ∷ subs) all (inl e) = let is : IsText [] = subst IsSub e all.0 in is.some refl
 no-empty (s ∷ subs) all (inr h) = no-empty subs all.1 h
 
-pub node-taken : (d : Declared) (site : Site) (text rest : List ℕ) (fault : LineFault) → TakesPart d (ANode site) text rest → RefusesNode d text fault → IsWant fault
+pub node-taken : (d : Declared) (site : Site) (text rest : List ℕ) (fault : LineFault) → TakesPart d (ANode site) text rest → RefusesNode d text fault → IsMemoryFault fault
 node-taken d site text rest fault (behind, read, is, known, ends) h = no-cause (RefusesNode d text) (Bad Words) (Bad Node) UnknownName (Bad Key) (Bad Unknown) fault
     (λ p. read-some site.node.name text behind site.node.subs read p)
     (λ p. read-no-bad d HasEmpty site.node.name text behind site.node.subs read (no-empty site.node.subs is.node.subs) ends.end p.1)
@@ -180,7 +180,7 @@ one-next-refusal d text fault other p q = one-cause (RefusesNext d text) (Bad Wo
 no-empty-front : (subs : List Sub) (last : Sub) → AllByRecursion IsSub subs → HasEmptyFront (subs ++ last ∷ []) → ⊥
 no-empty-front subs last all (front, other, e, h) = no-empty subs all (subst HasEmpty (sym (same_from_push subs front last other e).0) h)
 
-pub next-taken : (d : Declared) (parent : Site) (sub : Option Sub) (text rest : List ℕ) (fault : LineFault) → TakesPart d (ANext parent sub) text rest → RefusesNext d text fault → IsWant fault
+pub next-taken : (d : Declared) (parent : Site) (sub : Option Sub) (text rest : List ℕ) (fault : LineFault) → TakesPart d (ANext parent sub) text rest → RefusesNext d text fault → IsMemoryFault fault
 next-taken d parent sub text rest fault (last, behind, read, asks, is, known, ends) h = no-cause (RefusesNext d text) (Bad Words) (Bad Node) UnknownName (Bad Key) (Bad NoSub) fault
     (λ p. read-some parent.node.name text behind (parent.node.subs ++ last ∷ []) read p)
     (λ p. read-no-bad d HasEmptyFront parent.node.name text behind (parent.node.subs ++ last ∷ []) read (no-empty-front parent.node.subs last is.node.subs) ends.end p.1)
@@ -239,7 +239,7 @@ value-fits value text behind read short end (some, inr (inl goes)) = value-no-fa
 value-fits value text behind read short end (some, inr (inr (other, rest, also, small, goes))) =
     goes (subst IsWordEnd (one-string value other text behind rest read also).1 end)
 
-pub value-taken : (d : Declared) (value text rest : List ℕ) (fault : LineFault) → TakesPart d (AValue value) text rest → RefusesValue text fault → IsWant fault
+pub value-taken : (d : Declared) (value text rest : List ℕ) (fault : LineFault) → TakesPart d (AValue value) text rest → RefusesValue text fault → IsMemoryFault fault
 value-taken d value text rest fault (behind, read, short, ends) h = no-cause (RefusesValue text) (Bad NoValue) (Bad Value) (Bad Long) (Bad Unknown) (Bad Unknown) fault
     (λ p. string-some value behind (subst (λ (t : List ℕ). ReadsString value t behind) p read))
     (λ p. value-fits value text behind read short ends.end p)

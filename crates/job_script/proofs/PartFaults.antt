@@ -11,10 +11,10 @@ use Rattle.job_script.specs.declared.name_kind.NameKind.{NameKind}
 use Rattle.job_script.specs.declared.setting.Setting.{Setting}
 use Rattle.job_script.specs.Names.{IsNodeName, has_name, index_of, server_of, setting_word}
 use Rattle.job_script.specs.Parts.{NewName, NewGlobal, OfKind, APick, TakesPart, TakesWait}
-use Rattle.job_script.specs.Refusals.{IsGlobal, RefusesNewName, RefusesNewGlobal, RefusesOfKind, RefusesSetting, RefusesNumber, RefusesPick, RefusesAmount, RefusesWait}
+use Rattle.job_script.specs.Refusals.{IsMemoryFault, IsGlobal, RefusesNewName, RefusesNewGlobal, RefusesOfKind, RefusesSetting, RefusesNumber, RefusesPick, RefusesAmount, RefusesWait}
 use Rattle.job_script.specs.Words.{IsAhead, first_word}
 use Rattle.job_script.proofs.WordLaws.{one-ahead, name-some}
-use Rattle.job_script.proofs.FaultLaws.{IsWant, AreOne, Causes, Apart, one-cause, no-cause}
+use Rattle.job_script.proofs.FaultLaws.{AreOne, Causes, Apart, one-cause, no-cause}
 
 no-name-at-end : (text : List ℕ) → text ≡ [] → IsNodeName (first_word text) → ⊥
 no-name-at-end text e is = name-some (subst (λ (t : List ℕ). IsNodeName (first_word t)) e is)
@@ -45,7 +45,7 @@ new-name-apart d k text = record {
 pub one-new-name : (d : Declared) (k : NameKind) (text : List ℕ) (fault other : LineFault) → RefusesNewName d k text fault → RefusesNewName d k text other → AreOne fault other
 one-new-name d k text fault other p q = one-cause (RefusesNewName d k text) (Bad Words) (Bad Name) (Bad Twice) (Bad TooMany) UnknownName fault other (new-name-apart d k text) (new-name-causes d k text fault p) (new-name-causes d k text other q)
 
-pub new-name-taken : (d : Declared) (k : NameKind) (name text rest : List ℕ) (fault : LineFault) → TakesPart d (NewName k name) text rest → RefusesNewName d k text fault → IsWant fault
+pub new-name-taken : (d : Declared) (k : NameKind) (name text rest : List ℕ) (fault : LineFault) → TakesPart d (NewName k name) text rest → RefusesNewName d k text fault → IsMemoryFault fault
 new-name-taken d k name text rest fault t h = no-cause (RefusesNewName d k text) (Bad Words) (Bad Name) (Bad Twice) (Bad TooMany) UnknownName fault
     (λ p. t.0.some p)
     (λ p. p.1 (subst IsNodeName (sym t.0.first) t.1))
@@ -86,7 +86,7 @@ new-global-apart d text = record {
 pub one-new-global : (d : Declared) (text : List ℕ) (fault other : LineFault) → RefusesNewGlobal d text fault → RefusesNewGlobal d text other → AreOne fault other
 one-new-global d text fault other p q = one-cause (RefusesNewGlobal d text) (Bad Words) (Bad Name) (Bad Twice) (Bad TooMany) UnknownName fault other (new-global-apart d text) (new-global-causes d text fault p) (new-global-causes d text other q)
 
-pub new-global-taken : (d : Declared) (name text rest : List ℕ) (fault : LineFault) → TakesPart d (NewGlobal name) text rest → RefusesNewGlobal d text fault → IsWant fault
+pub new-global-taken : (d : Declared) (name text rest : List ℕ) (fault : LineFault) → TakesPart d (NewGlobal name) text rest → RefusesNewGlobal d text fault → IsMemoryFault fault
 new-global-taken d name text rest fault t h = no-cause (RefusesNewGlobal d text) (Bad Words) (Bad Name) (Bad Twice) (Bad TooMany) UnknownName fault
     (λ p. t.0.some p)
     (λ p. p.1 name (t.1, t.0.first))
@@ -119,7 +119,7 @@ of-kind-apart d k text = record {
 pub one-of-kind : (d : Declared) (k : NameKind) (text : List ℕ) (fault other : LineFault) → RefusesOfKind d k text fault → RefusesOfKind d k text other → AreOne fault other
 one-of-kind d k text fault other p q = one-cause (RefusesOfKind d k text) (Bad Words) (Bad Name) UnknownName (Bad Unknown) (Bad Unknown) fault other (of-kind-apart d k text) (of-kind-causes d k text fault p) (of-kind-causes d k text other q)
 
-pub of-kind-taken : (d : Declared) (k : NameKind) (index : ℕ) (text rest : List ℕ) (fault : LineFault) → TakesPart d (OfKind k index) text rest → RefusesOfKind d k text fault → IsWant fault
+pub of-kind-taken : (d : Declared) (k : NameKind) (index : ℕ) (text rest : List ℕ) (fault : LineFault) → TakesPart d (OfKind k index) text rest → RefusesOfKind d k text fault → IsMemoryFault fault
 of-kind-taken d k index text rest fault (name, ahead, named, at) h = no-cause (RefusesOfKind d k text) (Bad Words) (Bad Name) UnknownName (Bad Unknown) (Bad Unknown) fault
     (λ p. ahead.some p)
     (λ p. p.1 (subst IsNodeName (sym ahead.first) named))
@@ -136,7 +136,7 @@ one-setting-fault text fault other p q = inr (inr (words text fault p ∙ sym (w
     words text (Bad Words) h = refl
     words text fault h = absurd h
 
-pub setting-taken : (s : Setting) (text rest : List ℕ) (fault : LineFault) → IsAhead (setting_word s) text rest → RefusesSetting text fault → IsWant fault
+pub setting-taken : (s : Setting) (text rest : List ℕ) (fault : LineFault) → IsAhead (setting_word s) text rest → RefusesSetting text fault → IsMemoryFault fault
 setting-taken s text rest (Bad Words) t h = absurd (h s t.first)
 setting-taken s text rest fault t h = absurd h
 
@@ -149,7 +149,7 @@ one-number-fault least most text (Bad Words) other p q = absurd q
 one-number-fault least most text (Bad Number) other p q = absurd q
 one-number-fault least most text fault other p q = absurd p
 
-pub number-taken : (least most n : ℕ) (text rest : List ℕ) (fault : LineFault) → IsAhead (decimal n) text rest → least ≤ n → n ≤ most → RefusesNumber least most text fault → IsWant fault
+pub number-taken : (least most n : ℕ) (text rest : List ℕ) (fault : LineFault) → IsAhead (decimal n) text rest → least ≤ n → n ≤ most → RefusesNumber least most text fault → IsMemoryFault fault
 number-taken least most n text rest (Bad Words) t h k p = absurd (t.some p)
 number-taken least most n text rest (Bad Number) t h k p = absurd (p.1 n h k t.first)
 number-taken least most n text rest fault t h k p = absurd p
@@ -161,7 +161,7 @@ one-pick-fault text fault other p q = inr (inr (number text fault p ∙ sym (num
     number text (Bad Number) h = refl
     number text fault h = absurd h
 
-pub pick-taken : (d : Declared) (pick : ℕ) (text rest : List ℕ) (fault : LineFault) → TakesPart d (APick pick) text rest → RefusesPick text fault → IsWant fault
+pub pick-taken : (d : Declared) (pick : ℕ) (text rest : List ℕ) (fault : LineFault) → TakesPart d (APick pick) text rest → RefusesPick text fault → IsMemoryFault fault
 pick-taken d pick text rest (Bad Number) (inl t) h = absurd (h.0 t.0)
 pick-taken d pick text rest (Bad Number) (inr t) h = absurd (h.1 pick t.1 t.0.first)
 pick-taken d pick text rest fault t h = absurd h
@@ -175,7 +175,7 @@ one-amount-fault text (Bad Words) other p q = absurd q
 one-amount-fault text (Bad Number) other p q = absurd q
 one-amount-fault text fault other p q = absurd p
 
-pub amount-taken : (amount : ℤ) (text rest : List ℕ) (fault : LineFault) → IsAhead (signed_decimal amount) text rest → unsigned_abs amount < 10 ^ 18 → RefusesAmount text fault → IsWant fault
+pub amount-taken : (amount : ℤ) (text rest : List ℕ) (fault : LineFault) → IsAhead (signed_decimal amount) text rest → unsigned_abs amount < 10 ^ 18 → RefusesAmount text fault → IsMemoryFault fault
 amount-taken amount text rest (Bad Words) t h p = absurd (t.some p)
 amount-taken amount text rest (Bad Number) t h p = absurd (p.1 amount h t.first)
 amount-taken amount text rest fault t h p = absurd p
@@ -186,7 +186,7 @@ one-wait-fault text fault other (a, ahead, p) (b, first, q) =
     let behind = (one-ahead (codes "wait") (codes "wait") text a b ahead first).1 in
     one-number-fault 1 10000 b fault other (subst (λ (x : List ℕ). RefusesNumber 1 10000 x fault) behind p) q
 
-pub wait-taken : (wait : Option ℕ) (text rest : List ℕ) (fault : LineFault) → TakesWait wait text rest → RefusesWait text fault → IsWant fault
+pub wait-taken : (wait : Option ℕ) (text rest : List ℕ) (fault : LineFault) → TakesWait wait text rest → RefusesWait text fault → IsMemoryFault fault
 wait-taken None text rest fault t (behind, ahead, h) = absurd (t.0 ahead.first)
 wait-taken (Some n) text rest fault (behind, ahead, number, is) (next, first, h) =
     let same = (one-ahead (codes "wait") (codes "wait") text next behind first ahead).1 in

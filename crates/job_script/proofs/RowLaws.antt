@@ -3,11 +3,11 @@ use Rattle.std.proofs.Common.{◌≡◌, ℕ, List, [], ◌∷◌, map, sym, ap,
 use Rattle.job_script.specs.declared.declared.Declared.{Declared}
 use Rattle.job_script.specs.declared.line_fault.LineFault.{LineFault}
 use Rattle.job_script.specs.Parts.{Part, NewName, NewGlobal, OfKind, ASetting, ANumber, APick, AnAmount, ANode, ANext, AValue, AFlag, AWait, TakesPart, TakesParts}
-use Rattle.job_script.specs.Refusals.{RefusesNewName, RefusesNewGlobal, RefusesOfKind, RefusesSetting, RefusesNumber, RefusesPick, RefusesAmount, RefusesNode, RefusesNext, RefusesValue, RefusesWait, RefusesPart, RefusesParts, Refuses}
+use Rattle.job_script.specs.Refusals.{IsMemoryFault, RefusesNewName, RefusesNewGlobal, RefusesOfKind, RefusesSetting, RefusesNumber, RefusesPick, RefusesAmount, RefusesNode, RefusesNext, RefusesValue, RefusesWait, RefusesPart, RefusesParts, Refuses}
 use Rattle.job_script.specs.Rows.{Row, Reads}
 use Rattle.job_script.specs.Words.{first_word}
 use Rattle.job_script.proofs.WordLaws.{one-ahead}
-use Rattle.job_script.proofs.FaultLaws.{IsWant, AreOne}
+use Rattle.job_script.proofs.FaultLaws.{AreOne}
 use Rattle.job_script.proofs.PartLaws.{Slot, NewNameSlot, NewGlobalSlot, OfKindSlot, SettingSlot, NumberSlot, PickSlot, AmountSlot, NodeSlot, NextSlot, ValueSlot, FlagSlot, WaitSlot, slot_of, AreFit, one-part, one-list}
 use Rattle.job_script.proofs.PartFaults.{one-new-name, new-name-taken, one-new-global, new-global-taken, one-of-kind, of-kind-taken, one-setting-fault, setting-taken, one-number-fault, number-taken, one-pick-fault, pick-taken, one-amount-fault, amount-taken, one-wait-fault, wait-taken}
 use Rattle.job_script.proofs.NodeFaults.{one-node-refusal, node-taken, one-next-refusal, next-taken, one-value-refusal, value-taken}
@@ -74,7 +74,7 @@ one-part-refusal d (AFlag word is_there) text fault other h k = absurd h
 one-part-refusal d (AWait wait) text fault other h k = one-wait-fault text fault other h k
 
 -- a text that begins with a part has no fault
-part-taken : (d : Declared) (p : Part) (text rest : List ℕ) (fault : LineFault) → TakesPart d p text rest → RefusesPart d p text fault → IsWant fault
+part-taken : (d : Declared) (p : Part) (text rest : List ℕ) (fault : LineFault) → TakesPart d p text rest → RefusesPart d p text fault → IsMemoryFault fault
 part-taken d (NewName kind name) text rest fault t h = new-name-taken d kind name text rest fault t h
 part-taken d (NewGlobal name) text rest fault t h = new-global-taken d name text rest fault t h
 part-taken d (OfKind kind index) text rest fault t h = of-kind-taken d kind index text rest fault t h
@@ -88,7 +88,7 @@ part-taken d (AValue value) text rest fault t h = value-taken d value text rest 
 part-taken d (AFlag word is_there) text rest fault t h = absurd h
 part-taken d (AWait wait) text rest fault t h = wait-taken wait text rest fault t h
 
-parts-taken : (d : Declared) (ps qs : List Part) (text : List ℕ) (fault : LineFault) → map slot_of ps ≡ map slot_of qs → AreFit ps → TakesParts d ps text → RefusesParts d qs text fault → IsWant fault
+parts-taken : (d : Declared) (ps qs : List Part) (text : List ℕ) (fault : LineFault) → map slot_of ps ≡ map slot_of qs → AreFit ps → TakesParts d ps text → RefusesParts d qs text fault → IsMemoryFault fault
 parts-taken d [] [] text fault e fit t h = absurd (h.0 t)
 parts-taken d [] (q ∷ qs) text fault e fit t h = cc
 parts-taken d (p ∷ ps) [] text fault e fit t h = cc
@@ -139,7 +139,7 @@ one-row row_of table d text x y p q =
     )
 
 -- a line of the table is not refused
-pub row-taken : {X : Type 0} (row_of : X → Row) → IsTable row_of → (d : Declared) (text : List ℕ) (x : X) (fault : LineFault) → Reads row_of d text x → Refuses row_of d text fault → IsWant fault
+pub row-taken : {X : Type 0} (row_of : X → Row) → IsTable row_of → (d : Declared) (text : List ℕ) (x : X) (fault : LineFault) → Reads row_of d text x → Refuses row_of d text fault → IsMemoryFault fault
 row-taken row_of table d text x fault p q =
     let y = q.behind.line in
     let rest = (one-ahead (first_word text) (first_word text) text p.rest q.rest p.ahead q.ahead).1 in

@@ -9,9 +9,9 @@ use Rattle.job_script.specs.declared.script.Script.{Script}
 use Rattle.job_script.specs.declared.script_error.ScriptError.{ScriptError}
 use Rattle.job_script.specs.declared.script_error.ScriptError.TheVariants.{BadLine, TooManyLines, UnknownName as UnknownInScript, Memory as NoMemory}
 use Rattle.job_script.specs.Lines.{script_lines}
+use Rattle.job_script.specs.Refusals.{IsMemoryFault}
 use Rattle.job_script.specs.Scripts.{behind, nothing_declared, AreLines, RefusesAt, script_of, IsScriptText, HasBadLine, RefusesScript, IsMemory}
 use Rattle.job_script.specs.Words.{trimmed}
-use Rattle.job_script.proofs.FaultLaws.{IsWant}
 use Rattle.job_script.proofs.LineLaws.{one-line, line-taken, one-refusal}
 
 -- the lines of a text are one list
@@ -27,7 +27,7 @@ one-lines d (raw ∷ raws) (x ∷ xs) (y ∷ ys) p q =
     ap (λ l. l ∷ xs) same ∙ ap (λ ls. y ∷ ls) rest
 
 -- none of them is refused
-lines-taken : (d : Declared) (first : ℕ) (raws : List (List ℕ)) (lines : List Line) (at : ℕ) (fault : LineFault) → AreLines d raws lines → RefusesAt d first raws at fault → IsWant fault
+lines-taken : (d : Declared) (first : ℕ) (raws : List (List ℕ)) (lines : List Line) (at : ℕ) (fault : LineFault) → AreLines d raws lines → RefusesAt d first raws at fault → IsMemoryFault fault
 lines-taken d first [] lines at fault p h = absurd h
 lines-taken d first (raw ∷ raws) [] at fault p h = absurd p
 lines-taken d first (raw ∷ raws) (x ∷ xs) at fault p (inl h) = line-taken d (trimmed raw) x fault p.0 h.1
@@ -37,7 +37,7 @@ lines-taken d first (raw ∷ raws) (x ∷ xs) at fault p (inr (y, read, h)) =
 
 -- one of them is refused, for one fault
 abbrev AreOneAt : ℕ → ℕ → LineFault → LineFault → Type 0
-AreOneAt at place fault other = IsWant fault ⊎ (IsWant other ⊎ ((at ≡ place) × (fault ≡ other)))
+AreOneAt at place fault other = IsMemoryFault fault ⊎ (IsMemoryFault other ⊎ ((at ≡ place) × (fault ≡ other)))
 
 one-bad-line : (d : Declared) (first : ℕ) (raws : List (List ℕ)) (at place : ℕ) (fault other : LineFault) → RefusesAt d first raws at fault → RefusesAt d first raws place other → AreOneAt at place fault other
 one-bad-line d first [] at place fault other p q = absurd p
