@@ -121,8 +121,8 @@ nothing-sound = record { servers = omega arith; apps = omega arith; jobs = omega
 layout-may : (d : Declared) → IsSound d → LayoutMay (layout_of d)
 layout-may d sound = record { servers = sound.servers; apps = sound.apps; jobs = omega (arith, sound.jobs, sound.job_apps); placed = sound.placed }
 
-pub script-may : (script : Script) (text : List ℕ) → AreBytes text → IsScriptText script text → ScriptMay script
-script-may script text bytes is =
+pub script_may : (script : Script) (text : List ℕ) → AreBytes text → IsScriptText script text → ScriptMay script
+script_may script text bytes is =
     let sound = lines-sound nothing_declared nothing-sound (script_lines text) is.lines is.read in
     let may : ScriptMay (script_of is.lines) = record {
       layout = layout-may (declared_behind nothing_declared is.lines) sound;
