@@ -16,7 +16,7 @@ use Rattle.job_script.specs.declared.line.Line.TheVariants.{Nothing, Declares, A
 use Rattle.job_script.specs.declared.line_fault.LineFault.{LineFault}
 use Rattle.job_script.specs.declared.line_fault.LineFault.TheVariants.{Bad, Unknown as UnknownName, Memory}
 use Rattle.job_script.specs.declared.line_kind.LineKind.TheVariants.{Unknown, Late}
-use Rattle.job_script.specs.declared.name_kind.NameKind.TheVariants.{Job}
+use Rattle.job_script.specs.declared.name_kind.NameKind.TheVariants.{Server, App, Job}
 use Rattle.job_script.specs.declared.script.Script.{Script}
 use Rattle.job_script.specs.declared.script_error.ScriptError.{ScriptError}
 use Rattle.job_script.specs.declared.script_error.ScriptError.TheVariants.{BadLine, TooManyLines, UnknownName as UnknownInScript, Memory as NoMemory}
@@ -26,7 +26,7 @@ use Rattle.job_script.specs.declared.setting.Setting.TheVariants.{Retry, Trouble
 use Rattle.job_script.specs.declared.todo.Todo.{Todo}
 use Rattle.job_script.specs.declared.todo.Todo.TheVariants.{Job as JobTodo, Hold, Flow, Up, Down, Save, Pump, Tick, Break, Mend, Crash, Restart, Die, Await}
 use Rattle.job_script.specs.Lines.{script_lines}
-use Rattle.job_script.specs.Names.{IsNodeName, index_of}
+use Rattle.job_script.specs.Names.{IsNodeName, index_of, HasRoom}
 use Rattle.job_script.specs.Refusals.{Refuses}
 use Rattle.job_script.specs.Rows.{Reads, IsUnknown, declaration_row, todo_row, command_row}
 use Rattle.job_script.specs.Words.{IsAhead, IsSilent, first_word, trimmed}
@@ -101,6 +101,14 @@ declared_by d (AppDeclared name) = record d { apps = d.apps ++ name ∷ [] }
 declared_by d (JobDeclared name app) = record d { jobs = d.jobs ++ name ∷ []; job_apps = d.job_apps ++ app ∷ [] }
 declared_by d (GlobalDeclared name server) = record d { globals = d.globals ++ record { name = name; server = server } ∷ [] }
 declared_by d (TimeDeclared setting ticks) = record d { times = with_time d.times setting ticks }
+
+-- a declaration of a name stays within its kind's limit
+abbrev pub HasRoomFor : Declared → Declaration → Type 0
+HasRoomFor d (ServerDeclared name) = HasRoom d Server
+HasRoomFor d (AppDeclared name) = HasRoom d App
+HasRoomFor d (JobDeclared name app) = HasRoom d Job
+HasRoomFor d (GlobalDeclared name server) = Unit {0}
+HasRoomFor d (TimeDeclared setting ticks) = Unit {0}
 
 -- what is declared behind a line; a line that asks for something closes the declarations
 abbrev pub behind : Declared → Line → Declared
