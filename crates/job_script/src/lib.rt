@@ -2,6 +2,8 @@
 //! is none. Each form of a line is a row of one table: its first word, and the parts behind it.
 #![tactic(auto)]
 
+mod command_reader;
+mod command_rows;
 mod command_word;
 mod declaration;
 mod declared;
