@@ -162,6 +162,11 @@ RefusesPart d (AValue value) text fault = RefusesValue text fault
 RefusesPart d (AFlag word is_there) text fault = ⊥
 RefusesPart d (AWait wait) text fault = RefusesWait text fault
 
+-- something follows where nothing may
+abbrev pub RefusesEnd : List ℕ → LineFault → Type 0
+RefusesEnd text (Bad Words) = text ≢ []
+RefusesEnd text fault = ⊥
+
 -- the parts in front are there, and the next is refused, or something follows the last
 abbrev pub RefusesParts : Declared → List Part → List ℕ → LineFault → Type 0
 RefusesParts d [] text fault = (text ≢ []) × (fault ≡ Bad Words)

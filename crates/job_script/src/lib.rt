@@ -3,6 +3,7 @@
 #![tactic(auto)]
 
 mod declaration;
+mod declaration_rows;
 mod declared;
 mod declared_line;
 mod declaring_word;
