@@ -4,4 +4,5 @@ pub mod LineLemmas
 pub mod NameLemmas
 pub mod NumberLemmas
 pub mod PartLemmas
+pub mod TodoLemmas
 pub mod WordLemmas

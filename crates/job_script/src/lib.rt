@@ -25,6 +25,7 @@ mod script_line;
 mod setting;
 mod splits;
 mod todo;
+mod todo_rows;
 mod todo_word;
 
 pub use declared_line::{DeclaredLine, DeclaredLines, DeclaringWord};
