@@ -6,11 +6,6 @@ use Rattle.app_job.specs.declared.command.Command.{Command}
 use Rattle.app_job.specs.declared.command.Command.TheVariants.{Set, Kill, Get, Shape, Next, Incr, Lock, Unlock, Start, Commit, Rollback, Sync}
 use Rattle.job_script.specs.declared.command_word.CommandWord.{CommandWord}
 use Rattle.job_script.specs.declared.command_word.CommandWord.TheVariants.{Set as SetWord, Kill as KillWord, Get as GetWord, Shape as ShapeWord, Next as NextWord, Incr as IncrWord, Lock as LockWord, Unlock as UnlockWord, Start as StartWord, Commit as CommitWord, Rollback as RollbackWord, Sync as SyncWord}
-use Rattle.job_script.specs.declared.declared.Declared.{Declared}
-use Rattle.job_script.specs.declared.line_fault.LineFault.{LineFault}
-use Rattle.job_script.specs.declared.line_fault.LineFault.TheVariants.{Bad}
-use Rattle.job_script.specs.declared.line_kind.LineKind.TheVariants.{Words}
-use Rattle.job_script.specs.Refusals.{RefusesParts}
 use Rattle.job_script.specs.CommandWords.{command_text}
 use Rattle.job_script.specs.Rows.{command_row, IsUnknown}
 
@@ -59,7 +54,3 @@ unknown_command word none (Sync server) e = none SyncWord (sym e)
 -- a place that is no node's
 abbrev pub no_site : Site
 no_site = record { server = 0; node = record { name = []; subs = [] }; key = [] }
-
--- what follows the last part is a word too many
-pub at-end : (d : Declared) (text : List ℕ) (fault : LineFault) → (text ≢ []) × (fault ≡ Bad Words) → RefusesParts d [] text fault
-at-end d text fault over = over

@@ -1,7 +1,10 @@
+pub mod DeclarationLemmas
 pub mod FirstWordLemmas
 pub mod LineLemmas
 pub mod NameLemmas
 pub mod NumberLemmas
+pub mod PartLemmas
+pub mod TodoLemmas
 pub mod WordLemmas
 pub mod WordEnds
 pub mod NodeRefusals

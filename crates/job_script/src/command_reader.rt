@@ -6,11 +6,12 @@ ghost use Rattle.job_script.specs.Rows.{Reads, ReadsBehind, command_row};
 ghost use Rattle.job_script.specs.Scripts.{RefusesCommand};
 
 use crate::command_rows::{
-    read_commit, read_get, read_incr, read_kill, read_lock, read_next, read_rollback, read_set,
-    read_shape, read_start, read_sync, read_unlock,
+    read_commit, read_get, read_incr, read_kill, read_lock, read_next, read_set, read_shape,
+    read_sync, read_unlock,
 };
 use crate::command_word::CommandWord;
 use crate::declared::Declared;
+use crate::line_end::line_end;
 use crate::line_fault::LineFault;
 use crate::line_kind::LineKind;
 use crate::splits::split_word;
@@ -37,9 +38,15 @@ fn read_behind(
         CommandWord::Incr => read_incr(alloc, declared, text),
         CommandWord::Lock => read_lock(alloc, declared, text),
         CommandWord::Unlock => read_unlock(alloc, declared, text),
-        CommandWord::Start => read_start(declared, text),
-        CommandWord::Commit => read_commit(declared, text),
-        CommandWord::Rollback => read_rollback(declared, text),
+        CommandWord::Start => {
+            line_end(text)?;
+            Ok(Command::Start)
+        }
+        CommandWord::Commit => read_commit(text),
+        CommandWord::Rollback => {
+            line_end(text)?;
+            Ok(Command::Rollback)
+        }
         CommandWord::Sync => read_sync(declared, text),
     }
 }

@@ -1,6 +1,7 @@
 //! A job's commands behind their first words.
 ghost use Rattle.std.specs.Prelude.{◌≡◌, [], ◌∷◌, IfOk, IfErr, codes};
 ghost use Rattle.app_job.specs.Sites.{Site};
+ghost use Rattle.job_script.specs.declared.declared.Declared.{Declared};
 ghost use Rattle.job_script.specs.Parts.{ANode, TakesFlag, TakesParts};
 ghost use Rattle.job_script.specs.Refusals.{RefusesBehind, RefusesParts};
 ghost use Rattle.job_script.specs.Rows.{ReadsBehind, command_row, is_shared};
@@ -124,32 +125,16 @@ pub fn read_unlock(alloc: Global, declared: &Declared, text: &[u8]) -> Result<Co
     Ok(Command::Unlock { at, mode, now })
 }
 
-/// Nothing follows.
-pub fn read_start(declared: &Declared, text: &[u8]) -> Result<Command, LineFault>
-    ensures ok { IfOk result (ReadsBehind command_row declared.now (codes "tstart") text.now) }
-    ensures err { IfErr result (RefusesBehind command_row declared.now (codes "tstart") text.now) }
-{
-    line_end(text)?;
-    Ok(Command::Start)
-}
-
 /// Whether the job waits until the transaction is on disk.
-pub fn read_commit(declared: &Declared, text: &[u8]) -> Result<Command, LineFault>
-    ensures ok { IfOk result (ReadsBehind command_row declared.now (codes "tcommit") text.now) }
-    ensures err { IfErr result (RefusesBehind command_row declared.now (codes "tcommit") text.now) }
+pub fn read_commit(text: &[u8]) -> Result<Command, LineFault>
+    ensures ok { IfOk result (λ command. (d : Declared) →
+        ReadsBehind command_row d (codes "tcommit") text.now command) }
+    ensures err { IfErr result (λ fault. (d : Declared) →
+        RefusesBehind command_row d (codes "tcommit") text.now fault) }
 {
     let (sync, rest) = take_flag(text, b"sync");
     line_end(rest)?;
     Ok(Command::Commit { sync })
-}
-
-/// Nothing follows.
-pub fn read_rollback(declared: &Declared, text: &[u8]) -> Result<Command, LineFault>
-    ensures ok { IfOk result (ReadsBehind command_row declared.now (codes "trollback") text.now) }
-    ensures err { IfErr result (RefusesBehind command_row declared.now (codes "trollback") text.now) }
-{
-    line_end(text)?;
-    Ok(Command::Rollback)
 }
 
 /// The data server whose saving the job waits for.
