@@ -2,16 +2,19 @@
 //! is none. Each form of a line is a row of one table: its first word, and the parts behind it.
 #![tactic(auto)]
 
+mod command_reader;
+mod command_rows;
 mod command_word;
 mod declaration;
+mod declaration_rows;
 mod declared;
 mod declared_line;
 mod declaring_word;
 mod flag_parts;
 mod global;
-mod laws;
-mod known_front;
 mod kind_names;
+mod known_front;
+mod laws;
 mod limits;
 mod line;
 mod line_end;
@@ -19,8 +22,8 @@ mod line_fault;
 mod line_kind;
 mod name_form;
 mod name_kind;
-mod node_parts;
 mod name_parts;
+mod node_parts;
 mod number_parts;
 mod script;
 mod script_error;
@@ -28,9 +31,10 @@ mod script_line;
 mod setting;
 mod splits;
 mod todo;
+mod todo_rows;
+mod todo_word;
 mod value_part;
 mod word_end;
-mod todo_word;
 
 pub use declared_line::{DeclaredLine, DeclaredLines, DeclaringWord};
 pub use laws::{scripts_are_read_in_one_way, scripts_may_run};
