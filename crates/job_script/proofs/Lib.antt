@@ -4,5 +4,6 @@ pub mod LineLemmas
 pub mod NameLemmas
 pub mod NumberLemmas
 pub mod PartLemmas
+pub mod TextLemmas
 pub mod TodoLemmas
 pub mod WordLemmas

@@ -56,6 +56,15 @@ ReadsLine d raw line = ReadsText d (trimmed raw) line
 abbrev pub RefusesCommand : Declared → List ℕ → LineFault → Type 0
 RefusesCommand d text fault = (IsUnknown command_row (first_word text) × (fault ≡ Bad Unknown)) ⊎ Refuses command_row d text fault
 
+-- a job's line asks for this, behind its name
+abbrev pub ReadsNamed : Declared → List ℕ → List ℕ → Todo → Type 0
+ReadsNamed d name text (JobTodo job command) = (index_of d Job name ≡ Some job) × Reads command_row d text command
+ReadsNamed d name text todo = ⊥
+
+-- a job's line is refused behind its name: the job isn't declared, or its command is refused
+abbrev pub RefusesNamed : Declared → List ℕ → List ℕ → LineFault → Type 0
+RefusesNamed d name text fault = ((index_of d Job name ≡ None) × (fault ≡ UnknownName)) ⊎ ((index_of d Job name ≢ None) × RefusesCommand d text fault)
+
 -- a job's line is refused: the job isn't declared, or its command is refused
 abbrev pub RefusesJob : Declared → List ℕ → LineFault → Type 0
 RefusesJob d text fault =

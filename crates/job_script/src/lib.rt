@@ -15,6 +15,7 @@ mod line;
 mod line_end;
 mod line_fault;
 mod line_kind;
+mod line_reader;
 mod name_form;
 mod name_kind;
 mod name_parts;
