@@ -13,3 +13,4 @@ pub mod NodeLaws
 pub mod NodeSpellings
 pub mod NumberAgreement
 pub mod OneFault
+pub mod NodeEnds

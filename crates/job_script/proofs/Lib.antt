@@ -7,3 +7,6 @@ pub mod PartLemmas
 pub mod TextLemmas
 pub mod TodoLemmas
 pub mod WordLemmas
+pub mod WordEnds
+pub mod NodeRefusals
+pub mod CommandLemmas

@@ -1,3 +1,4 @@
+pub mod CommandWords
 pub mod FirstWords
 pub mod Kinds
 pub mod Lines

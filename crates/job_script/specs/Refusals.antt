@@ -4,11 +4,9 @@ use Rattle.std.specs.Fmt.{decimal, signed_decimal}
 use Rattle.subscript_keys.specs.declared.sub.Sub.{Sub}
 use Rattle.subscript_keys.specs.Key.{IsName, HasEmpty}
 use Rattle.global_text.specs.declared.text_error.TextError.TheVariants.{NoCaret, BadName, BadSubscript, Unclosed, KeyTooLong, BadValue, ValueTooLong}
-use Rattle.global_text.specs.Numbers.{BeginsOtherwise}
-use Rattle.global_text.specs.Nodes.{ReadsParts}
+use Rattle.global_text.specs.Nodes.{HasGlobal, ReadsParts}
 use Rattle.global_text.specs.Strings.{ReadsString}
 use Rattle.global_text.specs.Faults.{HasNodeFault, HasValueFault, StopsBehind}
-use Rattle.std.specs.Char.{is_ascii_alphanumeric}
 use Rattle.job_script.specs.declared.declared.Declared.{Declared}
 use Rattle.job_script.specs.declared.line_fault.LineFault.{LineFault}
 use Rattle.job_script.specs.declared.line_fault.LineFault.TheVariants.{Bad, Unknown as UnknownName, Memory}
@@ -77,13 +75,6 @@ abbrev pub RefusesAmount : List ℕ → LineFault → Type 0
 RefusesAmount text (Bad Words) = text ≡ []
 RefusesAmount text (Bad Number) = (text ≢ []) × ((z : ℤ) → unsigned_abs z < 10 ^ 18 → first_word text ≢ signed_decimal z)
 RefusesAmount text fault = ⊥
-
--- a caret and a name stand here, and no letter or digit makes it longer
-pub record HasGlobal (name text : List ℕ) : Type 0 where
-  pub rest : List ℕ
-  pub named : IsName name
-  pub stands : text ≡ 94 ∷ (name ++ rest)
-  pub whole : BeginsOtherwise is_ascii_alphanumeric rest
 
 -- the global that stands here is declared
 abbrev pub IsDeclared : Declared → List ℕ → List ℕ → Type 0

@@ -2,6 +2,9 @@
 //! is none. Each form of a line is a row of one table: its first word, and the parts behind it.
 #![tactic(auto)]
 
+mod command_reader;
+mod command_rows;
+mod command_word;
 mod declaration;
 mod declaration_rows;
 mod declared;
@@ -10,6 +13,7 @@ mod declaring_word;
 mod flag_parts;
 mod global;
 mod kind_names;
+mod known_front;
 mod limits;
 mod line;
 mod line_end;
@@ -19,6 +23,7 @@ mod line_reader;
 mod name_form;
 mod name_kind;
 mod name_parts;
+mod node_parts;
 mod number_parts;
 mod script;
 mod script_error;
@@ -28,6 +33,8 @@ mod splits;
 mod todo;
 mod todo_rows;
 mod todo_word;
+mod value_part;
+mod word_end;
 
 pub use declared_line::{DeclaredLine, DeclaredLines, DeclaringWord};
 pub use limits::LINE_LIMIT;
