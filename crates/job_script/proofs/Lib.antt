@@ -4,6 +4,7 @@ pub mod LineLemmas
 pub mod NameLemmas
 pub mod NumberLemmas
 pub mod PartLemmas
+pub mod ScriptLemmas
 pub mod TextLemmas
 pub mod TodoLemmas
 pub mod WordLemmas

@@ -119,6 +119,12 @@ HasRoomFor d (JobDeclared name app) = HasRoom d Job
 HasRoomFor d (GlobalDeclared name server) = Unit {0}
 HasRoomFor d (TimeDeclared setting ticks) = Unit {0}
 
+-- a line may be taken
+abbrev pub MayTake : Declared → Line → Type 0
+MayTake d Nothing = Unit {0}
+MayTake d (Declares declaration) = HasRoomFor d declaration
+MayTake d (Asks todo) = Unit {0}
+
 -- what is declared behind a line; a line that asks for something closes the declarations
 abbrev pub behind : Declared → Line → Declared
 behind d Nothing = d
@@ -215,6 +221,12 @@ RefusesScript text (BadLine line kind) = HasBadLine text line (Bad kind)
 RefusesScript text (UnknownInScript line) = HasBadLine text line UnknownName
 RefusesScript text TooManyLines = LINE_LIMIT < length (script_lines text)
 RefusesScript text (NoMemory error) = Unit {0}
+
+-- what a script is refused for, by the refusal of its line with this number
+abbrev pub error_at : ℕ → LineFault → ScriptError
+error_at line (Bad kind) = BadLine line kind
+error_at line UnknownName = UnknownInScript line
+error_at line (Memory error) = NoMemory error
 
 -- the indexes that a line names are declared, and a command is within its limits
 abbrev pub TodoMay : Layout → Todo → Type 0
