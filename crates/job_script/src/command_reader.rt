@@ -52,11 +52,7 @@ fn read_behind(
 }
 
 /// The command that a text is. The first fault from the left counts, a word that is no command's among them.
-pub fn read_command(
-    alloc: Global,
-    declared: &Declared,
-    text: &[u8],
-) -> Result<Command, LineFault>
+pub fn read_command(alloc: Global, declared: &Declared, text: &[u8]) -> Result<Command, LineFault>
     ensures ok { IfOk result (λ command. Reads command_row declared.now text.now command) }
     ensures err { IfErr result (λ fault.
         IsMemoryFault fault ⊎ RefusesCommand declared.now text.now fault) }
