@@ -1,5 +1,5 @@
 -- A script read line by line.
-use Rattle.std.proofs.Common.{◌≡◌, ◌≢◌, ℕ, ◌+◌, ◌<◌, ◌≤◌, List, [], ◌∷◌, ◌++◌, length, refl, sym, ap, ◌∙◌, subst, inl, inr, append_assoc, append-nil, arith, length-append}
+use Rattle.std.proofs.Common.{◌≡◌, ◌≢◌, ℕ, ◌+◌, ◌≤◌, List, [], ◌∷◌, ◌++◌, length, refl, sym, ap, ◌∙◌, subst, inl, inr, append_assoc, append-nil, arith, length-append}
 use Rattle.plain_orders.specs.declared.layout.Layout.{Layout}
 use Rattle.plain_orders.specs.declared.layout.Names.{Names}
 use Rattle.job_script.specs.declared.declared.Declared.{Declared}
@@ -12,11 +12,10 @@ use Rattle.job_script.specs.declared.line.Line.TheVariants.{Nothing, Declares, A
 use Rattle.job_script.specs.declared.line_fault.LineFault.{LineFault}
 use Rattle.job_script.specs.declared.line_fault.LineFault.TheVariants.{Bad, Unknown as UnknownName, Memory}
 use Rattle.job_script.specs.declared.script.Script.{Script}
-use Rattle.job_script.specs.declared.script_error.ScriptError.{ScriptError}
 use Rattle.job_script.specs.declared.script_error.ScriptError.TheVariants.{TooManyLines}
 use Rattle.job_script.specs.declared.script_line.ScriptLine.{ScriptLine}
 use Rattle.job_script.specs.Lines.{script_lines}
-use Rattle.job_script.specs.Scripts.{ReadsLine, RefusesLine, AreLines, RefusesAt, HasRoomFor, MayTake, behind, declared_by, nothing_declared, declared_behind, declaration_before, declarations_from, todo_before, todos_from, layout_of, declared_names, script_of, IsScriptText, HasBadLine, RefusesScript, error_at}
+use Rattle.job_script.specs.Scripts.{ReadsLine, RefusesLine, AreLines, RefusesAt, HasRoomFor, MayTake, behind, declared_by, nothing_declared, declared_behind, declaration_before, declarations_from, todo_before, todos_from, layout_of, declared_names, IsScriptText, RefusesScript, error_at}
 
 -- one line more is read
 AreLines-more : (d : Declared) (raws : List (List ℕ)) (lines : List Line) (raw : List ℕ) (line : Line) → AreLines d raws lines → ReadsLine (declared_behind d lines) raw line → AreLines d (raws ++ raw ∷ []) (lines ++ line ∷ [])
@@ -184,6 +183,7 @@ read-bad raws lines text rest declared declarations todos number raw left fault 
         let whole : script_lines text ≡ raws ++ raw ∷ script_lines left = r.texts ∙ ap (λ xs. raws ++ xs) split in
         let bad = refuses-at nothing_declared 1 raws lines raw (script_lines left) fault r.read (subst (λ d. RefusesLine d raw fault) r.declares refused) in
         subst (λ xs. RefusesAt nothing_declared 1 xs number fault) (sym whole) (subst (λ n. RefusesAt nothing_declared 1 (raws ++ raw ∷ script_lines left) n fault) (sym r.place) bad)
+
     refuses : (f : LineFault) → RefusesAt nothing_declared 1 (script_lines text) number f → RefusesScript text (error_at number f)
     refuses (Bad kind) bad = record { few = few; refused = bad }
     refuses UnknownName bad = record { few = few; refused = bad }

@@ -1,7 +1,6 @@
 -- What a line is, by its first word.
-use Rattle.std.proofs.Common.{◌≡◌, ◌≢◌, ◌⊎◌, ℕ, Bool, true, false, ◌==◌, if◌then◌else◌, List, [], ◌∷◌, ◌++◌, None, Some, refl, sym, ap, ◌∙◌, subst, inl, inr}
+use Rattle.std.proofs.Common.{◌≡◌, ◌≢◌, ◌⊎◌, ℕ, true, false, if◌then◌else◌, List, [], ◌∷◌, ◌++◌, refl, sym, ap, ◌∙◌, subst, inl, inr}
 use Rattle.std.proofs.lemmas.Bool.{cases_eq, eq-eqb, ne_eqb}
-use Rattle.app_job.specs.declared.command.Command.{Command}
 use Rattle.job_script.specs.declared.declared.Declared.{Declared}
 use Rattle.job_script.specs.declared.declaration.Declaration.{Declaration}
 use Rattle.job_script.specs.declared.declaration.Declaration.TheVariants.{Server as ServerDeclared, App as AppDeclared, Job as JobDeclared, Global as GlobalDeclared, Time as TimeDeclared}
@@ -11,18 +10,16 @@ use Rattle.job_script.specs.declared.line.Line.TheVariants.{Declares, Asks}
 use Rattle.job_script.specs.declared.line_fault.LineFault.{LineFault}
 use Rattle.job_script.specs.declared.line_fault.LineFault.TheVariants.{Bad, Unknown as UnknownName, Memory}
 use Rattle.job_script.specs.declared.line_kind.LineKind.TheVariants.{Unknown, Late}
-use Rattle.job_script.specs.declared.name_kind.NameKind.TheVariants.{Job}
 use Rattle.job_script.specs.declared.setting.Setting.TheVariants.{Retry}
 use Rattle.job_script.specs.declared.todo.Todo.{Todo}
 use Rattle.job_script.specs.declared.todo.Todo.TheVariants.{Job as JobTodo, Hold, Flow, Up, Down, Save, Pump, Tick, Break, Mend, Crash, Restart, Die, Await}
 use Rattle.job_script.specs.declared.todo_word.TodoWord.{TodoWord}
 use Rattle.job_script.specs.declared.todo_word.TodoWord.TheVariants.{Hold as HoldWord, Flow as FlowWord, Up as UpWord, Down as DownWord, Save as SaveWord, Pump as PumpWord, Tick as TickWord, Break as BreakWord, Mend as MendWord, Crash as CrashWord, Restart as RestartWord, Die as DieWord, Await as AwaitWord}
 use Rattle.job_script.specs.FirstWords.{declaring_text, todo_text}
-use Rattle.job_script.specs.Names.{IsNodeName, index_of}
-use Rattle.job_script.specs.Parts.{TakesParts}
+use Rattle.job_script.specs.Names.{IsNodeName}
 use Rattle.job_script.specs.Refusals.{IsMemoryFault, Refuses, RefusesBehind}
-use Rattle.job_script.specs.Rows.{Row, Reads, ReadsBehind, IsUnknown, declaration_row, todo_row, command_row}
-use Rattle.job_script.specs.Scripts.{IsJobAhead, ReadsTodo, ReadsText, ReadsNamed, RefusesText, RefusesNamed, RefusesJob, RefusesCommand, IsLate, IsNoLine}
+use Rattle.job_script.specs.Rows.{Row, Reads, ReadsBehind, IsUnknown, declaration_row, todo_row}
+use Rattle.job_script.specs.Scripts.{IsJobAhead, ReadsTodo, ReadsText, ReadsNamed, RefusesText, RefusesNamed, RefusesJob, IsLate, IsNoLine}
 use Rattle.job_script.specs.Words.{IsAhead, IsSilent, first_word, behind_word}
 
 -- what a split of a line that isn't silent knows
