@@ -16,6 +16,8 @@ pub mod LineLemmas
 pub mod NameLemmas
 pub mod NumberLemmas
 pub mod PartLemmas
+pub mod ScriptLemmas
+pub mod TextLemmas
 pub mod TodoLemmas
 pub mod WordLemmas
 pub mod WordEnds
