@@ -1,13 +1,10 @@
 -- Commands of a job.
-use Rattle.std.proofs.Common.{◌≡◌, ◌≢◌, ℕ, ◌+◌, ◌<◌, ◌≤◌, List, [], ◌∷◌, All, take, get_or, lit<, refl, sym, ◌∙◌, subst, arith, inl, inr}
+use Rattle.std.proofs.Common.{◌≡◌, ◌≢◌, ℕ, ◌+◌, ◌<◌, ◌≤◌, List, [], ◌∷◌, All, take, get_or, lit<, sym, subst, arith}
 use Rattle.std.proofs.lemmas.List.Elements.{All-more}
 use Rattle.app_job.specs.Sites.{Site}
-use Rattle.app_job.specs.declared.command.Command.{Command}
 use Rattle.app_job.specs.declared.command.Command.TheVariants.{Set, Kill, Get, Shape, Next, Incr, Lock, Unlock, Start, Commit, Rollback, Sync}
 use Rattle.job_script.specs.declared.command_word.CommandWord.{CommandWord}
 use Rattle.job_script.specs.declared.command_word.CommandWord.TheVariants.{Set as SetWord, Kill as KillWord, Get as GetWord, Shape as ShapeWord, Next as NextWord, Incr as IncrWord, Lock as LockWord, Unlock as UnlockWord, Start as StartWord, Commit as CommitWord, Rollback as RollbackWord, Sync as SyncWord}
-use Rattle.job_script.specs.declared.declared.Declared.{Declared}
-use Rattle.job_script.specs.declared.line_fault.LineFault.{LineFault}
 use Rattle.job_script.specs.CommandWords.{command_text}
 use Rattle.job_script.specs.Rows.{command_row, IsUnknown}
 

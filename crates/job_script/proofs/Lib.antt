@@ -10,10 +10,15 @@ pub mod ScriptLaws
 pub mod TextBytes
 pub mod CommandLimits
 pub mod ScriptLimits
+pub mod DeclarationLemmas
 pub mod FirstWordLemmas
 pub mod LineLemmas
 pub mod NameLemmas
 pub mod NumberLemmas
+pub mod PartLemmas
+pub mod ScriptLemmas
+pub mod TextLemmas
+pub mod TodoLemmas
 pub mod WordLemmas
 pub mod WordEnds
 pub mod NodeRefusals

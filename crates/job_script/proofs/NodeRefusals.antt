@@ -1,11 +1,11 @@
 -- Why a node among the parts of a line is refused.
-use Rattle.std.proofs.Common.{◌≡◌, ◌≢◌, ◌⊎◌, ℕ, List, [], ◌∷◌, ◌++◌, drop, Option, None, Some, Result, Ok, length, refl, sym, ap, ◌∙◌, subst, inl, inr, arith, length-append}
+use Rattle.std.proofs.Common.{◌≡◌, ◌≢◌, ◌⊎◌, ℕ, List, [], ◌∷◌, ◌++◌, drop, None, Some, Ok, length, refl, sym, ap, ◌∙◌, subst, inl, inr, arith, length-append}
 use Rattle.std.specs.declared.alloc.AllocError.{AllocError}
 use Rattle.subscript_keys.specs.declared.sub.Sub.{Sub}
 use Rattle.subscript_keys.specs.Key.{key_of, subs_bytes, HasEmpty, IsWithinLimit}
 use Rattle.global_text.specs.declared.text_error.TextError.{TextError}
 use Rattle.global_text.specs.declared.text_error.TextError.TheVariants.{NoCaret, BadName, BadSubscript, Unclosed, KeyTooLong, BadValue, ValueTooLong, Memory}
-use Rattle.global_text.specs.Nodes.{HasGlobal, ReadsParts}
+use Rattle.global_text.specs.Nodes.{HasGlobal}
 use Rattle.global_text.specs.Faults.{StopsBehind}
 use Rattle.global_text.specs.declared.node_front.NodeFront.{NodeFront}
 use Rattle.global_text.specs.NodeFronts.{IsReadTo, IsFront}

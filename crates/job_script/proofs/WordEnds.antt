@@ -1,5 +1,5 @@
 -- The end of a string or a node within a line.
-use Rattle.std.proofs.Common.{◌≡◌, ◌≢◌, ℕ, ◌+◌, ◌<◌, Bool, true, false, ◌==◌, if◌then◌else◌, List, [], ◌∷◌, length, drop, get_or, Option, None, Some, refl, sym, ap, ◌∙◌, subst, inl, inr, nat_eq}
+use Rattle.std.proofs.Common.{◌≡◌, ◌≢◌, ℕ, if◌then◌else◌, List, [], ◌∷◌, sym, ap, ◌∙◌, inl, inr}
 use Rattle.std.proofs.lemmas.Bool.{cases_eq, eq-eqb, ne_eqb}
 use Rattle.job_script.specs.Words.{IsWordEnd, spaces_off, first_word, behind_word}
 use Rattle.job_script.specs.Parts.{EndsBefore}
@@ -9,9 +9,9 @@ pub ends_before : (text word rest : List ℕ) → first_word text ≡ word → b
 ends_before [] word rest e f g = record { end = tt; rest_is = f }
 ends_before (b ∷ text) word rest e f g = elim (cases_eq b 32) [
   | inl is ↦ record {
-      end = is;
-      rest_is = ap (λ t. if t then spaces_off text else b ∷ text) (eq-eqb b 32 is) ∙ (sym (ap (λ t. if t then spaces_off text else behind_word text) (eq-eqb b 32 is)) ∙ f);
-    }
+    end = is;
+    rest_is = ap (λ t. if t then spaces_off text else b ∷ text) (eq-eqb b 32 is) ∙ (sym (ap (λ t. if t then spaces_off text else behind_word text) (eq-eqb b 32 is)) ∙ f);
+  }
   | inr ne ↦ absurd (some-word b text (sym (ap (λ t. if t then [] else b ∷ first_word text) (ne_eqb b 32 ne)) ∙ (e ∙ g)))
 ]
   where

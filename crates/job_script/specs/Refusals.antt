@@ -12,6 +12,7 @@ use Rattle.job_script.specs.declared.line_fault.LineFault.{LineFault}
 use Rattle.job_script.specs.declared.line_fault.LineFault.TheVariants.{Bad, Unknown as UnknownName, Memory}
 use Rattle.job_script.specs.declared.line_kind.LineKind.TheVariants.{Twice, TooMany, Name, Node, Key, NoSub, NoValue, Value, Long, Number, Words}
 use Rattle.job_script.specs.declared.name_kind.NameKind.{NameKind}
+use Rattle.job_script.specs.declared.name_kind.NameKind.TheVariants.{Server, App}
 use Rattle.job_script.specs.declared.setting.Setting.{Setting}
 use Rattle.job_script.specs.Names.{IsNodeName, has_name, index_of, HasRoom, server_of, GLOBALS, setting_word}
 use Rattle.job_script.specs.Parts.{Part, NewName, NewGlobal, OfKind, ASetting, ANumber, APick, AnAmount, ANode, ANext, AValue, AFlag, AWait, TakesPart}
@@ -153,10 +154,26 @@ RefusesPart d (AValue value) text fault = RefusesValue text fault
 RefusesPart d (AFlag word is_there) text fault = ⊥
 RefusesPart d (AWait wait) text fault = RefusesWait text fault
 
+-- something follows where nothing may
+abbrev pub RefusesEnd : List ℕ → LineFault → Type 0
+RefusesEnd text (Bad Words) = text ≢ []
+RefusesEnd text fault = ⊥
+
 -- the parts in front are there, and the next is refused, or something follows the last
 abbrev pub RefusesParts : Declared → List Part → List ℕ → LineFault → Type 0
 RefusesParts d [] text fault = (text ≢ []) × (fault ≡ Bad Words)
 RefusesParts d (p ∷ parts) text fault = RefusesPart d p text fault ⊎ ((rest : List ℕ) × TakesPart d p text rest × RefusesParts d parts rest fault)
+
+-- a name of one kind is refused, or something follows it
+pub record RefusesOne (d : Declared) (kind : NameKind) (text : List ℕ) (fault : LineFault) : Type 0 where
+  pub index : ℕ
+  pub parts : RefusesParts d (OfKind kind index ∷ []) text fault
+
+-- an application server or a data server is refused, or something follows them
+pub record RefusesPair (d : Declared) (text : List ℕ) (fault : LineFault) : Type 0 where
+  pub app : ℕ
+  pub server : ℕ
+  pub parts : RefusesParts d (OfKind App app ∷ OfKind Server server ∷ []) text fault
 
 -- behind this first word of a table a part is refused
 pub record RefusesBehind {X : Type 0} (row_of : X → Row) (d : Declared) (word text : List ℕ) (fault : LineFault) : Type 0 where

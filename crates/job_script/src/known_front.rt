@@ -40,11 +40,7 @@ fn read_global(alloc: Global, text: &[u8]) -> Result<NodeFront, LineFault>
 }
 
 /// As much of a node as a text begins with, whose global must be declared.
-pub fn read_known(
-    alloc: Global,
-    declared: &Declared,
-    text: &[u8],
-) -> Result<KnownFront, LineFault>
+pub fn read_known(alloc: Global, declared: &Declared, text: &[u8]) -> Result<KnownFront, LineFault>
     ensures ok { IfOk result (λ known. IsFront text.now known.front) }
     ensures server { IfOk result (λ known.
         server_of declared.now.globals known.front.name ≡ Some known.server) }
