@@ -5,7 +5,7 @@ use Rattle.subscript_keys.specs.Key.{sub_bytes, IsName}
 use Rattle.global_text.specs.Strings.{ReadsString}
 use Rattle.global_text.specs.Nodes.{ReadsSub, ReadsSubs, key_length, BeforeSub, BehindSub}
 use Rattle.global_text.specs.declared.text_error.TextError.{TextError}
-use Rattle.global_text.specs.Faults.{HasSubFault, HasMarkFault, HasListFault}
+use Rattle.global_text.specs.Faults.{HasSubFault, HasMarkFault, StopsBehind}
 use Rattle.global_text.proofs.KeyLengths.{subs-length}
 
 -- a name has at most 31 bytes
@@ -42,9 +42,9 @@ string-shorter s text next c (inl (is, e, n)) = omega (arith, ap length e, lengt
 string-shorter s text next c (inr ((items, is, e), n)) = omega (arith, ap length e, length-append items (34 ∷ c ∷ next))
 
 -- a fault before a subscript
-pub fault-before : (text name rest : List ℕ) (subs : List Sub) (key : ℕ) (error : TextError) → BeforeSub text name subs rest → key ≡ key_length name subs → HasSubFault key rest error → HasListFault text error
-fault-before text name rest subs key error before e fault = (name, subs, (rest, inl (before, subst (λ (k : ℕ). HasSubFault k rest error) e fault)))
+pub fault-before : (text name rest : List ℕ) (subs : List Sub) (key : ℕ) (error : TextError) → BeforeSub text name subs rest → key ≡ key_length name subs → HasSubFault key rest error → StopsBehind text name subs error
+fault-before text name rest subs key error before e fault = (rest, inl (before, subst (λ (k : ℕ). HasSubFault k rest error) e fault))
 
 -- a fault behind one
-pub fault-behind : (text name rest : List ℕ) (subs : List Sub) (error : TextError) → BehindSub text name subs rest → HasMarkFault rest error → HasListFault text error
-fault-behind text name rest subs error behind fault = (name, subs, (rest, inr (behind, fault)))
+pub fault-behind : (text name rest : List ℕ) (subs : List Sub) (error : TextError) → BehindSub text name subs rest → HasMarkFault rest error → StopsBehind text name subs error
+fault-behind text name rest subs error behind fault = (rest, inr (behind, fault))

@@ -80,6 +80,17 @@ HasListFault text error = (name : List ℕ) × (subs : List Sub) × StopsBehind 
 abbrev pub HasBadName : List ℕ → Type 0
 HasBadName text = (behind : List ℕ) × (text ≡ 94 ∷ behind) × ((name rest : List ℕ) → IsName name → BeginsOtherwise is_ascii_alphanumeric rest → behind ≢ name ++ rest)
 
+-- what each refusal of a caret and a name says
+abbrev pub HasGlobalFault : List ℕ → TextError → Type 0
+HasGlobalFault text NoCaret = BeginsOtherwise (λ b. b == 94) text
+HasGlobalFault text BadName = HasBadName text
+HasGlobalFault text (NoMemory error) = Unit {0}
+HasGlobalFault text BadSubscript = ⊥
+HasGlobalFault text UnclosedText = ⊥
+HasGlobalFault text KeyTooLong = ⊥
+HasGlobalFault text BadValue = ⊥
+HasGlobalFault text ValueTooLong = ⊥
+
 -- what each refusal of a node says
 abbrev pub HasNodeFault : List ℕ → TextError → Type 0
 HasNodeFault text NoCaret = BeginsOtherwise (λ b. b == 94) text

@@ -3,3 +3,4 @@ pub mod Strings
 pub mod Printed
 pub mod Nodes
 pub mod Faults
+pub mod NodeFronts

@@ -43,6 +43,13 @@ pub record BehindSub (text name : List ℕ) (subs : List Sub) (rest : List ℕ) 
   pub last : (front : List Sub) × (sub : Sub) × (place : List ℕ) × BeforeSub text name front place × ReadsSub sub place rest × (subs ≡ front ++ sub ∷ [])
   pub within : key_length name subs ≤ 500
 
+-- a caret and a name stand here, and no letter or digit makes it longer
+pub record HasGlobal (name text : List ℕ) : Type 0 where
+  pub rest : List ℕ
+  pub named : IsName name
+  pub stands : text ≡ 94 ∷ (name ++ rest)
+  pub whole : BeginsOtherwise is_ascii_alphanumeric rest
+
 -- a byte that makes a name longer or begins its subscripts
 abbrev pub extends_name : ℕ → Bool
 extends_name b = is_ascii_alphanumeric b || b == 40

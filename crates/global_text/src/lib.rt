@@ -5,6 +5,7 @@
 mod item;
 mod list_reader;
 mod name_form;
+mod node_front;
 mod node_laws;
 mod node_printer;
 mod node_reader;
@@ -23,6 +24,7 @@ mod text_error;
 mod value_printer;
 mod value_reader;
 
+pub use node_front::{NodeFront, read_front};
 pub use node_laws::{nodes_are_read_in_one_way, printed_nodes_are_read};
 pub use node_printer::print_node;
 pub use node_reader::read_node;

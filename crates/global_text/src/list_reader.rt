@@ -4,7 +4,7 @@ ghost use Rattle.std.specs.Char.{is_ascii_alphanumeric};
 ghost use Rattle.subscript_keys.specs.Key.{IsName};
 ghost use Rattle.global_text.specs.Numbers.{BeginsOtherwise};
 ghost use Rattle.global_text.specs.Nodes.{BehindSub, ReadsParts};
-ghost use Rattle.global_text.specs.Faults.{HasListFault, HasMarkFault};
+ghost use Rattle.global_text.specs.Faults.{HasMarkFault, StopsBehind};
 
 use crate::sub_reader::read_sub;
 use crate::text_error::TextError;
@@ -28,14 +28,21 @@ fn read_mark(text: &[u8]) -> Result<(bool, &[u8]), TextError>
     }
 }
 
-/// The subscripts behind a name and an open parenthesis, and what follows the closing one.
-fn read_list<'a>(alloc: Global, name: &[u8], list: &'a [u8]) -> Result<(Subs, &'a [u8]), TextError>
-    requires { IsName name.now }
-    ensures ok { IfOk result (λ read.
-        BehindSub (94 ∷ (name.now ++ 40 ∷ list.now)) name.now read.0 (41 ∷ read.1.now)) }
-    ensures err { IfErr result (HasListFault (94 ∷ (name.now ++ 40 ∷ list.now))) }
+/// Reads the subscripts behind a name and an open parenthesis, and gives what follows the closing one. After an
+/// `Err` those in front of the fault are read.
+fn read_list<'a>(
+    alloc: Global,
+    name: &[u8],
+    list: &'a [u8],
+    subs: &mut Subs,
+) -> Result<&'a [u8], TextError>
+    requires name { IsName name.now }
+    requires none { subs.old ≡ [] }
+    ensures ok { IfOk result (λ rest.
+        BehindSub (94 ∷ (name.now ++ 40 ∷ list.now)) name.now subs.new (41 ∷ rest.now)) }
+    ensures err { IfErr result
+        (StopsBehind (94 ∷ (name.now ++ 40 ∷ list.now)) name.now subs.new) }
 {
-    let mut subs = Subs::new(alloc);
     let mut key = name.len() + 1;
     let mut rest = list;
     'subs: loop {
@@ -45,27 +52,30 @@ fn read_list<'a>(alloc: Global, name: &[u8], list: &'a [u8]) -> Result<(Subs, &'
         }
         let (last, next) = read_mark(after)?;
         if last {
-            return Ok((subs, next));
+            return Ok(next);
         }
         key = longer;
         rest = next;
     }
 }
 
-/// The subscripts behind a name, where there are any, and what follows the node.
+/// Reads the subscripts behind a name, where there are any, and gives what follows the node. After an `Err`
+/// those in front of the fault are read.
 pub fn read_subs<'a>(
     alloc: Global,
     name: &[u8],
     text: &'a [u8],
-) -> Result<(Subs, &'a [u8]), TextError>
+    subs: &mut Subs,
+) -> Result<&'a [u8], TextError>
     requires name { IsName name.now }
     requires whole { BeginsOtherwise is_ascii_alphanumeric text.now }
-    ensures ok { IfOk result (λ read.
-        ReadsParts name.now read.0 (94 ∷ (name.now ++ text.now)) read.1.now) }
-    ensures err { IfErr result (HasListFault (94 ∷ (name.now ++ text.now))) }
+    requires none { subs.old ≡ [] }
+    ensures ok { IfOk result (λ rest.
+        ReadsParts name.now subs.new (94 ∷ (name.now ++ text.now)) rest.now) }
+    ensures err { IfErr result (StopsBehind (94 ∷ (name.now ++ text.now)) name.now subs.new) }
 {
     match text {
-        [b'(', list @ ..] => read_list(alloc, name, list),
-        _ => Ok((Subs::new(alloc), text)),
+        [b'(', list @ ..] => read_list(alloc, name, list, subs),
+        _ => Ok(text),
     }
 }

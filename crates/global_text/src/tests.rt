@@ -1,4 +1,4 @@
-use crate::{TextError, print_node, print_value, read_node, read_value};
+use crate::{TextError, print_node, print_value, read_front, read_node, read_value};
 use std::alloc::Global;
 use subscript_keys::{KEY_LIMIT, ValueBytes, encode};
 
@@ -182,6 +182,35 @@ fn texts_of_no_node_are_refused(rt: HostRuntime) {
         match read_node(rt.alloc(), text) {
             Ok(_) => assert!(rt; false, "{text:?} is read"),
             Err(error) => assert_eq!(rt; name_of(&error), want, "the refusal of {text:?}"),
+        }
+    }
+}
+
+#[test]
+fn a_front_ends_at_its_fault(rt: HostRuntime) {
+    let table: [(&[u8], &[u8], usize, &str); 5] = [
+        (b"^abc,", b"abc", 0, "4"),
+        (b"^x(1,\"b\") y", b"x", 2, "9"),
+        (b"^x(1,\"b", b"x", 1, "Unclosed"),
+        (b"^x(1,\"b\";", b"x", 2, "BadSubscript"),
+        (b"^x(", b"x", 0, "Unclosed"),
+    ];
+    for (text, name, count, want) in table {
+        let front = read_front(rt.alloc(), text).expect(&rt, "a caret and a name");
+        assert_eq!(rt; front.name.as_slice(), name, "{text:?}");
+        assert_eq!(rt; front.subs.as_slice().len(), count, "{text:?}");
+        match front.end {
+            Ok(taken) => {
+                let taken = format!(in rt.alloc(); "{taken}").expect(&rt, "memory");
+                assert_eq!(rt; taken.as_str(), want, "{text:?}");
+            }
+            Err(error) => assert_eq!(rt; name_of(&error), want, "{text:?}"),
+        }
+    }
+    for (text, want) in [(b"x(1)", "NoCaret"), (b"^1(1", "BadName")] {
+        match read_front(rt.alloc(), text) {
+            Ok(_) => assert!(rt; false, "{text:?} is read"),
+            Err(error) => assert_eq!(rt; name_of(&error), want, "{text:?}"),
         }
     }
 }

@@ -1,3 +1,5 @@
+pub mod CommandWords
+pub mod FirstWords
 pub mod Kinds
 pub mod Lines
 pub mod Names

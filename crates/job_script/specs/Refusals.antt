@@ -4,21 +4,26 @@ use Rattle.std.specs.Fmt.{decimal, signed_decimal}
 use Rattle.subscript_keys.specs.declared.sub.Sub.{Sub}
 use Rattle.subscript_keys.specs.Key.{IsName, HasEmpty}
 use Rattle.global_text.specs.declared.text_error.TextError.TheVariants.{NoCaret, BadName, BadSubscript, Unclosed, KeyTooLong, BadValue, ValueTooLong}
-use Rattle.global_text.specs.Numbers.{BeginsOtherwise}
-use Rattle.global_text.specs.Nodes.{ReadsParts}
+use Rattle.global_text.specs.Nodes.{HasGlobal, ReadsParts}
 use Rattle.global_text.specs.Strings.{ReadsString}
 use Rattle.global_text.specs.Faults.{HasNodeFault, HasValueFault, StopsBehind}
-use Rattle.std.specs.Char.{is_ascii_alphanumeric}
 use Rattle.job_script.specs.declared.declared.Declared.{Declared}
 use Rattle.job_script.specs.declared.line_fault.LineFault.{LineFault}
 use Rattle.job_script.specs.declared.line_fault.LineFault.TheVariants.{Bad, Unknown as UnknownName, Memory}
 use Rattle.job_script.specs.declared.line_kind.LineKind.TheVariants.{Twice, TooMany, Name, Node, Key, NoSub, NoValue, Value, Long, Number, Words}
 use Rattle.job_script.specs.declared.name_kind.NameKind.{NameKind}
+use Rattle.job_script.specs.declared.name_kind.NameKind.TheVariants.{Server, App}
 use Rattle.job_script.specs.declared.setting.Setting.{Setting}
 use Rattle.job_script.specs.Names.{IsNodeName, has_name, index_of, HasRoom, server_of, GLOBALS, setting_word}
 use Rattle.job_script.specs.Parts.{Part, NewName, NewGlobal, OfKind, ASetting, ANumber, APick, AnAmount, ANode, ANext, AValue, AFlag, AWait, TakesPart}
 use Rattle.job_script.specs.Rows.{Row}
 use Rattle.job_script.specs.Words.{IsAhead, IsWordEnd, first_word}
+
+-- memory was wanting
+abbrev pub IsMemoryFault : LineFault → Type 0
+IsMemoryFault (Bad kind) = ⊥
+IsMemoryFault UnknownName = ⊥
+IsMemoryFault (Memory error) = Unit {0}
 
 -- Want of memory says nothing. A new name: its form, declared already, one too many
 abbrev pub RefusesNewName : Declared → NameKind → List ℕ → LineFault → Type 0
@@ -70,13 +75,6 @@ abbrev pub RefusesAmount : List ℕ → LineFault → Type 0
 RefusesAmount text (Bad Words) = text ≡ []
 RefusesAmount text (Bad Number) = (text ≢ []) × ((z : ℤ) → unsigned_abs z < 10 ^ 18 → first_word text ≢ signed_decimal z)
 RefusesAmount text fault = ⊥
-
--- a caret and a name stand here, and no letter or digit makes it longer
-pub record HasGlobal (name text : List ℕ) : Type 0 where
-  pub rest : List ℕ
-  pub named : IsName name
-  pub stands : text ≡ 94 ∷ (name ++ rest)
-  pub whole : BeginsOtherwise is_ascii_alphanumeric rest
 
 -- the global that stands here is declared
 abbrev pub IsDeclared : Declared → List ℕ → List ℕ → Type 0
@@ -156,10 +154,26 @@ RefusesPart d (AValue value) text fault = RefusesValue text fault
 RefusesPart d (AFlag word is_there) text fault = ⊥
 RefusesPart d (AWait wait) text fault = RefusesWait text fault
 
+-- something follows where nothing may
+abbrev pub RefusesEnd : List ℕ → LineFault → Type 0
+RefusesEnd text (Bad Words) = text ≢ []
+RefusesEnd text fault = ⊥
+
 -- the parts in front are there, and the next is refused, or something follows the last
 abbrev pub RefusesParts : Declared → List Part → List ℕ → LineFault → Type 0
 RefusesParts d [] text fault = (text ≢ []) × (fault ≡ Bad Words)
 RefusesParts d (p ∷ parts) text fault = RefusesPart d p text fault ⊎ ((rest : List ℕ) × TakesPart d p text rest × RefusesParts d parts rest fault)
+
+-- a name of one kind is refused, or something follows it
+pub record RefusesOne (d : Declared) (kind : NameKind) (text : List ℕ) (fault : LineFault) : Type 0 where
+  pub index : ℕ
+  pub parts : RefusesParts d (OfKind kind index ∷ []) text fault
+
+-- an application server or a data server is refused, or something follows them
+pub record RefusesPair (d : Declared) (text : List ℕ) (fault : LineFault) : Type 0 where
+  pub app : ℕ
+  pub server : ℕ
+  pub parts : RefusesParts d (OfKind App app ∷ OfKind Server server ∷ []) text fault
 
 -- behind this first word of a table a part is refused
 pub record RefusesBehind {X : Type 0} (row_of : X → Row) (d : Declared) (word text : List ℕ) (fault : LineFault) : Type 0 where

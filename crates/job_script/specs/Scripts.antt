@@ -16,7 +16,7 @@ use Rattle.job_script.specs.declared.line.Line.TheVariants.{Nothing, Declares, A
 use Rattle.job_script.specs.declared.line_fault.LineFault.{LineFault}
 use Rattle.job_script.specs.declared.line_fault.LineFault.TheVariants.{Bad, Unknown as UnknownName, Memory}
 use Rattle.job_script.specs.declared.line_kind.LineKind.TheVariants.{Unknown, Late}
-use Rattle.job_script.specs.declared.name_kind.NameKind.TheVariants.{Job}
+use Rattle.job_script.specs.declared.name_kind.NameKind.TheVariants.{Server, App, Job}
 use Rattle.job_script.specs.declared.script.Script.{Script}
 use Rattle.job_script.specs.declared.script_error.ScriptError.{ScriptError}
 use Rattle.job_script.specs.declared.script_error.ScriptError.TheVariants.{BadLine, TooManyLines, UnknownName as UnknownInScript, Memory as NoMemory}
@@ -26,7 +26,7 @@ use Rattle.job_script.specs.declared.setting.Setting.TheVariants.{Retry, Trouble
 use Rattle.job_script.specs.declared.todo.Todo.{Todo}
 use Rattle.job_script.specs.declared.todo.Todo.TheVariants.{Job as JobTodo, Hold, Flow, Up, Down, Save, Pump, Tick, Break, Mend, Crash, Restart, Die, Await}
 use Rattle.job_script.specs.Lines.{script_lines}
-use Rattle.job_script.specs.Names.{IsNodeName, index_of}
+use Rattle.job_script.specs.Names.{IsNodeName, index_of, HasRoom}
 use Rattle.job_script.specs.Refusals.{Refuses}
 use Rattle.job_script.specs.Rows.{Reads, IsUnknown, declaration_row, todo_row, command_row}
 use Rattle.job_script.specs.Words.{IsAhead, IsSilent, first_word, trimmed}
@@ -55,6 +55,15 @@ ReadsLine d raw line = ReadsText d (trimmed raw) line
 -- a job's command is refused, its first word among it
 abbrev pub RefusesCommand : Declared → List ℕ → LineFault → Type 0
 RefusesCommand d text fault = (IsUnknown command_row (first_word text) × (fault ≡ Bad Unknown)) ⊎ Refuses command_row d text fault
+
+-- a job's line asks for this, behind its name
+abbrev pub ReadsNamed : Declared → List ℕ → List ℕ → Todo → Type 0
+ReadsNamed d name text (JobTodo job command) = (index_of d Job name ≡ Some job) × Reads command_row d text command
+ReadsNamed d name text todo = ⊥
+
+-- a job's line is refused behind its name: the job isn't declared, or its command is refused
+abbrev pub RefusesNamed : Declared → List ℕ → List ℕ → LineFault → Type 0
+RefusesNamed d name text fault = ((index_of d Job name ≡ None) × (fault ≡ UnknownName)) ⊎ ((index_of d Job name ≢ None) × RefusesCommand d text fault)
 
 -- a job's line is refused: the job isn't declared, or its command is refused
 abbrev pub RefusesJob : Declared → List ℕ → LineFault → Type 0
@@ -101,6 +110,20 @@ declared_by d (AppDeclared name) = record d { apps = d.apps ++ name ∷ [] }
 declared_by d (JobDeclared name app) = record d { jobs = d.jobs ++ name ∷ []; job_apps = d.job_apps ++ app ∷ [] }
 declared_by d (GlobalDeclared name server) = record d { globals = d.globals ++ record { name = name; server = server } ∷ [] }
 declared_by d (TimeDeclared setting ticks) = record d { times = with_time d.times setting ticks }
+
+-- a declaration of a name stays within its kind's limit
+abbrev pub HasRoomFor : Declared → Declaration → Type 0
+HasRoomFor d (ServerDeclared name) = HasRoom d Server
+HasRoomFor d (AppDeclared name) = HasRoom d App
+HasRoomFor d (JobDeclared name app) = HasRoom d Job
+HasRoomFor d (GlobalDeclared name server) = Unit {0}
+HasRoomFor d (TimeDeclared setting ticks) = Unit {0}
+
+-- a line may be taken
+abbrev pub MayTake : Declared → Line → Type 0
+MayTake d Nothing = Unit {0}
+MayTake d (Declares declaration) = HasRoomFor d declaration
+MayTake d (Asks todo) = Unit {0}
 
 -- what is declared behind a line; a line that asks for something closes the declarations
 abbrev pub behind : Declared → Line → Declared
@@ -198,6 +221,12 @@ RefusesScript text (BadLine line kind) = HasBadLine text line (Bad kind)
 RefusesScript text (UnknownInScript line) = HasBadLine text line UnknownName
 RefusesScript text TooManyLines = LINE_LIMIT < length (script_lines text)
 RefusesScript text (NoMemory error) = Unit {0}
+
+-- what a script is refused for, by the refusal of its line with this number
+abbrev pub error_at : ℕ → LineFault → ScriptError
+error_at line (Bad kind) = BadLine line kind
+error_at line UnknownName = UnknownInScript line
+error_at line (Memory error) = NoMemory error
 
 -- the indexes that a line names are declared, and a command is within its limits
 abbrev pub TodoMay : Layout → Todo → Type 0

@@ -34,15 +34,15 @@ IsHoldAct (Grant server session job mode key at) = Unit {0}
 IsHoldAct (Free server session job mode key) = Unit {0}
 IsHoldAct act = ⊥
 
--- a job gives up a hold or a request
-abbrev pub IsGiveUpAct : Act → Type 0
-IsGiveUpAct (GiveUp job line server mode key) = Unit {0}
-IsGiveUpAct (Quit job line server mode key) = Unit {0}
-IsGiveUpAct act = ⊥
+-- a grant reaches its job, or a job gives up a hold or a request
+abbrev pub IsJobLockAct : Act → Type 0
+IsJobLockAct (Granted job line server at) = Unit {0}
+IsJobLockAct (GiveUp job line server mode key) = Unit {0}
+IsJobLockAct (Quit job line server mode key) = Unit {0}
+IsJobLockAct act = ⊥
 
--- a grant that reaches a job, or an increment that is answered
+-- an increment is answered
 abbrev pub IsSumAct : Act → Type 0
-IsSumAct (Granted job line server at) = Unit {0}
 IsSumAct (Counted job line server at sum) = Unit {0}
 IsSumAct (NotWhole job line server at) = Unit {0}
 IsSumAct (Range job line server at) = Unit {0}

@@ -8,7 +8,7 @@ use crate::entry_printer::put_entries;
 use crate::job_acts::put_job_act;
 use crate::link_acts::put_link_act;
 use crate::list_acts::put_list_act;
-use crate::lock_acts::{put_give_up_act, put_hold_act};
+use crate::lock_acts::{put_hold_act, put_job_lock_act};
 use crate::printer::Printer;
 use crate::session_acts::put_session_act;
 use crate::sum_acts::put_sum_act;
@@ -35,9 +35,8 @@ fn put_act(to: &mut Printer, act: &Act) -> Result<(), AllocError>
             put_link_act(to, act)
         }
         Act::Grant { .. } | Act::Free { .. } => put_hold_act(to, act),
-        Act::GiveUp { .. } | Act::Quit { .. } => put_give_up_act(to, act),
-        Act::Granted { .. } | Act::Counted { .. } | Act::NotWhole { .. } | Act::Range { .. } =>
-            put_sum_act(to, act),
+        Act::Granted { .. } | Act::GiveUp { .. } | Act::Quit { .. } => put_job_lock_act(to, act),
+        Act::Counted { .. } | Act::NotWhole { .. } | Act::Range { .. } => put_sum_act(to, act),
         Act::Committed { .. }
         | Act::RolledBack { .. }
         | Act::Reached { .. }

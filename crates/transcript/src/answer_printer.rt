@@ -1,13 +1,13 @@
 //! The text of answers.
-ghost use Rattle.std.specs.Prelude.{◌≡◌, ◌++◌, OnOk, OnErr};
+ghost use Rattle.std.specs.Prelude.{◌≡◌, ◌++◌, codes, OnOk, OnErr};
 ghost use Rattle.std.specs.List.{flat_map};
 ghost use Rattle.global_text.specs.Printed.{Appends};
-ghost use Rattle.transcript.specs.AnswerText.{held_text, place_text, IsAnswerOf, IsAnswerLine, CanPrintAnswer};
+ghost use Rattle.transcript.specs.AnswerText.{held_text, place_text, why_word, IsAnswerOf, IsAnswerLine, CanPrintAnswer};
 
 use crate::printer::Printer;
 use crate::refusal_printer::{put_at, put_refusal};
 use crate::words::{via_word, why_word};
-use app_job::{Answer, Place};
+use app_job::{Answer, Place, Why};
 use plain_orders::{NameList, Names, Via};
 use std::alloc::AllocError;
 
@@ -60,6 +60,14 @@ fn put_placed(
     put_places(to, servers, mark, places)
 }
 
+/// What a command waits for.
+fn put_waiting(to: &mut Printer, why: Why) -> Result<(), AllocError>
+    ensures { OnOk result (to.new ≡ to.old ++ (codes "waiting " ++ why_word why)) }
+{
+    to.bytes(b"waiting ")?;
+    to.bytes(why_word(why))
+}
+
 /// An answer.
 fn put_answer(to: &mut Printer, names: &Names, answer: &Answer) -> Result<(), AllocError>
     requires { CanPrintAnswer answer.now }
@@ -96,10 +104,7 @@ fn put_answer(to: &mut Printer, names: &Names, answer: &Answer) -> Result<(), Al
         Answer::RolledBack { places } => {
             put_placed(to, servers, b"rolledback", b'@', places.as_slice())
         }
-        Answer::Waiting(why) => {
-            to.bytes(b"waiting ")?;
-            to.bytes(why_word(*why))
-        }
+        Answer::Waiting(why) => put_waiting(to, *why),
         Answer::Refused(refusal) => {
             to.bytes(b"refused ")?;
             put_refusal(to, servers, *refusal)

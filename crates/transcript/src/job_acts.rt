@@ -48,10 +48,8 @@ pub fn put_job_act(to: &mut Printer, act: &Act) -> Result<(), AllocError>
             w,
             item,
         } => {
-            to.words(
-                b"issue",
-                &[u64::from(*job), u64::from(*line), u64::from(*server), *w],
-            )?;
+            let numbers = [u64::from(*job), u64::from(*line), u64::from(*server), *w];
+            to.words(b"issue", &numbers)?;
             to.bytes(b" ")?;
             put_item(to, item)
         }
@@ -63,10 +61,8 @@ pub fn put_job_act(to: &mut Printer, act: &Act) -> Result<(), AllocError>
             via,
             question,
         } => {
-            to.words(
-                b"read",
-                &[u64::from(*job), u64::from(*line), u64::from(*server), *at],
-            )?;
+            let numbers = [u64::from(*job), u64::from(*line), u64::from(*server), *at];
+            to.words(b"read", &numbers)?;
             to.bytes(b" ")?;
             to.bytes(via_word(*via))?;
             to.bytes(b" ")?;

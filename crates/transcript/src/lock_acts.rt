@@ -2,7 +2,7 @@
 ghost use Rattle.std.specs.Prelude.{OnOk};
 ghost use Rattle.global_text.specs.Printed.{Appends};
 ghost use Rattle.transcript.specs.ActText.{IsActText, CanPrintAct};
-ghost use Rattle.transcript.specs.ActGroups.{IsHoldAct, IsGiveUpAct};
+ghost use Rattle.transcript.specs.ActGroups.{IsHoldAct, IsJobLockAct};
 
 use crate::key_printer::put_lock;
 use crate::printer::Printer;
@@ -44,13 +44,22 @@ pub fn put_hold_act(to: &mut Printer, act: &Act) -> Result<(), AllocError>
     }
 }
 
-/// A job gives up a hold or a request, without the line's LF.
-pub fn put_give_up_act(to: &mut Printer, act: &Act) -> Result<(), AllocError>
-    requires group { IsGiveUpAct act.now }
+/// A grant reaches its job, or a job gives up a hold or a request, without the line's LF.
+pub fn put_job_lock_act(to: &mut Printer, act: &Act) -> Result<(), AllocError>
+    requires group { IsJobLockAct act.now }
     requires can { CanPrintAct act.now }
     ensures { OnOk result (Appends (IsActText act.now) to.old to.new) }
 {
     match act {
+        Act::Granted {
+            job,
+            line,
+            server,
+            at,
+        } => to.words(
+            b"granted",
+            &[u64::from(*job), u64::from(*line), u64::from(*server), *at],
+        ),
         Act::GiveUp {
             job,
             line,
@@ -58,10 +67,8 @@ pub fn put_give_up_act(to: &mut Printer, act: &Act) -> Result<(), AllocError>
             mode,
             key,
         } => {
-            to.words(
-                b"giveup",
-                &[u64::from(*job), u64::from(*line), u64::from(*server)],
-            )?;
+            let numbers = [u64::from(*job), u64::from(*line), u64::from(*server)];
+            to.words(b"giveup", &numbers)?;
             to.bytes(b" ")?;
             put_lock(to, *mode, key)
         }
@@ -72,10 +79,8 @@ pub fn put_give_up_act(to: &mut Printer, act: &Act) -> Result<(), AllocError>
             mode,
             key,
         } => {
-            to.words(
-                b"quit",
-                &[u64::from(*job), u64::from(*line), u64::from(*server)],
-            )?;
+            let numbers = [u64::from(*job), u64::from(*line), u64::from(*server)];
+            to.words(b"quit", &numbers)?;
             to.bytes(b" ")?;
             put_lock(to, *mode, key)
         }

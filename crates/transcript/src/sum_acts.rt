@@ -1,4 +1,4 @@
-//! Grants that reach jobs, and increments that are answered.
+//! Answers to increments.
 ghost use Rattle.std.specs.Prelude.{OnOk};
 ghost use Rattle.global_text.specs.Printed.{Appends};
 ghost use Rattle.transcript.specs.ActText.{IsActText};
@@ -8,21 +8,12 @@ use crate::printer::Printer;
 use plain_orders::Act;
 use std::alloc::AllocError;
 
-/// A grant that reaches a job, or an increment that is answered, without its LF.
+/// The answer to an increment, without the line's LF.
 pub fn put_sum_act(to: &mut Printer, act: &Act) -> Result<(), AllocError>
     requires { IsSumAct act.now }
     ensures { OnOk result (Appends (IsActText act.now) to.old to.new) }
 {
     match act {
-        Act::Granted {
-            job,
-            line,
-            server,
-            at,
-        } => to.words(
-            b"granted",
-            &[u64::from(*job), u64::from(*line), u64::from(*server), *at],
-        ),
         Act::Counted {
             job,
             line,

@@ -1,7 +1,7 @@
 use Rattle.std.proofs.Common.{refl}
 use Rattle.std.proofs.lemmas.Bool.{iff_false}
 use Rattle.global_text.proofs.NodeParts.{no-name}
-use Rattle.global_text.proofs.node_reader.take_name.Goals as goal
+use Rattle.global_text.proofs.node_front.take_name.Goals as goal
 
 pub returns-clause-none : goal.returns-clause-none
 returns-clause-none c = (
