@@ -41,12 +41,12 @@ fn signed_number_of(word: &[u8]) -> Option<i64>
     let Ok(text) = str::from_utf8(word) else {
         return None;
     };
-    let Ok(number) = text.parse::<i64>() else {
+    let Ok(amount) = text.parse::<i64>() else {
         return None;
     };
     let mut buffer = Buffer::new();
-    if is_same(word, buffer.format(number).as_bytes()) {
-        Some(number)
+    if is_same(word, buffer.format(amount).as_bytes()) {
+        Some(amount)
     } else {
         None
     }
