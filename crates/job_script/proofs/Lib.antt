@@ -1,3 +1,15 @@
+pub mod WordLaws
+pub mod FaultLaws
+pub mod PartLaws
+pub mod PartFaults
+pub mod NodeFaults
+pub mod RowLaws
+pub mod TableLaws
+pub mod LineLaws
+pub mod ScriptLaws
+pub mod TextBytes
+pub mod CommandLimits
+pub mod ScriptLimits
 pub mod DeclarationLemmas
 pub mod FirstWordLemmas
 pub mod LineLemmas

@@ -14,6 +14,7 @@ mod flag_parts;
 mod global;
 mod kind_names;
 mod known_front;
+mod laws;
 mod limits;
 mod line;
 mod line_end;
@@ -39,6 +40,7 @@ mod value_part;
 mod word_end;
 
 pub use declared_line::{DeclaredLine, DeclaredLines, DeclaringWord};
+pub use laws::{scripts_are_read_in_one_way, scripts_may_run};
 pub use limits::LINE_LIMIT;
 pub use line_kind::LineKind;
 pub use script::Script;
