@@ -1,5 +1,5 @@
 //! Numbers among the parts of a line.
-ghost use Rattle.std.specs.Prelude.{◌≡◌, ◌≢◌, ℕ, ◌<◌, ◌≤◌, ◌^◌, ◌⊎◌, [], ℤ, unsigned_abs, IfOk, IfErr, IfSome, IfNone};
+ghost use Rattle.std.specs.Prelude.{◌≡◌, ◌≢◌, ◌↔◌, ℕ, ◌<◌, ◌≤◌, ◌^◌, ◌⊎◌, [], ℤ, unsigned_abs, IsTrue, IfOk, IfErr, IfSome, IfNone};
 ghost use Rattle.std.specs.Fmt.{decimal, signed_decimal};
 ghost use Rattle.std.specs.Int.Signed.{mag};
 ghost use Rattle.job_script.specs.Words.{IsAhead};
@@ -14,6 +14,14 @@ use std::str;
 /// The largest amount of an increment has 18 digits.
 const AMOUNT_LIMIT: u64 = 1_000_000_000_000_000_000;
 
+/// Whether a word is this number's text.
+fn is_text_of(word: &[u8], number: u64) -> bool
+    ensures { IsTrue result ↔ (word.now ≡ decimal number) }
+{
+    let mut buffer = Buffer::new();
+    is_same(word, buffer.format(number).as_bytes())
+}
+
 /// The number that a word spells, without a sign or a 0 in front.
 fn number_of(word: &[u8]) -> Option<u64>
     ensures some { IfSome result (λ n. (word.now ≡ decimal n) × (n < 2 ^ 64)) }
@@ -25,8 +33,7 @@ fn number_of(word: &[u8]) -> Option<u64>
     let Ok(number) = text.parse::<u64>() else {
         return None;
     };
-    let mut buffer = Buffer::new();
-    if is_same(word, buffer.format(number).as_bytes()) {
+    if is_text_of(word, number) {
         Some(number)
     } else {
         None
@@ -41,12 +48,12 @@ fn signed_number_of(word: &[u8]) -> Option<i64>
     let Ok(text) = str::from_utf8(word) else {
         return None;
     };
-    let Ok(number) = text.parse::<i64>() else {
+    let Ok(amount) = text.parse::<i64>() else {
         return None;
     };
     let mut buffer = Buffer::new();
-    if is_same(word, buffer.format(number).as_bytes()) {
-        Some(number)
+    if is_same(word, buffer.format(amount).as_bytes()) {
+        Some(amount)
     } else {
         None
     }

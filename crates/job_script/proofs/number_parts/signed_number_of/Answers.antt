@@ -15,7 +15,7 @@ returns-in_default-parse-clause-none c z low e =
 pub returns-else-is_same-clause-none : goal.returns-else-is_same-clause-none
 returns-else-is_same-clause-none c z low e =
     let read : c.parse.result ≡ Ok z = parse-signed_decimal w64 z c.in-Ok.text.now c.parse.result (fits-low z low) (mag-low z low) (c.in-Ok.ensures.cases.0 ∙ e) c.parse.ensures.value.0 in
-    let same : z ≡ c.in-Ok-parse.number = cc (read, c.in-Ok-parse.is) in
-    let text : c.as_bytes.result.now ≡ signed_decimal c.in-Ok-parse.number = search rules in
+    let same : z ≡ c.in-Ok-parse.amount = cc (read, c.in-Ok-parse.is) in
+    let text : c.as_bytes.result.now ≡ signed_decimal c.in-Ok-parse.amount = search rules in
     let yes : IsTrue c.is_same.result = c.is_same.ensures.1 (e ∙ ap signed_decimal same ∙ sym text) in
     absurd (cc (yes, c.if-is_same.false))
