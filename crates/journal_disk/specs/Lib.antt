@@ -1,0 +1,6 @@
+pub mod Batches
+pub mod Errors
+pub mod Moments
+pub mod Parts
+pub mod Settled
+pub mod Stands
