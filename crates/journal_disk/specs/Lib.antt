@@ -3,4 +3,5 @@ pub mod Errors
 pub mod Moments
 pub mod Parts
 pub mod Settled
+pub mod Staged
 pub mod Stands

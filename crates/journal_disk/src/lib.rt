@@ -5,6 +5,8 @@
 //! wanting, nor how many device calls are made: four a batch.
 #![tactic(auto)]
 
+mod batch_writer;
+mod gates;
 mod journal_error;
 mod record_size;
 
