@@ -5,9 +5,12 @@
 //! wanting, nor how many device calls are made: four a batch.
 #![tactic(auto)]
 
+mod batch_reader;
 mod batch_writer;
 mod gates;
 mod journal_error;
+mod journal_reader;
+mod read_entries;
 mod record_size;
 
 pub use journal_error::JournalError;
