@@ -7,9 +7,10 @@ use Rattle.plain_orders.specs.declared.entry.Entry.{Entry}
 use Rattle.plain_orders.specs.Ordered.{IsOrdered}
 use Rattle.field_bytes.specs.Fields.{u32_bytes}
 use Rattle.field_bytes.proofs.PrefixFree.{u32_prefix_free, one-front}
-use Rattle.journal_disk.specs.Batches.{Batch, records, body_length, batch_bytes, bytes_of, entries_of, FillsBatch, IsBatch, AreBatches}
+use Rattle.journal_disk.specs.Batches.{Batch, records, body_length, batch_bytes, bytes_of, entries_of, FitsBatch, IsBatch, AreBatches}
 use Rattle.journal_disk.specs.Stands.{IsLow, AreLow, HasBadGate}
 use Rattle.journal_disk.specs.Reading.{TakesRecords, NoRecordsMay, TakesBody, NoBodyAhead, TakesBatch, NoBatchAhead, HasGate}
+use Rattle.journal_disk.proofs.Filling.{All_append}
 use Rattle.journal_disk.proofs.RecordRows.{records_some}
 use Rattle.journal_disk.proofs.Staging.{batch_length}
 
@@ -20,11 +21,8 @@ pub batch_here : (before now : List Entry) (bytes body rest : List ℕ) → Take
 batch_here before now bytes body rest took read = record {
   entries = read.entries;
   batch = record {
-    fills = record {
-      some = some read.entries read.all;
-      short = omega (arith, took.short, ap length read.all);
-      have_records = read.have_records;
-    };
+    fits = record { some = some read.entries read.all; short = omega (arith, took.short, ap length read.all) };
+    have_records = read.have_records;
     ordered = subst IsOrdered read.added read.ordered;
   };
   low = read.low;
@@ -39,14 +37,14 @@ batch_here before now bytes body rest took read = record {
 
 pub no_body_no_batch : (before : List Entry) (bytes : List ℕ) → NoBodyAhead bytes → NoBatchAhead before bytes
 no_body_no_batch before bytes none es next more batch low e =
-    none (records es) next more (records_some es batch.fills.some) batch.fills.short (e ∙ batch_split es (next ∷ more))
+    none (records es) next more (records_some es batch.fits.some) batch.fits.short (e ∙ batch_split es (next ∷ more))
 
 pub other_records_no_batch : (before : List Entry) (bytes body rest : List ℕ) → TakesBody bytes body rest → NoRecordsMay before body → NoBatchAhead before bytes
 other_records_no_batch before bytes body rest took none es next more batch low e =
-    let short = batch.fills.short in
+    let short = batch.fits.short in
     let lengths = u32_prefix_free (1 + length body) (body_length es) ((1 ∷ body) ++ rest) ((1 ∷ records es) ++ next ∷ more) (omega (arith, took.short)) (omega arith) (sym took.split ∙ e ∙ batch_split es (next ∷ more)) in
     let bodies = one-front (1 ∷ body) (1 ∷ records es) rest (next ∷ more) (omega (arith, lengths.0)) lengths.1 in
-    none es batch.fills.have_records batch.ordered low (cc bodies.0)
+    none es batch.have_records batch.ordered low (cc bodies.0)
 
 pub AreBatches_push : (before : List Entry) (batches : List Batch) (gate : ℕ) (es : List Entry) → AreBatches before batches → gate ≢ 0 → IsBatch (before ++ entries_of batches) es
     → AreBatches before (batches ++ record { gate = gate; entries = es } ∷ [])
@@ -65,10 +63,6 @@ bytes_of_push batches gate es =
 pub entries_of_push : (batches : List Batch) (gate : ℕ) (es : List Entry) → entries_of (batches ++ record { gate = gate; entries = es } ∷ []) ≡ entries_of batches ++ es
 entries_of_push batches gate es =
     flat_map-append (λ (b : Batch). b.entries) batches (record { gate = gate; entries = es } ∷ []) ∙ ap (λ fs. entries_of batches ++ fs) (append-nil es)
-
-pub All_append : {X : Type 0} (P : X → Type 0) (xs ys : List X) → AllByRecursion P xs → AllByRecursion P ys → AllByRecursion P (xs ++ ys)
-All_append P [] ys all more = more
-All_append P (x ∷ xs) ys all more = (all.0, All_append P xs ys all.1 more)
 
 -- the batches so far, and what is left, which begins with a gate
 pub record AreReadingBatches (bytes : List ℕ) (list : List Entry) (rest : List ℕ) : Type 0 where

@@ -5,7 +5,7 @@ use Rattle.std.proofs.lemmas.Grind.{flat_map-append, take_at_read}
 use Rattle.std.specs.List.{flat_map, AllByRecursion}
 use Rattle.plain_orders.specs.declared.entry.Entry.{Entry}
 use Rattle.journal_records.specs.Records.{entry_bytes, IsRecord}
-use Rattle.journal_disk.specs.Batches.{records, body_length, FillsBatch}
+use Rattle.journal_disk.specs.Batches.{records, body_length, FitsBatch}
 use Rattle.journal_disk.specs.Parts.{joined, IsFull, AreFilled, IsSplit}
 
 -- one entry more
@@ -28,6 +28,10 @@ pub All_push : {X : Type 0} (P : X → Type 0) (xs : List X) (x : X) → AllByRe
 All_push P [] x all p = (p, tt)
 All_push P (y ∷ ys) x all p = (all.0, All_push P ys x all.1 p)
 
+pub All_append : {X : Type 0} (P : X → Type 0) (xs ys : List X) → AllByRecursion P xs → AllByRecursion P ys → AllByRecursion P (xs ++ ys)
+All_append P [] ys all more = more
+All_append P (x ∷ xs) ys all more = (all.0, All_append P xs ys all.1 more)
+
 pub records_next : (es : List Entry) (i : ℕ) (e : Entry) → i < length es → records (take (i + 1) es) ≡ records (take i es) ++ entry_bytes (get_or es i e)
 records_next es i e lt = ap records (take_at_read es i e lt).1 ∙ records_push (take i es) (get_or es i e)
 
@@ -39,15 +43,15 @@ pub ruleset recorded = (records_next, have_records_next)
 -- batches that are filled where these entries follow
 abbrev pub AreFilledTo : List (List Entry) → List Entry → Type 0
 AreFilledTo [] rest = Unit {0}
-AreFilledTo (p ∷ parts) rest = FillsBatch p × IsFull p (joined parts ++ rest) × AreFilledTo parts rest
+AreFilledTo (p ∷ parts) rest = FitsBatch p × IsFull p (joined parts ++ rest) × AreFilledTo parts rest
 
-pub filled_push : (parts : List (List Entry)) (p rest : List Entry) → AreFilledTo parts (p ++ rest) → FillsBatch p → IsFull p rest → AreFilledTo (parts ++ p ∷ []) rest
-filled_push [] p rest filled fills full = (fills, full, tt)
-filled_push (q ∷ parts) p rest filled fills full = (
+pub filled_push : (parts : List (List Entry)) (p rest : List Entry) → AreFilledTo parts (p ++ rest) → FitsBatch p → IsFull p rest → AreFilledTo (parts ++ p ∷ []) rest
+filled_push [] p rest filled fits full = (fits, full, tt)
+filled_push (q ∷ parts) p rest filled fits full = (
   filled.0,
   subst (IsFull q) (sym (ap (λ es. es ++ rest) (flat_map-append (λ (x : List Entry). x) parts (p ∷ []))
     ∙ append_assoc (joined parts) (joined (p ∷ [])) rest ∙ ap (λ (es : List Entry). joined parts ++ (es ++ rest)) (append-nil p))) filled.1,
-  filled_push parts p rest filled.2 fills full,
+  filled_push parts p rest filled.2 fits full,
 )
 
 pub filled_all : (parts : List (List Entry)) → AreFilledTo parts [] → AreFilled parts

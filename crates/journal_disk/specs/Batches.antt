@@ -31,15 +31,15 @@ bytes_of batches = flat_map (λ (b : Batch). b.gate ∷ batch_bytes b.entries) b
 abbrev pub entries_of : List Batch → List Entry
 entries_of batches = flat_map (λ (b : Batch). b.entries) batches
 
--- these entries may be a batch: at least one, each with a record, and no more bytes than a batch may have
-pub record FillsBatch (entries : List Entry) : Type 0 where
+-- at least one entry, and no more bytes than a batch may have
+pub record FitsBatch (entries : List Entry) : Type 0 where
   pub some : 0 < length entries
   pub short : body_length entries ≤ 16777216
-  pub have_records : AllByRecursion IsRecord entries
 
--- and they may be one behind these entries, which they continue as an ordered list
+-- these entries are a batch that may stand behind those: each has a record, and they go on as an ordered list
 pub record IsBatch (before entries : List Entry) : Type 0 where
-  pub fills : FillsBatch entries
+  pub fits : FitsBatch entries
+  pub have_records : AllByRecursion IsRecord entries
   pub ordered : IsOrdered (before ++ entries)
 
 -- batches in a row behind these entries, each well formed and behind an open gate

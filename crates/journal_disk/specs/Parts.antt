@@ -2,7 +2,7 @@
 use Rattle.std.specs.Prelude.{◌≡◌, ℕ, ◌+◌, ◌<◌, List, [], ◌∷◌, ◌++◌, length, take}
 use Rattle.std.specs.List.{flat_map}
 use Rattle.plain_orders.specs.declared.entry.Entry.{Entry}
-use Rattle.journal_disk.specs.Batches.{body_length, FillsBatch}
+use Rattle.journal_disk.specs.Batches.{body_length, FitsBatch}
 use Rattle.journal_disk.specs.Stands.{Stands}
 
 -- the entries of batches in a row
@@ -17,7 +17,7 @@ IsFull entries (e ∷ es) = 16777216 < body_length (entries ++ e ∷ [])
 -- each of these is a batch that is full where another follows
 abbrev pub AreFilled : List (List Entry) → Type 0
 AreFilled [] = Unit {0}
-AreFilled (p ∷ parts) = FillsBatch p × IsFull p (joined parts) × AreFilled parts
+AreFilled (p ∷ parts) = FitsBatch p × IsFull p (joined parts) × AreFilled parts
 
 -- the entries of a part in batches, in order
 pub record IsSplit (part : List Entry) (parts : List (List Entry)) : Type 0 where

@@ -1,5 +1,6 @@
 -- What a journal needs of its disk before it appends.
-use Rattle.std.specs.Prelude.{◌≡◌, ℕ, List, [], ◌∷◌, ◌++◌, length, Bool, Option, IfSome}
+use Rattle.std.specs.Prelude.{◌≡◌, ℕ, List, [], ◌∷◌, ◌++◌, length, Bool, Option}
+use Rattle.std.specs.Option.{ForSome}
 use Rattle.plain_orders.specs.declared.entry.Entry.{Entry}
 use Rattle.outer_disk.specs.Disk.{Only}
 use Rattle.journal_disk.specs.Batches.{Batch, bytes_of, entries_of, AreBatches}
@@ -20,8 +21,8 @@ pub record IsResting (bytes : List ℕ) (gate : ℕ) (list : List Entry) : Type 
 
 -- where a disk tells its bytes, they rest so, and a crash leaves nothing else
 abbrev pub IsSettled : Option (List ℕ) → (List ℕ → Type 0) → ℕ → List Entry → Type 0
-IsSettled told may_leave gate list = IfSome told (λ bytes. IsResting bytes gate list × Only bytes may_leave)
+IsSettled told may_leave gate list = ForSome told (λ bytes. IsResting bytes gate list × Only bytes may_leave)
 
 -- where a disk tells its bytes, they and all that a crash may leave stand for the list
 abbrev pub EachStands : Option (List ℕ) → (List ℕ → Type 0) → List Entry → Type 0
-EachStands told may_leave list = IfSome told (λ bytes. Stands bytes list × ((c : List ℕ) → may_leave c → Stands c list))
+EachStands told may_leave list = ForSome told (λ bytes. Stands bytes list × ((c : List ℕ) → may_leave c → Stands c list))

@@ -1,7 +1,8 @@
 -- Batches that are to be written, as bytes.
 use Rattle.std.specs.Prelude.{◌≡◌, ℕ, List, [], ◌∷◌, ◌++◌, length, map}
-use Rattle.std.specs.List.{flat_map}
+use Rattle.std.specs.List.{flat_map, AllByRecursion}
 use Rattle.plain_orders.specs.declared.entry.Entry.{Entry}
+use Rattle.journal_records.specs.Records.{IsRecord}
 use Rattle.journal_disk.specs.Batches.{batch_bytes}
 use Rattle.journal_disk.specs.Parts.{IsSplit}
 
@@ -18,4 +19,5 @@ pub record ArePieces (parts : List (List Entry)) (bytes sizes : List ℕ) : Type
 pub record IsStaged (part : List Entry) (bytes sizes : List ℕ) : Type 0 where
   pub parts : List (List Entry)
   pub split : IsSplit part parts
+  pub have_records : AllByRecursion IsRecord part
   pub pieces : ArePieces parts bytes sizes

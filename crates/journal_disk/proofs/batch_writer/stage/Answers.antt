@@ -4,7 +4,7 @@ use Rattle.std.proofs.lemmas.Bool.Decides.{nat_tests}
 use Rattle.std.proofs.lemmas.List.{nil_from_length}
 use Rattle.std.proofs.lemmas.List.Elements.{All-drop}
 use Rattle.plain_orders.specs.declared.entry.Entry.{Entry}
-use Rattle.journal_disk.specs.Batches.{body_length, FillsBatch}
+use Rattle.journal_disk.specs.Batches.{body_length, FitsBatch}
 use Rattle.journal_disk.specs.Parts.{IsFull}
 use Rattle.journal_disk.proofs.Staging.{IsStaging, staging_none, staging_push, staging_all}
 use Rattle.journal_disk.proofs.batch_writer.stage.Goals as goal
@@ -27,14 +27,13 @@ loop-rest-preserved c =
     let some = c.front_batch-front.ensures.count in
     let e : rest ≡ p ++ c.split_at.result.1.now = rw (front, back) (sym (take-append-drop n rest)) in
     let long : c.front_batch-front.result.body ≡ body_length p = c.front_batch-front.ensures.body ∙ ap body_length (sym front) in
-    let fills : FillsBatch p = record {
+    let fits : FitsBatch p = record {
       some = omega (arith, c.split_at.ensures.front_len);
       short = omega (arith, c.front_batch-front.ensures.short);
-      have_records = c.in_ok-put_batch.ensures.have_records;
     } in
     let full : IsFull p c.split_at.result.1.now = rw (front, back) c.front_batch-front.ensures.full in
     record {
-      staging = staging_push c.args.part.now rest p _ _ _ _ _ c.front_batch-front.result.body c.loop-rest.invariant.staging e fills full long c.in_ok-put_batch.ensures.ok c.in_ok-push.ensures.items;
+      staging = staging_push c.args.part.now rest p _ _ _ _ _ c.front_batch-front.result.body c.loop-rest.invariant.staging e fits c.in_ok-put_batch.ensures.have_records full long c.in_ok-put_batch.ensures.ok c.in_ok-push.ensures.items;
       ops = subst (All HasRecordOp) (sym back) (All-drop HasRecordOp n rest c.loop-rest.invariant.ops);
     }
 
