@@ -6,3 +6,4 @@ pub mod Reading
 pub mod Settled
 pub mod Staged
 pub mod Stands
+pub mod Writing

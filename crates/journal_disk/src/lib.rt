@@ -7,6 +7,8 @@
 
 mod batch_reader;
 mod batch_writer;
+mod disk_reader;
+mod gate_writer;
 mod gates;
 mod journal_error;
 mod journal_reader;
