@@ -1,5 +1,5 @@
 -- How what a crash leaves goes on from call to call.
-use Rattle.std.proofs.Common.{◌≡◌, inl, inr, ⊎_elim, ℕ, ◌+◌, ◌≤◌, List, Option, Some, None, IfSome, sym, ◌∙◌, subst, arith, length, take, drop}
+use Rattle.std.proofs.Common.{◌≡◌, inl, inr, ⊎_elim, ℕ, ◌+◌, ◌≤◌, List, Option, Some, None, IfSome, option_map, refl, ap, sym, ◌∙◌, subst, arith, length, take, drop}
 use Rattle.std.specs.Option.{ForSome}
 use Rattle.outer_io.specs.Causes.{Rose}
 use Rattle.outer_disk.specs.Disk.{Elapses, LeavesOnly, LeavesNoMore, Follows, Only, IsSynced, Matched}
@@ -12,6 +12,15 @@ at_some o x P if_some e = subst (λ (v : Option (List ℕ)). IfSome v P) e if_so
 -- a step between two values, at both
 pub at_both : (step : List ℕ → List ℕ → Type 0) (o p : Option (List ℕ)) (x y : List ℕ) → Matched step o p → o ≡ Some x → p ≡ Some y → step x y
 at_both step o p x y m e f = subst (λ (v : Option (List ℕ)). Matched step (Some x) v) f (subst (λ (v : Option (List ℕ)). Matched step v p) e m)
+
+-- what tells nothing goes on so
+pub matched_none : (step : List ℕ → List ℕ → Type 0) (o p : Option (List ℕ)) → Matched step o p → o ≡ None → p ≡ None
+matched_none step None None m e = refl
+matched_none step (Some x) p m e = absurd cc
+matched_none step None (Some y) m e = absurd m
+
+pub mapped_none : (f : List ℕ → List ℕ) (o p : Option (List ℕ)) → p ≡ option_map f o → o ≡ None → p ≡ None
+mapped_none f o p e none = e ∙ ap (λ (v : Option (List ℕ)). option_map f v) none
 
 -- a count that rose in a part of a call rose in it
 pub rose_later : (a b c : ℕ) → Rose a b → b ≤ c → Rose a c

@@ -1,5 +1,6 @@
 pub mod Batches
 pub mod Errors
+pub mod Laws
 pub mod Moments
 pub mod Parts
 pub mod Reading

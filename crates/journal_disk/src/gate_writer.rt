@@ -1,4 +1,4 @@
-ghost use Rattle.std.specs.Prelude.{◌≡◌, ◌+◌, ◌<◌, ◌≤◌, ◌^◌, ◌++◌, ◌∷◌, [], Some, length, take, OnOk, IfErr};
+ghost use Rattle.std.specs.Prelude.{◌≡◌, ◌+◌, ◌<◌, ◌≤◌, ◌^◌, ◌++◌, ◌∷◌, [], Some, None, length, take, OnOk, IfErr};
 ghost use Rattle.std.specs.Option.{ForSome};
 ghost use Rattle.outer_io.specs.Causes.{Rose};
 ghost use Rattle.outer_disk.specs.Disk.{Cut, Only, LeavesOnly};
@@ -9,6 +9,7 @@ use outer_disk::Disk;
 use outer_io::Stop;
 
 /// Cuts a journal behind its closed gate. After an `Err` some of what stood there may be left.
+#[tactic(auto, using(crate::proofs::Moments::matched_none))]
 pub(crate) fn cut_behind<D: Disk>(disk: &mut D, gate: u64) -> Result<(), Stop>
     requires number { gate + 1 < 2 ^ 64 }
     requires within { ForSome (D.told disk.old) (λ bytes. gate + 1 ≤ length bytes) }
@@ -18,6 +19,7 @@ pub(crate) fn cut_behind<D: Disk>(disk: &mut D, gate: u64) -> Result<(), Stop>
     ensures read { ForSome (D.told disk.old) (λ old. ForSome (D.told disk.new) (Cut (gate + 1) old)) }
     ensures any_moment { ForSome (D.told disk.old) (λ old. Only old (D.may_leave disk.old)
         → LeavesOnly D.moment D.left_since disk.old disk.new (Cut (gate + 1) old)) }
+    ensures silent { D.told disk.old ≡ None → D.told disk.new ≡ None }
     ensures faults { D.faults disk.old ≤ D.faults disk.new }
     ensures failed { IfErr result (λ stop. stop ≡ Stop.Failed
         → Rose (D.faults disk.old) (D.faults disk.new)) }
@@ -27,6 +29,7 @@ pub(crate) fn cut_behind<D: Disk>(disk: &mut D, gate: u64) -> Result<(), Stop>
 }
 
 /// Puts a closed gate on a disk that has at most one byte. After an `Err` it still has at most one.
+#[tactic(auto, using(crate::proofs::Moments::matched_none))]
 pub(crate) fn put_gate<D: Disk>(disk: &mut D, size: u64) -> Result<(), Stop>
     requires within { ForSome (D.told disk.old) (λ bytes. (size ≡ length bytes) × IsShort bytes) }
     ensures ok { OnOk result (ForSome (D.told disk.old) (λ bytes.
@@ -34,6 +37,7 @@ pub(crate) fn put_gate<D: Disk>(disk: &mut D, size: u64) -> Result<(), Stop>
     ensures read { ForSome (D.told disk.old) (λ old. ForSome (D.told disk.new) IsShort) }
     ensures any_moment { ForSome (D.told disk.old) (λ old. Only old (D.may_leave disk.old)
         → LeavesOnly D.moment D.left_since disk.old disk.new IsShort) }
+    ensures silent { D.told disk.old ≡ None → D.told disk.new ≡ None }
     ensures faults { D.faults disk.old ≤ D.faults disk.new }
     ensures failed { IfErr result (λ stop. stop ≡ Stop.Failed
         → Rose (D.faults disk.old) (D.faults disk.new)) }
@@ -45,6 +49,7 @@ pub(crate) fn put_gate<D: Disk>(disk: &mut D, size: u64) -> Result<(), Stop>
 
 /// Writes a batch and the closed gate behind it, and opens the gate in front once they are on the disk. After
 /// an `Err` that gate may be open or closed, and the batch counts as a whole or not at all.
+#[tactic(auto, using(crate::proofs::Moments::matched_none))]
 pub(crate) fn write_batch<D: Disk>(disk: &mut D, gate: u64, batch: &[u8]) -> Result<(), Stop>
     requires some { 0 < length batch.now }
     requires number { gate + 1 < 2 ^ 64 }
@@ -56,6 +61,7 @@ pub(crate) fn write_batch<D: Disk>(disk: &mut D, gate: u64, batch: &[u8]) -> Res
         ForSome (D.told disk.new) (HasGateOrBatch gate old batch.now)) }
     ensures any_moment { ForSome (D.told disk.old) (λ old. Only old (D.may_leave disk.old)
         → LeavesOnly D.moment D.left_since disk.old disk.new (HasGateOrBatch gate old batch.now)) }
+    ensures silent { D.told disk.old ≡ None → D.told disk.new ≡ None }
     ensures faults { D.faults disk.old ≤ D.faults disk.new }
     ensures failed { IfErr result (λ stop. stop ≡ Stop.Failed
         → Rose (D.faults disk.old) (D.faults disk.new)) }

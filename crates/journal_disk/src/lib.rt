@@ -12,7 +12,11 @@ mod gate_writer;
 mod gates;
 mod journal_error;
 mod journal_reader;
+mod laws;
 mod read_entries;
 mod record_size;
 
 pub use journal_error::JournalError;
+pub use laws::{
+    a_bad_gate_is_in_no_journal, bytes_stand_for_one_list, the_first_bad_gate_is_one,
+};
