@@ -1,4 +1,4 @@
-ghost use Rattle.std.specs.Prelude.{◌≡◌, ◌≢◌, ◌<◌, ℕ, Err, length, IfOk};
+ghost use Rattle.std.specs.Prelude.{◌≡◌, ◌≢◌, ◌+◌, ◌^◌, ◌<◌, ℕ, Err, length, IfOk};
 ghost use Rattle.plain_orders.specs.Ordered.{IsOrdered};
 ghost use Rattle.journal_disk.specs.Stands.{AreLow, HasBadGate};
 ghost use Rattle.journal_disk.specs.Reading.{HasGate, IsRead};
@@ -22,6 +22,7 @@ pub(crate) struct ReadJournal {
 fn read_batches(alloc: Global, bytes: &[u8]) -> Result<ReadJournal, JournalError>
     requires { 1 < length bytes.now }
     ensures ok { IfOk result (λ read. HasGate bytes.now read.entries read.gate) }
+    ensures gate { IfOk result (λ read. read.gate + 1 < 2 ^ 64) }
     ensures ordered { IfOk result (λ read. IsOrdered read.entries) }
     ensures low { IfOk result (λ read. AreLow read.entries) }
     ensures not_a_journal { (place : ℕ) → result ≡ Err (JournalError.NotAJournal place)
@@ -49,6 +50,7 @@ fn read_batches(alloc: Global, bytes: &[u8]) -> Result<ReadJournal, JournalError
 /// Reads what bytes stand for, up to the first bad gate.
 pub(crate) fn read_journal(alloc: Global, bytes: &[u8]) -> Result<ReadJournal, JournalError>
     ensures ok { IfOk result (λ read. IsRead bytes.now read.entries read.gate) }
+    ensures gate { IfOk result (λ read. read.gate + 1 < 2 ^ 64) }
     ensures ordered { IfOk result (λ read. IsOrdered read.entries) }
     ensures low { IfOk result (λ read. AreLow read.entries) }
     ensures not_a_journal { (place : ℕ) → result ≡ Err (JournalError.NotAJournal place)

@@ -13,7 +13,9 @@ mod gates;
 mod journal_error;
 mod journal_reader;
 mod laws;
+mod part_writer;
 mod read_entries;
+mod recovery;
 mod record_size;
 
 pub use journal_error::JournalError;
