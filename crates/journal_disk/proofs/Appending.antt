@@ -20,6 +20,7 @@ use Rattle.journal_disk.specs.Moments.{AppendsWhole}
 use Rattle.journal_disk.proofs.BatchRows.{AreBatches_push, bytes_of_push, entries_of_push}
 use Rattle.journal_disk.proofs.Moments.{at_first, weaker, both}
 use Rattle.journal_disk.proofs.Settling.{resting_stands}
+use Rattle.journal_disk.proofs.Splits.{no_parts}
 use Rattle.journal_disk.proofs.Staging.{piece_length}
 
 -- these batches may stand in a row behind a list
@@ -251,3 +252,22 @@ module _ {D : Type 0} (moment : D → ℕ) (left_since : D → ℕ → List ℕ 
       let told_is = was.told_is in
       let e : was.held ≡ y = cc in
       subst (StandsWithSome list parts) e (some_done list parts was.done was.todo was.held was.all (resting_stands was.held gate (list ++ joined was.done) was.resting))
+
+  -- where nothing was written
+  pub whole_none : (first : D) (x : List ℕ) (list part : List Entry) (parts : List (List Entry)) (gate : ℕ) → told first ≡ Some x → IsSettled (told first) (may_leave first) gate list
+      → IsSplit part parts → ((c : List ℕ) → left_since first (moment first) c → may_leave first c) → AppendsWhole moment left_since told first first list part
+  whole_none first x list part parts gate e settled split only_now =
+      let at = settled x e in
+      let stands = subst (Stands x) (sym (append-nil list)) (resting_stands x gate list at.0) in
+      record {
+        parts = parts;
+        split = split;
+        read = λ y f. let same : x ≡ y = cc in subst (StandsWithSome list parts) same (some_done list parts [] parts x refl stands);
+        moments = at_first moment left_since may_leave first (StandsWithSome list parts) only_now
+            (λ c left. subst (StandsWithSome list parts) (sym (at.1 c left)) (some_done list parts [] parts x refl stands));
+      }
+
+-- an empty part has no batch
+pub no_sizes : (part : List Entry) (bytes sizes : List ℕ) → IsStaged part bytes sizes → part ≡ [] → sizes ≡ []
+no_sizes part bytes sizes staged e =
+    staged.pieces.sizes_are ∙ ap (λ (ps : List (List Entry)). map (λ (p : List Entry). length (piece p)) ps) (no_parts staged.parts staged.split.filled (staged.split.whole ∙ e))

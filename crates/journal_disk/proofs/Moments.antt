@@ -3,6 +3,7 @@ use Rattle.std.proofs.Common.{◌≡◌, inl, inr, ⊎_elim, ℕ, ◌+◌, ◌�
 use Rattle.std.specs.Option.{ForSome}
 use Rattle.outer_io.specs.Causes.{Rose}
 use Rattle.outer_disk.specs.Disk.{Elapses, LeavesOnly, LeavesNoMore, Follows, Only, IsSynced, Matched}
+use Rattle.journal_disk.specs.Moments.{HasSynced}
 use Rattle.outer_disk.proofs.Runs.{started, goes_on}
 
 -- what a clause says of the value, at the value
@@ -65,4 +66,14 @@ module _ {D : Type 0} (moment : D → ℕ) (left_since : D → ℕ → List ℕ 
     later = omega (arith, first.later, second.later);
     each = λ c left. ⊎_elim (λ past. first.each c past) (λ p. p) (second.before (moment old) c first.later left);
     before = λ t c le left. ⊎_elim (λ past. first.before t c le past) (λ p. inr p) (second.before t c (omega (arith, le, first.later)) left);
+  }
+
+  -- behind a first sync
+  pub once_synced : (old mid new : D) (P : List ℕ → Type 0) → OnlyNow old → Step old mid → LeavesNoMore (may_leave old) (may_leave mid) → Leaves mid new P → HasSynced moment left_since may_leave old new P
+  once_synced old mid new P only_now sync no_more on = record {
+    synced = moment mid;
+    from = sync.later;
+    to = on.later;
+    before = λ c left. ⊎_elim (λ past. inl (⊎_elim (only_now c) (no_more c) (sync.nothing_else (moment old) c (omega arith) past))) (λ p. inr p) (on.before (moment old) c sync.later left);
+    each = on.each;
   }

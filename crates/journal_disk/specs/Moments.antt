@@ -5,13 +5,13 @@ use Rattle.plain_orders.specs.declared.entry.Entry.{Entry}
 use Rattle.outer_disk.specs.Disk.{LeavesOnly}
 use Rattle.journal_disk.specs.Parts.{IsSplit, StandsWithSome}
 
--- From some moment of the call on, that behind a first sync, a crash leaves what has P. Before it a crash leaves
--- what it might have left as the call began.
+-- From some moment of the call on, that behind a first sync, a crash leaves what has P. One at an earlier moment
+-- leaves what it might have left as the call began, or what has P.
 pub record HasSynced {D : Type 0} (moment : D → ℕ) (left_since : D → ℕ → List ℕ → Type 0) (may_leave : D → List ℕ → Type 0) (old new : D) (P : List ℕ → Type 0) : Type 0 where
   pub synced : ℕ
   pub from : moment old ≤ synced
   pub to : synced ≤ moment new
-  pub before : (c : List ℕ) → left_since new (moment old) c → may_leave old c ⊎ left_since new synced c
+  pub before : (c : List ℕ) → left_since new (moment old) c → may_leave old c ⊎ P c
   pub each : (c : List ℕ) → left_since new synced c → P c
 
 -- the same, or the call ended before a first sync was done, and a crash leaves only what it might have left

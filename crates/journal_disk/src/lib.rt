@@ -10,6 +10,7 @@ mod batch_writer;
 mod disk_reader;
 mod gate_writer;
 mod gates;
+mod journal;
 mod journal_error;
 mod journal_reader;
 mod laws;
@@ -18,6 +19,7 @@ mod read_entries;
 mod recovery;
 mod record_size;
 
+pub use journal::Journal;
 pub use journal_error::JournalError;
 pub use laws::{
     a_bad_gate_is_in_no_journal, bytes_stand_for_one_list, the_first_bad_gate_is_one,
