@@ -1,5 +1,5 @@
 -- What a disk stands for while batches are written to it.
-use Rattle.std.proofs.Common.{◌≡◌, ◌≢◌, ◌⊎◌, inl, inr, ⊎_elim, ℕ, ◌+◌, ◌-◌, ◌<◌, ◌≤◌, List, [], ◌∷◌, ◌++◌, length, take, drop, get_or, map, Option, None, Some, refl, sym, ◌∙◌, ap, subst, arith, append_assoc, take-append-drop}
+use Rattle.std.proofs.Common.{◌≡◌, ◌⊎◌, inl, inr, ⊎_elim, ℕ, ◌+◌, ◌<◌, ◌≤◌, List, [], ◌∷◌, ◌++◌, length, take, drop, get_or, map, Option, None, Some, refl, sym, ◌∙◌, ap, subst, arith, append_assoc, take-append-drop}
 use Rattle.std.specs.Option.{ForSome}
 use Rattle.std.specs.List.{flat_map, AllByRecursion}
 use Rattle.std.proofs.lemmas.Bool.{cases_eq}
@@ -10,8 +10,8 @@ use Rattle.plain_orders.specs.Ordered.{IsOrdered}
 use Rattle.plain_orders.proofs.OrderLemmas.{ordered-front}
 use Rattle.journal_records.specs.Records.{IsRecord}
 use Rattle.outer_disk.specs.Disk.{LeavesOnly, Only}
-use Rattle.journal_disk.specs.Batches.{Batch, batch_bytes, bytes_of, entries_of, IsBatch, AreBatches}
-use Rattle.journal_disk.specs.Stands.{HasBatches, Stands}
+use Rattle.journal_disk.specs.Batches.{batch_bytes, bytes_of, IsBatch}
+use Rattle.journal_disk.specs.Stands.{Stands}
 use Rattle.journal_disk.specs.Parts.{joined, AreFilled, IsSplit, StandsWithSome}
 use Rattle.journal_disk.specs.Settled.{IsResting, IsSettled}
 use Rattle.journal_disk.specs.Staged.{piece, ArePieces, IsStaged}
@@ -62,20 +62,20 @@ gate_or_batch gate held c list p at batch (inr (g, is)) =
     let front : take gate held ≡ bytes_of at.batches = ap (λ (bs : List ℕ). take gate bs) at.file ∙ take_at (bytes_of at.batches) (0 ∷ []) gate (sym at.place) in
     let here : c ≡ bytes_of at.batches ++ g ∷ piece p = is ∙ ap (λ (bs : List ℕ). bs ++ g ∷ piece p) front in
     ⊎_elim (λ closed. inl (inr (record {
-        batches = at.batches;
-        whole = at.whole;
-        rest = piece p;
-        file = here ∙ ap (λ (n : ℕ). bytes_of at.batches ++ n ∷ piece p) closed;
-        same = at.same;
-      })))
-      (λ is_open. inr (inr (record {
-        batches = at.batches ++ record { gate = g; entries = p } ∷ [];
-        whole = AreBatches_push [] at.batches g p at.whole is_open (subst (λ (es : List Entry). IsBatch es p) (sym at.same) batch);
-        rest = [];
-        file = here ∙ sym (append_assoc (bytes_of at.batches) (g ∷ batch_bytes p) (0 ∷ [])) ∙ ap (λ (bs : List ℕ). bs ++ 0 ∷ []) (sym (bytes_of_push at.batches g p));
-        same = entries_of_push at.batches g p ∙ ap (λ (es : List Entry). es ++ p) at.same;
-      })))
-      (cases_eq g 0)
+      batches = at.batches;
+      whole = at.whole;
+      rest = piece p;
+      file = here ∙ ap (λ (n : ℕ). bytes_of at.batches ++ n ∷ piece p) closed;
+      same = at.same;
+    })))
+    (λ is_open. inr (inr (record {
+      batches = at.batches ++ record { gate = g; entries = p } ∷ [];
+      whole = AreBatches_push [] at.batches g p at.whole is_open (subst (λ (es : List Entry). IsBatch es p) (sym at.same) batch);
+      rest = [];
+      file = here ∙ sym (append_assoc (bytes_of at.batches) (g ∷ batch_bytes p) (0 ∷ [])) ∙ ap (λ (bs : List ℕ). bs ++ 0 ∷ []) (sym (bytes_of_push at.batches g p));
+      same = entries_of_push at.batches g p ∙ ap (λ (es : List Entry). es ++ p) at.same;
+    })))
+    (cases_eq g 0)
 
 pub opened_rests : (gate : ℕ) (held : List ℕ) (list p : List Entry) → IsResting held gate list → IsBatch list p → IsResting (take gate held ++ 1 ∷ piece p) (gate + length (piece p)) (list ++ p)
 opened_rests gate held list p at batch =
@@ -198,8 +198,8 @@ module _ {D : Type 0} (moment : D → ℕ) (left_since : D → ℕ → List ℕ 
     pub some_stand : (c : List ℕ) → HasGateOrBatch gate was.held batch c → StandsWithSome list parts c
     some_stand c has =
         ⊎_elim (λ old. some_done list parts was.done was.todo c was.all old)
-          (λ more. some_done list parts (was.done ++ piece_here.p ∷ []) piece_here.parts c all_here (subst (Stands c) (sym joined_here) more))
-          (gate_or_batch gate was.held c (list ++ joined was.done) piece_here.p was.resting next_here.0 (subst (λ (bs : List ℕ). HasGateOrBatch gate was.held bs c) batch_is has))
+        (λ more. some_done list parts (was.done ++ piece_here.p ∷ []) piece_here.parts c all_here (subst (Stands c) (sym joined_here) more))
+        (gate_or_batch gate was.held c (list ++ joined was.done) piece_here.p was.resting next_here.0 (subst (λ (bs : List ℕ). HasGateOrBatch gate was.held bs c) batch_is has))
 
     pub moments_next : ((x : List ℕ) → told mid ≡ Some x → Only x (may_leave mid) → LeavesOnly moment left_since mid new (HasGateOrBatch gate x batch)) → LeavesOnly moment left_since first new (StandsWithSome list parts)
     moments_next step =

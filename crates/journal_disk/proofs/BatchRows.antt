@@ -1,13 +1,12 @@
 -- Batches in a row, as they are read.
-use Rattle.std.proofs.Common.{◌≡◌, ◌≢◌, ℕ, ◌+◌, ◌-◌, ◌<◌, ◌≤◌, List, [], ◌∷◌, ◌++◌, length, take, drop, get_or, refl, sym, ◌∙◌, ap, subst, arith, append_assoc}
+use Rattle.std.proofs.Common.{◌≡◌, ◌≢◌, ℕ, ◌+◌, ◌-◌, ◌<◌, List, [], ◌∷◌, ◌++◌, length, take, drop, get_or, refl, sym, ◌∙◌, ap, subst, arith, append_assoc}
 use Rattle.std.proofs.lemmas.List.{append-nil, length-append, length-drop, take_all}
 use Rattle.std.proofs.lemmas.Grind.{flat_map-append}
-use Rattle.std.specs.List.{flat_map, AllByRecursion}
 use Rattle.plain_orders.specs.declared.entry.Entry.{Entry}
 use Rattle.plain_orders.specs.Ordered.{IsOrdered}
 use Rattle.field_bytes.specs.Fields.{u32_bytes}
 use Rattle.field_bytes.proofs.PrefixFree.{u32_prefix_free, one-front}
-use Rattle.journal_disk.specs.Batches.{Batch, records, body_length, batch_bytes, bytes_of, entries_of, FitsBatch, IsBatch, AreBatches}
+use Rattle.journal_disk.specs.Batches.{Batch, records, body_length, batch_bytes, bytes_of, entries_of, IsBatch, AreBatches}
 use Rattle.journal_disk.specs.Stands.{IsLow, AreLow, HasBadGate}
 use Rattle.journal_disk.specs.Reading.{TakesRecords, NoRecordsMay, TakesBody, NoBodyAhead, TakesBatch, NoBatchAhead, HasGate}
 use Rattle.journal_disk.proofs.Filling.{All_append}

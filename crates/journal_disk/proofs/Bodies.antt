@@ -1,5 +1,5 @@
 -- What stands behind a gate, and how it is no batch.
-use Rattle.std.proofs.Common.{◌≡◌, ◌≢◌, ℕ, ◌+◌, ◌<◌, ◌≤◌, List, [], ◌∷◌, ◌++◌, length, take, drop, sym, ◌∙◌, ap, subst, arith, append_assoc}
+use Rattle.std.proofs.Common.{◌≡◌, ◌≢◌, ℕ, ◌+◌, ◌<◌, ◌≤◌, List, ◌∷◌, ◌++◌, length, sym, ◌∙◌, ap, arith}
 use Rattle.std.proofs.lemmas.List.{length-append}
 use Rattle.field_bytes.specs.Fields.{u32_bytes, IsU32, NoneAhead}
 use Rattle.field_bytes.proofs.PrefixFree.{u32_prefix_free, one-front}

@@ -1,12 +1,12 @@
 -- How entries fill batches.
-use Rattle.std.proofs.Common.{◌≡◌, ℕ, zero, suc, ◌+◌, ◌<◌, ◌≤◌, List, [], ◌∷◌, ◌++◌, length, take, drop, get_or, refl, sym, ◌∙◌, ap, subst, arith, add-one, append_assoc}
+use Rattle.std.proofs.Common.{◌≡◌, ℕ, ◌+◌, ◌<◌, List, [], ◌∷◌, ◌++◌, length, take, drop, get_or, sym, ◌∙◌, ap, subst, arith, append_assoc}
 use Rattle.std.proofs.lemmas.List.{append-nil, length-append, drop_more}
 use Rattle.std.proofs.lemmas.Grind.{flat_map-append, take_at_read}
-use Rattle.std.specs.List.{flat_map, AllByRecursion}
+use Rattle.std.specs.List.{AllByRecursion}
 use Rattle.plain_orders.specs.declared.entry.Entry.{Entry}
 use Rattle.journal_records.specs.Records.{entry_bytes, IsRecord}
 use Rattle.journal_disk.specs.Batches.{records, body_length, FitsBatch}
-use Rattle.journal_disk.specs.Parts.{joined, IsFull, AreFilled, IsSplit}
+use Rattle.journal_disk.specs.Parts.{joined, IsFull, AreFilled}
 
 -- one entry more
 pub records_push : (es : List Entry) (e : Entry) → records (es ++ e ∷ []) ≡ records es ++ entry_bytes e
@@ -50,7 +50,7 @@ filled_push [] p rest filled fits full = (fits, full, tt)
 filled_push (q ∷ parts) p rest filled fits full = (
   filled.0,
   subst (IsFull q) (sym (ap (λ es. es ++ rest) (flat_map-append (λ (x : List Entry). x) parts (p ∷ []))
-    ∙ append_assoc (joined parts) (joined (p ∷ [])) rest ∙ ap (λ (es : List Entry). joined parts ++ (es ++ rest)) (append-nil p))) filled.1,
+      ∙ append_assoc (joined parts) (joined (p ∷ [])) rest ∙ ap (λ (es : List Entry). joined parts ++ (es ++ rest)) (append-nil p))) filled.1,
   filled_push parts p rest filled.2 fits full,
 )
 

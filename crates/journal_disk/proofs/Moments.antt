@@ -1,8 +1,7 @@
 -- How what a crash leaves goes on from call to call.
-use Rattle.std.proofs.Common.{◌≡◌, inl, inr, ⊎_elim, ℕ, ◌+◌, ◌≤◌, List, Option, Some, None, IfSome, option_map, refl, ap, sym, ◌∙◌, subst, arith, length, take, drop}
-use Rattle.std.specs.Option.{ForSome}
+use Rattle.std.proofs.Common.{◌≡◌, inl, inr, ⊎_elim, ℕ, ◌≤◌, List, Option, Some, None, IfSome, option_map, refl, ap, ◌∙◌, subst, arith}
 use Rattle.outer_io.specs.Causes.{Rose}
-use Rattle.outer_disk.specs.Disk.{Elapses, LeavesOnly, LeavesNoMore, Follows, Only, IsSynced, Matched}
+use Rattle.outer_disk.specs.Disk.{Elapses, LeavesOnly, LeavesNoMore, Matched}
 use Rattle.journal_disk.specs.Moments.{HasSynced}
 use Rattle.outer_disk.proofs.Runs.{started, goes_on}
 

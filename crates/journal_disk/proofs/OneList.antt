@@ -1,12 +1,11 @@
 -- Bytes stand for one list, or have one first bad gate, and not both.
-use Rattle.std.proofs.Common.{◌≡◌, ◌≢◌, inl, inr, ⊎_elim, ℕ, ◌+◌, ◌<◌, ◌≤◌, List, [], ◌∷◌, ◌++◌, length, refl, sym, ◌∙◌, ap, subst, arith, append_assoc}
+use Rattle.std.proofs.Common.{◌≡◌, ◌≢◌, inl, inr, ℕ, ◌≤◌, List, [], ◌∷◌, ◌++◌, length, refl, sym, ◌∙◌, ap, subst, arith, append_assoc}
 use Rattle.std.proofs.lemmas.List.{append-nil, length-append}
-use Rattle.std.specs.List.{flat_map}
 use Rattle.plain_orders.specs.declared.entry.Entry.{Entry}
 use Rattle.field_bytes.specs.Fields.{u32_bytes}
 use Rattle.field_bytes.proofs.PrefixFree.{u32_prefix_free, one-front}
 use Rattle.journal_disk.specs.Batches.{Batch, records, body_length, batch_bytes, bytes_of, entries_of, IsBatch, AreBatches}
-use Rattle.journal_disk.specs.Stands.{HasBatches, Stands, IsLow, AreLow, HasBadGate}
+use Rattle.journal_disk.specs.Stands.{Stands, AreLow, HasBadGate}
 use Rattle.journal_disk.proofs.RecordRows.{one_records}
 use Rattle.journal_disk.proofs.Staging.{batch_length}
 
@@ -82,8 +81,8 @@ begins before (b ∷ bs) (c ∷ cs) gate next rest more p q low bad e =
     sym (bytes_cons b bs (gate ∷ rest)) ∙ e ∙ bytes_cons c cs (next ∷ more) in
     let same = one_batch before before b.entries c.entries (bytes_of bs ++ gate ∷ rest) (bytes_of cs ++ next ∷ more) p.1 q.1 (cc here) in
     let on = begins (before ++ b.entries) bs cs gate next rest more p.2 (subst (λ (es : List Entry). AreBatches (before ++ es) cs) (sym same.0) q.2)
-        (back c.entries (entries_of cs) low)
-        (λ es n m batch. bad es n m (subst (λ (fs : List Entry). IsBatch fs es) (append_assoc before b.entries (entries_of bs)) batch)) same.1 in
+    (back c.entries (entries_of cs) low)
+    (λ es n m batch. bad es n m (subst (λ (fs : List Entry). IsBatch fs es) (append_assoc before b.entries (entries_of bs)) batch)) same.1 in
     record {
       left = on.left;
       before = on.before;

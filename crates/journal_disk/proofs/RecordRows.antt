@@ -1,8 +1,7 @@
 -- Records in a row are read in one way.
-use Rattle.std.proofs.Common.{◌≡◌, ℕ, ◌+◌, ◌<◌, ◌≤◌, List, [], ◌∷◌, ◌++◌, length, refl, sym, ◌∙◌, ap, subst, arith, append_assoc}
+use Rattle.std.proofs.Common.{◌≡◌, ℕ, ◌<◌, List, [], ◌∷◌, ◌++◌, length, refl, sym, ◌∙◌, ap, subst, arith, append_assoc}
 use Rattle.std.proofs.lemmas.List.{append-nil, length-append}
-use Rattle.std.proofs.lemmas.Grind.{flat_map-append}
-use Rattle.std.specs.List.{flat_map, AllByRecursion}
+use Rattle.std.specs.List.{AllByRecursion}
 use Rattle.plain_orders.specs.declared.entry.Entry.{Entry}
 use Rattle.plain_orders.specs.declared.entry.Entry.TheVariants.{Epoch, Opened, Closed, Update, Commit, Rollback}
 use Rattle.plain_orders.specs.Ordered.{IsOrdered}
@@ -11,7 +10,7 @@ use Rattle.journal_records.specs.Records.{entry_bytes, IsRecord}
 use Rattle.journal_records.proofs.OneRecord.{entry_prefix_free}
 use Rattle.journal_disk.specs.Batches.{records}
 use Rattle.journal_disk.specs.Stands.{IsLow, AreLow}
-use Rattle.journal_disk.specs.Reading.{MayBeRead, TakesRecord, NoRecordMay, TakesRecords, NoRecordsMay}
+use Rattle.journal_disk.specs.Reading.{TakesRecord, NoRecordMay, TakesRecords, NoRecordsMay}
 use Rattle.journal_disk.proofs.Filling.{records_push, All_push}
 
 -- a record has a byte
@@ -94,6 +93,7 @@ reading_stops before now bytes rest was some none es all ordered low e =
     low_at : (read more : List Entry) (m : Entry) → AreLow (read ++ m ∷ more) → IsLow m
     low_at [] more m all = all.0
     low_at (x ∷ xs) more m all = low_at xs more m all.1
+
     stop : (more : List Entry) → es ≡ was.read ++ more → rest ≡ records more → AllByRecursion IsRecord more → ⊥
     stop [] is left may = omega (arith, ap length left)
     stop (m ∷ more) is left may =

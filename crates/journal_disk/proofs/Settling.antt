@@ -1,12 +1,12 @@
 -- What a journal's bytes stand for while its end is repaired.
-use Rattle.std.proofs.Common.{◌≡◌, ◌≢◌, inl, inr, ⊎_elim, ℕ, ◌+◌, ◌-◌, ◌<◌, ◌≤◌, List, [], ◌∷◌, ◌++◌, length, take, drop, Option, None, Some, Result, Ok, Err, OnOk, refl, sym, ◌∙◌, ap, subst, arith, append_assoc}
+use Rattle.std.proofs.Common.{◌≡◌, inl, inr, ℕ, ◌+◌, ◌-◌, ◌<◌, ◌≤◌, List, [], ◌∷◌, ◌++◌, length, take, Option, None, Some, Result, Ok, Err, OnOk, refl, sym, ◌∙◌, ap, subst, arith, append_assoc}
 use Rattle.std.specs.Option.{ForSome}
-use Rattle.std.proofs.lemmas.List.{append-nil, length-append, take_at, take_all}
+use Rattle.std.proofs.lemmas.List.{length-append, take_at}
 use Rattle.std.proofs.Math.Seq.{take-append-add}
 use Rattle.plain_orders.specs.declared.entry.Entry.{Entry}
 use Rattle.outer_disk.specs.Disk.{Cut, Only}
-use Rattle.journal_disk.specs.Batches.{Batch, batch_bytes, bytes_of, entries_of, AreBatches}
-use Rattle.journal_disk.specs.Stands.{HasBatches, Stands, StandsAs}
+use Rattle.journal_disk.specs.Batches.{Batch, batch_bytes, bytes_of, entries_of}
+use Rattle.journal_disk.specs.Stands.{Stands, StandsAs}
 use Rattle.journal_disk.specs.Reading.{HasGate, IsRead}
 use Rattle.journal_disk.specs.Settled.{IsResting, IsSettled, EachStands}
 use Rattle.journal_disk.proofs.Staging.{batch_length}

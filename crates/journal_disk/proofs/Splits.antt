@@ -1,5 +1,5 @@
 -- Each part has its batches.
-use Rattle.std.proofs.Common.{◌≡◌, ◌⊎◌, inl, inr, ⊎_elim, ℕ, zero, suc, ◌+◌, ◌<◌, ◌≤◌, List, [], ◌∷◌, ◌++◌, length, get_or, All, refl, sym, ◌∙◌, ap, subst, arith, append_assoc}
+use Rattle.std.proofs.Common.{◌≡◌, ◌⊎◌, inl, inr, ℕ, zero, suc, ◌<◌, ◌≤◌, List, [], ◌∷◌, ◌++◌, length, All, refl, sym, ◌∙◌, ap, subst, arith, append_assoc}
 use Rattle.std.specs.List.{AllByRecursion}
 use Rattle.std.proofs.lemmas.Bool.{cases_lt}
 use Rattle.std.proofs.lemmas.List.{append-nil, length-append}
@@ -12,7 +12,7 @@ use Rattle.field_bytes.specs.Fields.{u8_bytes, u64_bytes, op_bytes}
 use Rattle.field_bytes.proofs.FieldLengths.{u32_length, u64_length}
 use Rattle.journal_records.specs.Records.{item_bytes, entry_bytes, IsRecordOp, HasRecordOp}
 use Rattle.journal_records.proofs.OrderedRecords.{may_record}
-use Rattle.journal_disk.specs.Batches.{records, body_length, FitsBatch}
+use Rattle.journal_disk.specs.Batches.{body_length, FitsBatch}
 use Rattle.journal_disk.specs.Parts.{joined, IsFull, AreFilled, IsSplit}
 use Rattle.journal_disk.proofs.Sizes.{item_length, set_size, kill_size, add_size}
 use Rattle.journal_disk.proofs.Filling.{body_push}

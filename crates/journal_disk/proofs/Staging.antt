@@ -1,5 +1,5 @@
 -- Batches of a part, put one behind the other.
-use Rattle.std.proofs.Common.{◌≡◌, ℕ, ◌+◌, ◌<◌, ◌≤◌, List, [], ◌∷◌, ◌++◌, length, map, refl, sym, ◌∙◌, ap, subst, arith, append_assoc}
+use Rattle.std.proofs.Common.{◌≡◌, ℕ, ◌+◌, List, [], ◌∷◌, ◌++◌, length, map, refl, sym, ◌∙◌, ap, subst, arith, append_assoc}
 use Rattle.std.proofs.lemmas.List.{append-nil, length-append, map-append}
 use Rattle.std.proofs.lemmas.Grind.{flat_map-append}
 use Rattle.std.specs.List.{flat_map, AllByRecursion}
@@ -8,7 +8,7 @@ use Rattle.plain_orders.specs.declared.entry.Entry.{Entry}
 use Rattle.field_bytes.specs.Fields.{u32_bytes}
 use Rattle.field_bytes.proofs.FieldLengths.{u32_length}
 use Rattle.journal_disk.specs.Batches.{records, body_length, batch_bytes, FitsBatch}
-use Rattle.journal_disk.specs.Parts.{joined, IsFull, AreFilled, IsSplit}
+use Rattle.journal_disk.specs.Parts.{joined, IsFull}
 use Rattle.journal_disk.specs.Staged.{piece, ArePieces, IsStaged}
 use Rattle.journal_disk.proofs.Filling.{AreFilledTo, filled_push, filled_all, All_append}
 

@@ -1,5 +1,5 @@
 -- How the entries of a part go into batches.
-use Rattle.std.specs.Prelude.{◌≡◌, ℕ, ◌+◌, ◌<◌, List, [], ◌∷◌, ◌++◌, length, take}
+use Rattle.std.specs.Prelude.{◌≡◌, ℕ, ◌<◌, List, [], ◌∷◌, ◌++◌, take}
 use Rattle.std.specs.List.{flat_map}
 use Rattle.plain_orders.specs.declared.entry.Entry.{Entry}
 use Rattle.journal_disk.specs.Batches.{body_length, FitsBatch}

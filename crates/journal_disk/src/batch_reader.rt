@@ -30,11 +30,7 @@ fn take_record<'a>(
 }
 
 /// Reads records up to the end of the bytes, and tells whether they are records of entries that may follow.
-fn take_records(
-    alloc: Global,
-    list: &mut ReadEntries,
-    bytes: &[u8],
-) -> Result<bool, AllocError>
+fn take_records(alloc: Global, list: &mut ReadEntries, bytes: &[u8]) -> Result<bool, AllocError>
     requires { IsOrdered list.old }
     ensures took { IfOk result (λ took. took ≡ true → TakesRecords list.old list.new bytes.now) }
     ensures refused { IfOk result (λ took. took ≡ false → NoRecordsMay list.old bytes.now) }

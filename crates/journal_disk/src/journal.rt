@@ -37,10 +37,7 @@ impl Model for Journal {
 impl Journal {
     /// Reads the list that a disk stands for, and repairs the disk's end. After an `Err` the disk stands for what
     /// it stood for; a disk that failed, or that wanted memory, is to be started again.
-    pub fn start<D: Disk>(
-        alloc: Global,
-        disk: &mut D,
-    ) -> Result<(Journal, Entries), JournalError>
+    pub fn start<D: Disk>(alloc: Global, disk: &mut D) -> Result<(Journal, Entries), JournalError>
         ensures stood { IfOk result (λ got. ForSome (D.told disk.old) (λ bytes. Stands bytes got.1)) }
         ensures stands { IfOk result (λ got.
             EachStands (D.told disk.new) (D.may_leave disk.new) got.1) }
@@ -119,7 +116,7 @@ impl Journal {
             → IsSettled (D.told disk.old) (D.may_leave disk.old) self.old.gate list
             → IsOrdered (list ++ part.now)
             → ForSome (D.told disk.old) (λ bytes. AppendsWhole D.moment D.left_since D.told
-                disk.old disk.new list part.now) }
+            disk.old disk.new list part.now) }
 
         ensures disk { IsErrOf result JournalError.Disk
             → Rose (D.faults disk.old) (D.faults disk.new) }

@@ -16,11 +16,9 @@ mod journal_reader;
 mod laws;
 mod part_writer;
 mod read_entries;
-mod recovery;
 mod record_size;
+mod recovery;
 
 pub use journal::Journal;
 pub use journal_error::JournalError;
-pub use laws::{
-    a_bad_gate_is_in_no_journal, bytes_stand_for_one_list, the_first_bad_gate_is_one,
-};
+pub use laws::{a_bad_gate_is_in_no_journal, bytes_stand_for_one_list, the_first_bad_gate_is_one};

@@ -31,7 +31,7 @@ pub(crate) fn write_batches<D: Disk>(
         → IsSettled (D.told disk.old) (D.may_leave disk.old) gate list
         → IsOrdered (list ++ part) → IsStaged part staged.now.bytes.items staged.now.sizes.items
         → ForSome (D.told disk.old) (λ bytes.
-            AppendsWhole D.moment D.left_since D.told disk.old disk.new list part) }
+        AppendsWhole D.moment D.left_since D.told disk.old disk.new list part) }
     ensures none { staged.now.sizes.items ≡ [] → disk.new ≡ disk.old }
     ensures faults { D.faults disk.old ≤ D.faults disk.new }
     ensures failed { IfErr result (λ stop. stop ≡ Stop.Failed

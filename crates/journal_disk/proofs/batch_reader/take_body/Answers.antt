@@ -1,4 +1,4 @@
-use Rattle.std.proofs.Common.{◌≡◌, ◌∙◌, ◌++◌, take, drop, sym, arith, take-append-drop}
+use Rattle.std.proofs.Common.{◌≡◌, ◌++◌, sym, arith, take-append-drop}
 use Rattle.journal_disk.proofs.Bodies.{no_body_so_long, no_version}
 use Rattle.journal_disk.proofs.batch_reader.take_body.Goals as goal
 

@@ -1,9 +1,8 @@
-use Rattle.std.proofs.Common.{[], All, ◌≡◌, ◌<◌, ◌++◌, List, length, take, drop, sym, ◌∙◌, ap, subst, arith, take-append-drop}
+use Rattle.std.proofs.Common.{[], All, ◌≡◌, ◌++◌, length, sym, ◌∙◌, ap, subst, arith, take-append-drop}
 use Rattle.journal_records.specs.Records.{HasRecordOp}
 use Rattle.std.proofs.lemmas.Bool.Decides.{nat_tests}
 use Rattle.std.proofs.lemmas.List.{nil_from_length}
 use Rattle.std.proofs.lemmas.List.Elements.{All-drop}
-use Rattle.plain_orders.specs.declared.entry.Entry.{Entry}
 use Rattle.journal_disk.specs.Batches.{body_length, FitsBatch}
 use Rattle.journal_disk.specs.Parts.{IsFull}
 use Rattle.journal_disk.proofs.Staging.{IsStaging, staging_none, staging_push, staging_all}

@@ -1,4 +1,4 @@
-use Rattle.std.proofs.Common.{◌≡◌, ℕ, ◌+◌, List, length, ◌++◌, Some, sym, ◌∙◌, subst}
+use Rattle.std.proofs.Common.{ℕ, ◌+◌, List, length, ◌∙◌, subst}
 use Rattle.outer_disk.specs.Disk.{Torn}
 use Rattle.journal_disk.specs.Writing.{HasGateOrBatch}
 use Rattle.journal_disk.proofs.Moments.{at_some, at_both, one, more}

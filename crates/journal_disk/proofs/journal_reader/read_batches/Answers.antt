@@ -1,4 +1,4 @@
-use Rattle.std.proofs.Common.{◌≡◌, ◌-◌, ℕ, length, refl, sym}
+use Rattle.std.proofs.Common.{◌≡◌, ◌-◌, length, refl}
 use Rattle.journal_disk.proofs.BatchRows.{batches_next, batches_stop}
 use Rattle.journal_disk.proofs.journal_reader.read_batches.Goals as goal
 

@@ -1,4 +1,4 @@
-use Rattle.std.proofs.Common.{◌≡◌, ◌+◌, ◌<◌, ◌≤◌, ◌++◌, [], ◌∷◌, ℕ, List, Some, length, take, drop, get_or, refl, sym, ◌∙◌, ap, subst, arith}
+use Rattle.std.proofs.Common.{◌≡◌, ◌+◌, ◌++◌, [], ℕ, List, length, drop, get_or, refl, sym, ap, subst, arith}
 use Rattle.std.specs.List.{AllByRecursion}
 use Rattle.std.proofs.lemmas.List.{drop_all}
 use Rattle.plain_orders.specs.declared.entry.Entry.{Entry}
@@ -26,8 +26,8 @@ loop-size-init g c =
       faults = omega arith;
       none = λ zero. refl;
       written = λ x e list parts settled next pieces.
-      written_none g.D.Disk.moment g.D.Disk.left_since g.D.Disk.may_leave g.D.Disk.told first x list parts c.args.gate c.as_slice-rest.result.now sizes e settled next
-      (subst (λ (bs : List ℕ). ArePieces parts bs sizes) (sym value) pieces) (g.met.D.Disk.only_now first);
+          written_none g.D.Disk.moment g.D.Disk.left_since g.D.Disk.may_leave g.D.Disk.told first x list parts c.args.gate c.as_slice-rest.result.now sizes e settled next
+          (subst (λ (bs : List ℕ). ArePieces parts bs sizes) (sym value) pieces) (g.met.D.Disk.only_now first);
     }
 
 pub split_at-requires : goal.split_at-requires
@@ -96,9 +96,9 @@ loop-size-preserved g c =
       faults = omega (arith, was.faults, c.write_batch.ensures.faults);
       none = λ zero. absurd (omega arith);
       written = λ x f list parts settled follow pieces.
-      let here = subst (HasWritten moment since may told first mid list parts gate rest) e (was.written x f list parts settled follow pieces) in
-      subst (λ (bs : List ℕ). HasWritten moment since may told first new list parts (gate + size) bs (drop (i + 1) sizes)) (sym back)
-      (written_next moment since may told first mid new list parts gate rest size (drop (i + 1) sizes) batch here c.split_at.ensures.front c.write_batch.ensures.any_moment c.in_ok-write_batch.ensures.ok);
+          let here = subst (HasWritten moment since may told first mid list parts gate rest) e (was.written x f list parts settled follow pieces) in
+          subst (λ (bs : List ℕ). HasWritten moment since may told first new list parts (gate + size) bs (drop (i + 1) sizes)) (sym back)
+          (written_next moment since may told first mid new list parts gate rest size (drop (i + 1) sizes) batch here c.split_at.ensures.front c.write_batch.ensures.any_moment c.in_ok-write_batch.ensures.ok);
     }
 
 pub returns-clause-ok : goal.returns-clause-ok

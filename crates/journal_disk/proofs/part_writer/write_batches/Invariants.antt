@@ -1,7 +1,6 @@
-use Rattle.std.proofs.Common.{◌≡◌, ◌+◌, ◌<◌, ◌≤◌, ◌^◌, ◌++◌, ℕ, List, None, Some, length, drop}
+use Rattle.std.proofs.Common.{◌≡◌, ◌+◌, ◌<◌, ◌≤◌, ◌^◌, ℕ, List, None, Some, length, drop}
 use Rattle.std.specs.Option.{ForSome}
 use Rattle.plain_orders.specs.declared.entry.Entry.{Entry}
-use Rattle.plain_orders.specs.Ordered.{IsOrdered}
 use Rattle.journal_disk.specs.Settled.{IsSettled}
 use Rattle.journal_disk.specs.Staged.{ArePieces}
 use Rattle.journal_disk.proofs.Appending.{AreNext, HasWritten}

@@ -1,4 +1,4 @@
-use Rattle.std.proofs.Common.{◌≡◌, ap, length, arith}
+use Rattle.std.proofs.Common.{ap, length, arith}
 use Rattle.journal_disk.proofs.Sizes.{set_size, kill_size, add_size}
 use Rattle.journal_disk.proofs.record_size.op_size.Goals as goal
 

@@ -1,5 +1,4 @@
-use Rattle.std.proofs.Common.{◌≡◌, ◌∙◌, ℕ, List, Some, subst, sym}
-use Rattle.plain_orders.specs.declared.entry.Entry.{Entry}
+use Rattle.std.proofs.Common.{◌∙◌, ℕ, List, subst, sym}
 use Rattle.outer_disk.specs.Disk.{Only}
 use Rattle.journal_disk.specs.Stands.{Stands, StandsAs, HasBadGate}
 use Rattle.journal_disk.specs.Reading.{IsRead}
@@ -37,7 +36,7 @@ returns-in_err-repair-clause-any_moment g c = λ x e.
     let only_mid : Only x (may mid) = λ b left. only b (c.read_all.ensures.crash b left) in
     let first = weaker moment since may old mid (may old) (StandsAs x) c.read_all.ensures.any_moment (λ b left. same_as x b (only b left)) in
     let second = weaker moment since may mid new (λ b. Stands b list) (StandsAs x) (c.repair.ensures.any_moment x (c.read_all.ensures.same ∙ e) only_mid list read)
-        (λ b stands. read_as x b list (read_stands x list gate read) stands) in
+    (λ b stands. read_as x b list (read_stands x list gate read) stands) in
     both moment since may old mid new (StandsAs x) first second
 
 pub returns-clause-settled : goal.returns-clause-settled
@@ -70,5 +69,5 @@ returns-clause-any_moment g c = λ x e.
     let only_mid : Only x (may mid) = λ b left. only b (c.read_all.ensures.crash b left) in
     let first = weaker moment since may old mid (may old) (StandsAs x) c.read_all.ensures.any_moment (λ b left. same_as x b (only b left)) in
     let second = weaker moment since may mid new (λ b. Stands b list) (StandsAs x) (c.repair.ensures.any_moment x (c.read_all.ensures.same ∙ e) only_mid list read)
-        (λ b stands. read_as x b list (read_stands x list gate read) stands) in
+    (λ b stands. read_as x b list (read_stands x list gate read) stands) in
     both moment since may old mid new (StandsAs x) first second

@@ -1,5 +1,4 @@
-use Rattle.std.proofs.Common.{◌≡◌, ◌+◌, ◌<◌, ◌≤◌, List, length, arith}
-use Rattle.plain_orders.specs.declared.entry.Entry.{Entry}
+use Rattle.std.proofs.Common.{◌+◌, arith}
 use Rattle.outer_disk.specs.Disk.{Cut}
 use Rattle.journal_disk.specs.Writing.{IsShort}
 use Rattle.journal_disk.specs.Stands.{Stands}
@@ -11,7 +10,7 @@ pub returns-then-size-lt2-clause-settled : goal.returns-then-size-lt2-clause-set
 returns-then-size-lt2-clause-settled g c =
     on_ok c.put_gate.result _ _
     (λ done list read. put_settled (g.D.Disk.told c.args.disk.now) (g.D.Disk.told c.put_gate.new.disk) (g.D.Disk.may_leave c.put_gate.new.disk) c.args.gate list
-        c.put_gate.ensures.silent done (λ x e. omega (arith, c.requires.within x e)) read)
+    c.put_gate.ensures.silent done (λ x e. omega (arith, c.requires.within x e)) read)
     c.put_gate.ensures.ok
 
 pub returns-then-size-lt2-clause-read : goal.returns-then-size-lt2-clause-read
@@ -28,7 +27,7 @@ pub returns-else-size-lt2-clause-settled : goal.returns-else-size-lt2-clause-set
 returns-else-size-lt2-clause-settled g c =
     on_ok c.cut_behind.result _ _
     (λ done list read. cut_settled (g.D.Disk.told c.args.disk.now) (g.D.Disk.told c.cut_behind.new.disk) (g.D.Disk.may_leave c.cut_behind.new.disk) c.args.gate list
-        c.cut_behind.ensures.silent done (λ x e. omega (arith, c.requires.within x e)) read)
+    c.cut_behind.ensures.silent done (λ x e. omega (arith, c.requires.within x e)) read)
     c.cut_behind.ensures.ok
 
 pub returns-else-size-lt2-clause-read : goal.returns-else-size-lt2-clause-read

@@ -1,5 +1,4 @@
-use Rattle.std.proofs.Common.{◌≡◌, ◌∙◌, ◌+◌, ◌++◌, false, ℕ, List, length, sym, ap, subst, arith}
-use Rattle.plain_orders.specs.declared.entry.Entry.{Entry}
+use Rattle.std.proofs.Common.{◌≡◌, ◌∙◌, ◌++◌, false, ℕ, sym, ap, subst, arith}
 use Rattle.journal_disk.specs.Settled.{JournalState, IsSettled}
 use Rattle.journal_disk.proofs.Appending.{resting_length, whole_none, no_sizes}
 use Rattle.journal_disk.proofs.Settling.{settled_stands}

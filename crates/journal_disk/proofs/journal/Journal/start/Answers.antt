@@ -1,4 +1,4 @@
-use Rattle.std.proofs.Common.{◌≡◌, ◌∙◌, inr, ℕ, List}
+use Rattle.std.proofs.Common.{◌∙◌, inr}
 use Rattle.journal_disk.specs.Stands.{StandsAs}
 use Rattle.journal_disk.proofs.Moments.{once_synced}
 use Rattle.journal_disk.proofs.Settling.{settled_stands}
@@ -7,7 +7,7 @@ use Rattle.journal_disk.proofs.journal.Journal.start.Goals as goal
 pub returns-in_err-read-clause-any_moment : goal.returns-in_err-read-clause-any_moment
 returns-in_err-read-clause-any_moment g c = λ x e.
     inr (once_synced g.D.Disk.moment g.D.Disk.left_since g.D.Disk.may_leave c.args.disk.now c.sync.new.self c.recover.new.disk (StandsAs x)
-        (g.met.D.Disk.only_now c.args.disk.now) c.sync.ensures.time c.sync.ensures.crash (c.recover.ensures.any_moment x (c.sync.ensures.same ∙ e)))
+    (g.met.D.Disk.only_now c.args.disk.now) c.sync.ensures.time c.sync.ensures.crash (c.recover.ensures.any_moment x (c.sync.ensures.same ∙ e)))
 
 pub returns-in_err-read-clause-not_a_journal : goal.returns-in_err-read-clause-not_a_journal
 returns-in_err-read-clause-not_a_journal g c = λ place e x f.
@@ -21,4 +21,4 @@ returns-clause-stands g c =
 pub returns-clause-any_moment : goal.returns-clause-any_moment
 returns-clause-any_moment g c = λ x e.
     inr (once_synced g.D.Disk.moment g.D.Disk.left_since g.D.Disk.may_leave c.args.disk.now c.sync.new.self c.recover.new.disk (StandsAs x)
-        (g.met.D.Disk.only_now c.args.disk.now) c.sync.ensures.time c.sync.ensures.crash (c.recover.ensures.any_moment x (c.sync.ensures.same ∙ e)))
+    (g.met.D.Disk.only_now c.args.disk.now) c.sync.ensures.time c.sync.ensures.crash (c.recover.ensures.any_moment x (c.sync.ensures.same ∙ e)))
