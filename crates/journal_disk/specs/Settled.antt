@@ -2,6 +2,7 @@
 use Rattle.std.specs.Prelude.{◌≡◌, ℕ, List, [], ◌∷◌, ◌++◌, length, Bool, Option}
 use Rattle.std.specs.Option.{ForSome}
 use Rattle.plain_orders.specs.declared.entry.Entry.{Entry}
+use Rattle.plain_orders.specs.Ordered.{IsOrdered}
 use Rattle.outer_disk.specs.Disk.{Only}
 use Rattle.journal_disk.specs.Batches.{Batch, bytes_of, entries_of, AreBatches}
 use Rattle.journal_disk.specs.Stands.{Stands}
@@ -26,3 +27,7 @@ IsSettled told may_leave gate list = ForSome told (λ bytes. IsResting bytes gat
 -- where a disk tells its bytes, they and all that a crash may leave stand for the list
 abbrev pub EachStands : Option (List ℕ) → (List ℕ → Type 0) → List Entry → Type 0
 EachStands told may_leave list = ForSome told (λ bytes. Stands bytes list × ((c : List ℕ) → may_leave c → Stands c list))
+
+-- a part may be appended where a journal's disk is settled for a list that the part continues as an ordered list
+abbrev pub MayAppend : Option (List ℕ) → (List ℕ → Type 0) → ℕ → List Entry → List Entry → Type 0
+MayAppend told may_leave gate list part = IsSettled told may_leave gate list × IsOrdered (list ++ part)

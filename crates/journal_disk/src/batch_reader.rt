@@ -8,14 +8,15 @@ use field_bytes::take_u32;
 use journal_records::{RecordError, read_entry};
 use std::alloc::{AllocError, Global};
 
-/// Reads the record that stands in front, and answers what follows it; none where no record of an entry that
-/// may follow stands there.
+/// Reads the record that stands in front, and answers what follows it; none where no record of an entry
+/// that may follow stands there.
 fn take_record<'a>(
     alloc: Global,
     list: &mut ReadEntries,
     bytes: &'a [u8],
 ) -> Result<Option<&'a [u8]>, AllocError>
-    ensures some { IfOk result (λ taken. IfSome taken (λ rest. TakesRecord list.old list.new bytes.now rest.now)) }
+    ensures some { IfOk result (λ taken. IfSome taken (λ rest.
+        TakesRecord list.old list.new bytes.now rest.now)) }
     ensures none { IfOk result (λ taken. IfNone taken (NoRecordMay list.old bytes.now)) }
 {
     let (entry, size) = match read_entry(alloc, bytes) {
@@ -78,7 +79,8 @@ pub(crate) fn take_batch<'a>(
     bytes: &'a [u8],
 ) -> Result<Option<&'a [u8]>, AllocError>
     requires { IsOrdered list.old }
-    ensures some { IfOk result (λ taken. IfSome taken (λ rest. TakesBatch list.old list.new bytes.now rest.now)) }
+    ensures some { IfOk result (λ taken. IfSome taken (λ rest.
+        TakesBatch list.old list.new bytes.now rest.now)) }
     ensures none { IfOk result (λ taken. IfNone taken (NoBatchAhead list.old bytes.now)) }
 {
     let Some((records, after)) = take_body(bytes) else {
