@@ -1,5 +1,5 @@
-//! What no clause of the wire's crates says, as tables: their worked bytes, their texts, and each public call
-//! with ample memory.
+//! What no clause of the wire's crates and of the journal's says, as tables: their worked bytes, their texts, and
+//! each public call with ample memory.
 #![tactic(auto)]
 
 #[cfg(test)]
@@ -8,6 +8,8 @@ mod blocks;
 mod fields;
 #[cfg(test)]
 mod frames;
+#[cfg(test)]
+mod journals;
 #[cfg(test)]
 mod messages;
 #[cfg(test)]

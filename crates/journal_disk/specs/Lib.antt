@@ -1,0 +1,10 @@
+pub mod Batches
+pub mod Errors
+pub mod Laws
+pub mod Moments
+pub mod Parts
+pub mod Reading
+pub mod Settled
+pub mod Staged
+pub mod Stands
+pub mod Writing

@@ -1,0 +1,73 @@
+ghost use Rattle.std.specs.Prelude.{◌≡◌, ◌+◌, ◌<◌, ◌≤◌, ◌^◌, ◌++◌, ◌∷◌, [], Some, None, length, take, OnOk, IfErr};
+ghost use Rattle.std.specs.Option.{ForSome};
+ghost use Rattle.outer_io.specs.Causes.{Rose};
+ghost use Rattle.outer_disk.specs.Disk.{Cut, Only, LeavesOnly};
+ghost use Rattle.journal_disk.specs.Writing.{IsShort, HasGateOrBatch};
+
+use crate::gates::{CLOSED, OPEN};
+use outer_disk::Disk;
+use outer_io::Stop;
+
+/// Cuts a journal behind its closed gate. After an `Err` some of what stood there may be left.
+#[tactic(auto, using(crate::proofs::Moments::matched_none))]
+pub(crate) fn cut_behind<D: Disk>(disk: &mut D, gate: u64) -> Result<(), Stop>
+    requires number { gate + 1 < 2 ^ 64 }
+    requires within { ForSome (D.told disk.old) (λ bytes. gate + 1 ≤ length bytes) }
+    ensures ok { OnOk result (ForSome (D.told disk.old) (λ bytes.
+        (D.told disk.new ≡ Some (take (gate + 1) bytes))
+        × Only (take (gate + 1) bytes) (D.may_leave disk.new))) }
+    ensures read { ForSome (D.told disk.old) (λ old. ForSome (D.told disk.new) (Cut (gate + 1) old)) }
+    ensures any_moment { ForSome (D.told disk.old) (λ old. Only old (D.may_leave disk.old)
+        → LeavesOnly D.moment D.left_since disk.old disk.new (Cut (gate + 1) old)) }
+    ensures silent { D.told disk.old ≡ None → D.told disk.new ≡ None }
+    ensures faults { D.faults disk.old ≤ D.faults disk.new }
+    ensures failed { IfErr result (λ stop. stop ≡ Stop.Failed
+        → Rose (D.faults disk.old) (D.faults disk.new)) }
+{
+    disk.cut(gate + 1)?;
+    disk.sync()
+}
+
+/// Puts a closed gate on a disk that has at most one byte. After an `Err` it still has at most one.
+#[tactic(auto, using(crate::proofs::Moments::matched_none))]
+pub(crate) fn put_gate<D: Disk>(disk: &mut D, size: u64) -> Result<(), Stop>
+    requires within { ForSome (D.told disk.old) (λ bytes. (size ≡ length bytes) × IsShort bytes) }
+    ensures ok { OnOk result (ForSome (D.told disk.old) (λ bytes.
+        (D.told disk.new ≡ Some (0 ∷ [])) × Only (0 ∷ []) (D.may_leave disk.new))) }
+    ensures read { ForSome (D.told disk.old) (λ old. ForSome (D.told disk.new) IsShort) }
+    ensures any_moment { ForSome (D.told disk.old) (λ old. Only old (D.may_leave disk.old)
+        → LeavesOnly D.moment D.left_since disk.old disk.new IsShort) }
+    ensures silent { D.told disk.old ≡ None → D.told disk.new ≡ None }
+    ensures faults { D.faults disk.old ≤ D.faults disk.new }
+    ensures failed { IfErr result (λ stop. stop ≡ Stop.Failed
+        → Rose (D.faults disk.old) (D.faults disk.new)) }
+{
+    disk.cut(size)?;
+    disk.write_at(0, &[CLOSED])?;
+    disk.sync()
+}
+
+/// Writes a batch and the closed gate behind it, and opens the gate in front once they are on the disk. After
+/// an `Err` that gate may be open or closed, and the batch counts as a whole or not at all.
+#[tactic(auto, using(crate::proofs::Moments::matched_none))]
+pub(crate) fn write_batch<D: Disk>(disk: &mut D, gate: u64, batch: &[u8]) -> Result<(), Stop>
+    requires some { 0 < length batch.now }
+    requires number { gate + 1 < 2 ^ 64 }
+    requires within { ForSome (D.told disk.old) (λ bytes. length bytes ≡ gate + 1) }
+    ensures ok { OnOk result (ForSome (D.told disk.old) (λ bytes.
+        let opened = take gate bytes ++ 1 ∷ batch.now in
+        (D.told disk.new ≡ Some opened) × Only opened (D.may_leave disk.new))) }
+    ensures read { ForSome (D.told disk.old) (λ old.
+        ForSome (D.told disk.new) (HasGateOrBatch gate old batch.now)) }
+    ensures any_moment { ForSome (D.told disk.old) (λ old. Only old (D.may_leave disk.old)
+        → LeavesOnly D.moment D.left_since disk.old disk.new (HasGateOrBatch gate old batch.now)) }
+    ensures silent { D.told disk.old ≡ None → D.told disk.new ≡ None }
+    ensures faults { D.faults disk.old ≤ D.faults disk.new }
+    ensures failed { IfErr result (λ stop. stop ≡ Stop.Failed
+        → Rose (D.faults disk.old) (D.faults disk.new)) }
+{
+    disk.write_at(gate + 1, batch)?;
+    disk.sync()?;
+    disk.write_at(gate, &[OPEN])?;
+    disk.sync()
+}

@@ -1,0 +1,72 @@
+ghost use Rattle.std.specs.Prelude.{◌≡◌, ◌↔◌, ◌++◌, ◌∷◌, [], IsTrue, IfOk, if◌then◌else◌};
+ghost use Rattle.journal_disk.specs.Stands.{IsLow};
+ghost use Rattle.journal_disk.specs.Reading.{MayBeRead};
+
+use plain_orders::{Entries, Entry};
+use plain_programs::OrderCheck;
+use std::alloc::{AllocError, Global};
+use std::marker::Model;
+
+/// The greatest number of an Epoch that a journal may have.
+const EPOCH_LIMIT: u32 = 2_147_483_648;
+
+/// The entries that were read so far, oldest first. Contracts see it as their list.
+#[derive(Drop)]
+pub(crate) struct ReadEntries {
+    order: OrderCheck,
+    entries: Vec<Entry>,
+}
+
+impl Model for ReadEntries {
+    ghost use Rattle.std.specs.Prelude.{List, ◌≡◌};
+    ghost use Rattle.plain_orders.specs.declared.entry.Entry.{Entry};
+
+    ghost Value = { List Entry };
+
+    ghost view = { λ r. r.entries.items };
+
+    ghost invariant = { λ r. r.order ≡ r.entries.items };
+}
+
+impl ReadEntries {
+    /// None so far.
+    pub fn new(alloc: Global) -> ReadEntries
+        ensures { result ≡ [] }
+    {
+        ReadEntries {
+            order: OrderCheck::new(alloc),
+            entries: Vec::new(alloc),
+        }
+    }
+
+    /// Takes the next entry where it may follow those before it and is no Epoch above the limit, and tells
+    /// whether it does. Else nothing changes.
+    pub fn push(&mut self, alloc: Global, entry: Entry) -> Result<bool, AllocError>
+        ensures took { IfOk result (λ took. IsTrue took ↔ MayBeRead self.old entry) }
+        ensures new { IfOk result (λ took. self.new ≡ (if took then self.old ++ entry ∷ [] else self.old)) }
+    {
+        self.entries.reserve(1)?;
+        if !is_low(&entry) || !self.order.next(alloc, &entry)? {
+            return Ok(false);
+        }
+        self.entries.push(entry)?;
+        Ok(true)
+    }
+
+    pub fn into_entries(self) -> Entries
+        ensures { result ≡ self }
+    {
+        let ReadEntries { entries, .. } = self;
+        Entries::from_vec(entries)
+    }
+}
+
+/// Whether an entry is no Epoch above the limit.
+fn is_low(entry: &Entry) -> bool
+    ensures { IsTrue result ↔ IsLow entry.now }
+{
+    match entry {
+        Entry::Epoch { number } => *number <= EPOCH_LIMIT,
+        _ => true,
+    }
+}
