@@ -3,3 +3,6 @@ pub mod NumberLemmas
 pub mod SpanLemmas
 pub mod KeyLemmas
 pub mod OrderKeys
+pub mod StandLemmas
+pub mod PastLemmas
+pub mod IndexLemmas

@@ -1,15 +1,17 @@
-//! Plain, slow programs whose contracts are the definitions of `plain_orders`: the store is the fold of the
+//! Plain programs whose contracts are the definitions of `plain_orders`: the store is the fold of the
 //! entries that it took and answers on it, the order check says whether an entry may follow, and `touches`
-//! whether an update changes something in a span. The store finds keys by their order; the others scan lists
-//! and keep no index.
+//! whether an update changes something in a span. The store finds keys by their order. The order check keeps
+//! what its entries left in an index, so that a call looks up and scans nothing; contracts see the list alone,
+//! and no clause speaks of the cost.
 #![tactic(auto)]
 
 mod child_keys;
 mod laws;
 mod limits;
+mod live_session;
 mod order_check;
+mod order_index;
 mod plain_store;
-mod standing;
 #[cfg(test)]
 mod tests;
 mod touched;

@@ -266,5 +266,6 @@ fn an_order_takes_what_may_follow(rt: HostRuntime) -> Result<(), Fail> {
     for (step, want) in rows {
         assert_eq!(rt; check.next(alloc, &entry(alloc, step)?)?, want);
     }
+    assert_eq!(rt; check.into_entries().as_slice().len(), 7);
     Ok(())
 }

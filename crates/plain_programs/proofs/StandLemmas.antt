@@ -1,0 +1,93 @@
+-- How a session stands behind one entry more.
+use Rattle.std.proofs.Common.{◌≡◌, ◌∙◌, ◌+◌, ℕ, max, Bool, true, false, cond, ◌&&◌, if◌then◌else◌, nat_eq, List, [], ◌∷◌, ◌++◌, Some, refl, sym, ap, arith}
+use Rattle.std.specs.Ordering.{nat_cmp, is_eq}
+use Rattle.std.specs.BTreeMap.{is_at}
+use Rattle.std.specs.BTreeSet.{BTreeSet, contains}
+use Rattle.std.specs.Cmp.{tied_then}
+use Rattle.std.proofs.lemmas.Bool.{eqb-true, eq-eqb, false_from_ne_true}
+use Rattle.plain_orders.specs.declared.op.Op.{Op}
+use Rattle.plain_orders.specs.declared.entry.Entry.{Entry}
+use Rattle.plain_orders.specs.declared.entry.Entry.TheVariants.{Update, Commit, Rollback}
+use Rattle.plain_orders.specs.Begun.{is_named, is_of_one, begun_after}
+use Rattle.plain_orders.specs.Entries.{count, w_in, live, live_after, live_session, live_session_after}
+use Rattle.plain_orders.specs.Fold.{Folded, fold, is_begun}
+use Rattle.plain_orders.proofs.BegunLemmas.{begun-step}
+use Rattle.plain_orders.proofs.EntryLemmas.{count-push, live-push, live_session-push}
+use Rattle.plain_orders.proofs.FoldLemmas.{fold-push}
+use Rattle.plain_programs.specs.declared.transaction_name.TransactionName.{TransactionName}
+use Rattle.plain_programs.specs.declared.live_session.LiveSession.{LiveSession}
+use Rattle.plain_programs.specs.Indexes.{name_cmp, Stands}
+
+pub apart : (m n : ℕ) → (m ≡ n → ⊥) → nat_eq m n ≡ false
+apart m n ne = false_from_ne_true (nat_eq m n) (λ h. ne (eqb-true m n h))
+
+-- a session that is live and one that is not are two
+pub apart_live : (es : List Entry) (a b : ℕ) → live es a ≡ true → live es b ≡ false → nat_eq a b ≡ false
+apart_live es a b x y = apart a b (λ e. absurd cc)
+
+-- whether a transaction is open behind one entry more
+pub begun-push : (es : List Entry) (e : Entry) (s j t : ℕ) → is_begun s j t (fold (es ++ e ∷ [])).begun ≡ begun_after (is_begun s j t (fold es).begun) e s j t
+begun-push es e s j t = ap (λ (f : Folded). is_begun s j t f.begun) (fold-push es e) ∙ begun-step s j t (fold es) e
+
+pub is_eq-nat_cmp : (m n : ℕ) → is_eq (nat_cmp m n) ≡ nat_eq m n
+is_eq-nat_cmp m n = grind arith
+
+-- two names are equal in the order where they are one transaction's
+pub at-name : (s job txn j t : ℕ) → is_at (name_cmp (record { job = job; txn = txn })) (record { job = j; txn = t }) ≡ is_named s j t s job txn
+at-name s job txn j t =
+    sym (tied_then (nat_cmp job j) (nat_cmp txn t))
+    ∙ rw (is_eq-nat_cmp job j, is_eq-nat_cmp txn t, eq-eqb s s refl) refl
+
+-- one of which the entry says nothing stands as before
+pub stands-kept : (es : List Entry) (e : Entry) (s : ℕ) (l : LiveSession) → Stands es s l → live_after true e s ≡ true → live_session_after (Some s) e l.app ≡ Some s → w_in s e ≡ 0 → ((b : Bool) (j t : ℕ) → begun_after b e s j t ≡ b) → Stands (es ++ e ∷ []) s l
+stands-kept es e s l h lives has none same = record {
+  is_live = live-push es e s ∙ (ap (λ b. live_after b e s) h.is_live ∙ lives);
+  has_app = live_session-push es e l.app ∙ (ap (λ o. live_session_after o e l.app) h.has_app ∙ has);
+  counts = (let n : count (es ++ e ∷ []) s ≡ max (count es s) (w_in s e) = count-push es e s in let m : l.count ≡ count es s = h.counts in omega arith);
+  begins = λ j t. h.begins j t ∙ sym (begun-push es e s j t ∙ same _ j t);
+}
+
+-- one whose item is taken
+pub stands-item : (es : List Entry) (e : Entry) (s w : ℕ) (l m : LiveSession) → Stands es s l → w ≡ count es s + 1 → live_after true e s ≡ true → live_session_after (Some s) e l.app ≡ Some s → w_in s e ≡ w → m.app ≡ l.app → m.count ≡ w → ((j t : ℕ) → contains name_cmp m.begun (record { job = j; txn = t }) ≡ begun_after (contains name_cmp l.begun (record { job = j; txn = t })) e s j t) → Stands (es ++ e ∷ []) s m
+stands-item es e s w l m h next lives has is app is_count begun = record {
+  is_live = live-push es e s ∙ (ap (λ b. live_after b e s) h.is_live ∙ lives);
+  has_app = live_session-push es e m.app ∙ (ap (λ a. live_session_after (live_session es a) e a) app ∙ (ap (λ o. live_session_after o e l.app) h.has_app ∙ has));
+  counts = (let n : count (es ++ e ∷ []) s ≡ max (count es s) (w_in s e) = count-push es e s in omega arith);
+  begins = λ j t. begun j t ∙ (ap (λ b. begun_after b e s j t) (h.begins j t) ∙ sym (begun-push es e s j t));
+}
+
+module _ (es : List Entry) (s w : ℕ) (name : TransactionName) (l m : LiveSession) where
+  item_is : (b : Bool) → nat_eq s s ≡ b → (if b then w else 0) ≡ w
+  item_is true e = refl
+  item_is false e = absurd (let f : nat_eq s s ≡ true = eq-eqb s s refl in cc)
+
+  -- a transaction is begun or goes on
+  pub stands-one : (op : Op) → is_of_one name.txn op ≡ true → Stands es s l → w ≡ count es s + 1 → m.app ≡ l.app → m.count ≡ w → ((q : TransactionName) → contains name_cmp m.begun q ≡ cond (is_at (name_cmp name) q) true (contains name_cmp l.begun q)) → Stands (es ++ Update s w name.job name.txn op ∷ []) s m
+  stands-one op one h next app is begun =
+      stands-item es (Update s w name.job name.txn op) s w l m h next refl refl (item_is (nat_eq s s) refl) app is
+      (λ j t. begun (record { job = j; txn = t }) ∙ rw (at-name s name.job name.txn j t, one) (go (is_named s j t s name.job name.txn) _))
+    where
+      go : (a b : Bool) → cond a true b ≡ (if a && true then true else b)
+      go true b = refl
+      go false b = refl
+
+  -- an update in no transaction
+  pub stands-alone : (op : Op) → is_of_one name.txn op ≡ false → Stands es s l → w ≡ count es s + 1 → m.app ≡ l.app → m.count ≡ w → m.begun ≡ l.begun → Stands (es ++ Update s w name.job name.txn op ∷ []) s m
+  stands-alone op alone h next app is same =
+      stands-item es (Update s w name.job name.txn op) s w l m h next refl refl (item_is (nat_eq s s) refl) app is
+      (λ j t. ap (λ (b : BTreeSet TransactionName). contains name_cmp b (record { job = j; txn = t })) same ∙ rw alone (go (is_named s j t s name.job name.txn) _))
+    where
+      go : (a b : Bool) → b ≡ (if a && false then true else b)
+      go true b = refl
+      go false b = refl
+
+  -- a transaction ends
+  pub stands-commit : Stands es s l → w ≡ count es s + 1 → m.app ≡ l.app → m.count ≡ w → ((q : TransactionName) → contains name_cmp m.begun q ≡ cond (is_at (name_cmp name) q) false (contains name_cmp l.begun q)) → Stands (es ++ Commit s w name.job name.txn ∷ []) s m
+  stands-commit h next app is begun =
+      stands-item es (Commit s w name.job name.txn) s w l m h next refl refl (item_is (nat_eq s s) refl) app is
+      (λ j t. begun (record { job = j; txn = t }) ∙ rw (at-name s name.job name.txn j t) refl)
+
+  pub stands-rollback : Stands es s l → w ≡ count es s + 1 → m.app ≡ l.app → m.count ≡ w → ((q : TransactionName) → contains name_cmp m.begun q ≡ cond (is_at (name_cmp name) q) false (contains name_cmp l.begun q)) → Stands (es ++ Rollback s w name.job name.txn ∷ []) s m
+  stands-rollback h next app is begun =
+      stands-item es (Rollback s w name.job name.txn) s w l m h next refl refl (item_is (nat_eq s s) refl) app is
+      (λ j t. begun (record { job = j; txn = t }) ∙ rw (at-name s name.job name.txn j t) refl)
