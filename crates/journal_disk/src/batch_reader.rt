@@ -24,7 +24,7 @@ fn take_record<'a>(
         Err(RecordError::NotARecord) => return Ok(None),
         Err(RecordError::Memory(error)) => return Err(error),
     };
-    if !list.push(alloc, entry)? {
+    if !list.push(alloc, &entry)? {
         return Ok(None);
     }
     Ok(Some(&bytes[size..]))

@@ -14,18 +14,15 @@ const EPOCH_LIMIT: u32 = 2_147_483_648;
 #[derive(Drop)]
 pub(crate) struct ReadEntries {
     order: OrderCheck,
-    entries: Vec<Entry>,
 }
 
 impl Model for ReadEntries {
-    ghost use Rattle.std.specs.Prelude.{List, ◌≡◌};
+    ghost use Rattle.std.specs.Prelude.{List};
     ghost use Rattle.plain_orders.specs.declared.entry.Entry.{Entry};
 
     ghost Value = { List Entry };
 
-    ghost view = { λ r. r.entries.items };
-
-    ghost invariant = { λ r. r.order ≡ r.entries.items };
+    ghost view = { λ r. r.order };
 }
 
 impl ReadEntries {
@@ -35,29 +32,26 @@ impl ReadEntries {
     {
         ReadEntries {
             order: OrderCheck::new(alloc),
-            entries: Vec::new(alloc),
         }
     }
 
     /// Takes the next entry where it may follow those before it and is no Epoch above the limit, and tells
     /// whether it does. Else nothing changes.
-    pub fn push(&mut self, alloc: Global, entry: Entry) -> Result<bool, AllocError>
-        ensures took { IfOk result (λ took. IsTrue took ↔ MayBeRead self.old entry) }
-        ensures new { IfOk result (λ took. self.new ≡ (if took then self.old ++ entry ∷ [] else self.old)) }
+    pub fn push(&mut self, alloc: Global, entry: &Entry) -> Result<bool, AllocError>
+        ensures took { IfOk result (λ took. IsTrue took ↔ MayBeRead self.old entry.now) }
+        ensures new { IfOk result (λ took. self.new ≡ (if took then self.old ++ entry.now ∷ [] else self.old)) }
     {
-        self.entries.reserve(1)?;
-        if !is_low(&entry) || !self.order.next(alloc, &entry)? {
+        if !is_low(entry) {
             return Ok(false);
         }
-        self.entries.push(entry)?;
-        Ok(true)
+        self.order.next(alloc, entry)
     }
 
     pub fn into_entries(self) -> Entries
         ensures { result ≡ self }
     {
-        let ReadEntries { entries, .. } = self;
-        Entries::from_vec(entries)
+        let ReadEntries { order } = self;
+        order.into_entries()
     }
 }
 
