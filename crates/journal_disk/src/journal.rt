@@ -1,4 +1,4 @@
-ghost use Rattle.std.specs.Prelude.{◌≡◌, ◌≢◌, ◌⊎◌, ◌↔◌, ◌+◌, ◌^◌, ◌<◌, ◌≤◌, ◌++◌, [], ℕ, List, true, false, Err, length, All, OnOk, IfOk, IsErrOf, alloc_error};
+ghost use Rattle.std.specs.Prelude.{◌≡◌, ◌≢◌, ◌⊎◌, ◌↔◌, ◌+◌, ◌^◌, ◌<◌, ◌≤◌, ◌++◌, [], ℕ, List, true, false, None, Err, length, All, OnOk, IfOk, IsErrOf, alloc_error};
 ghost use Rattle.std.specs.Option.{ForSome};
 ghost use Rattle.outer_io.specs.Causes.{Rose};
 ghost use Rattle.plain_orders.specs.declared.entry.Entry.{Entry};
@@ -60,6 +60,7 @@ impl Journal {
         ensures disk { IsErrOf result JournalError.Disk
             → Rose (D.faults disk.old) (D.faults disk.new) }
         ensures needs_start { result ≢ Err JournalError.NeedsStart }
+        ensures silent { D.told disk.old ≡ None → D.told disk.new ≡ None }
         ensures faults { D.faults disk.old ≤ D.faults disk.new }
     {
         disk.sync()?;
@@ -125,6 +126,7 @@ impl Journal {
         ensures needs_start { IsErrOf result JournalError.NeedsStart
             ↔ (self.old.needs_start ≡ true) }
         ensures not_a_journal { (place : ℕ) → result ≢ Err (JournalError.NotAJournal place) }
+        ensures silent { D.told disk.old ≡ None → D.told disk.new ≡ None }
         ensures faults { D.faults disk.old ≤ D.faults disk.new }
 
         // What stands after an error.

@@ -33,6 +33,7 @@ pub(crate) fn write_batches<D: Disk>(
         → ForSome (D.told disk.old) (λ bytes.
         AppendsWhole D.moment D.left_since D.told disk.old disk.new list part) }
     ensures none { staged.now.sizes.items ≡ [] → disk.new ≡ disk.old }
+    ensures silent { D.told disk.old ≡ None → D.told disk.new ≡ None }
     ensures faults { D.faults disk.old ≤ D.faults disk.new }
     ensures failed { IfErr result (λ stop. stop ≡ Stop.Failed
         → Rose (D.faults disk.old) (D.faults disk.new)) }

@@ -53,6 +53,7 @@ pub(crate) fn recover<D: Disk>(alloc: Global, disk: &mut D) -> Result<ReadJourna
     ensures read { ForSome (D.told disk.old) (λ old. ForSome (D.told disk.new) (StandsAs old)) }
     ensures any_moment { ForSome (D.told disk.old) (λ old.
         LeavesOnly D.moment D.left_since disk.old disk.new (StandsAs old)) }
+    ensures silent { D.told disk.old ≡ None → D.told disk.new ≡ None }
     ensures faults { D.faults disk.old ≤ D.faults disk.new }
     ensures disk { IsErrOf result JournalError.Disk
         → Rose (D.faults disk.old) (D.faults disk.new) }
