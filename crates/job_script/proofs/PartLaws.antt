@@ -1,8 +1,7 @@
 -- A text begins with one part of a kind at most.
-use Rattle.std.proofs.Common.{◌≡◌, ◌⊎◌, ℕ, ◌<◌, ◌≤◌, ◌^◌, Bool, true, false, List, [], ◌∷◌, ◌++◌, map, ℤ, refl, sym, ap, subst, ◌∙◌, inl, inr, arith, rules}
+use Rattle.std.proofs.Common.{◌≡◌, ◌⊎◌, ℕ, ◌<◌, ◌≤◌, ◌^◌, Bool, true, false, List, [], ◌∷◌, ◌++◌, map, ℤ, refl, sym, ap, subst, ◌∙◌, inl, inr, arith}
 use Rattle.std.specs.Prelude.{Option, None, Some, unsigned_abs, codes, if◌then◌else◌}
 use Rattle.std.specs.Fmt.{decimal, signed_decimal}
-use Rattle.std.specs.Int.Signed.{mag}
 use Rattle.std.proofs.lemmas.Fmt.{decimal_injective, signed_decimal_injective}
 use Rattle.std.proofs.lemmas.List.{same_from_push}
 use Rattle.subscript_keys.specs.declared.node.Node.{Node}
@@ -19,6 +18,7 @@ use Rattle.job_script.specs.declared.setting.Setting.TheVariants.{Retry, Trouble
 use Rattle.job_script.specs.Names.{is_same, index_of, server_of, setting_word}
 use Rattle.job_script.specs.Parts.{Part, NewName, NewGlobal, OfKind, ASetting, ANumber, APick, AnAmount, ANode, ANext, AValue, AFlag, AWait, EndsBefore, asked, TakesFlag, TakesWait, TakesPart, TakesParts}
 use Rattle.job_script.specs.Words.{IsAhead, spaces_off}
+use Rattle.job_script.proofs.NumberLemmas.{mag-low}
 use Rattle.job_script.proofs.WordLaws.{one-ahead}
 
 -- a part's kind, without what the part says
@@ -77,11 +77,8 @@ one-setting s t e = sym (setting-kept s) ∙ ap setting_from e ∙ setting-kept 
 pub one-number : (m n most : ℕ) → m ≤ most → n ≤ most → most < 2 ^ 64 → decimal m ≡ decimal n → m ≡ n
 one-number m n most h k fit e = decimal_injective m n (omega (arith, h, fit)) (omega (arith, k, fit)) e
 
-mag-below : (z : ℤ) → unsigned_abs z < 10 ^ 18 → mag z < 2 ^ 63
-mag-below z h = search rules
-
 pub one-amount : (y z : ℤ) → unsigned_abs y < 10 ^ 18 → unsigned_abs z < 10 ^ 18 → signed_decimal y ≡ signed_decimal z → y ≡ z
-one-amount y z h k e = signed_decimal_injective y z (mag-below y h) (mag-below z k) e
+one-amount y z h k e = signed_decimal_injective y z (mag-low y h) (mag-low z k) e
 
 one-pick : (p q : ℕ) (text r s : List ℕ) → ((text ≡ []) × (r ≡ []) × (p ≡ 0)) ⊎ (IsAhead (decimal p) text r × (p < 2 ^ 64)) → ((text ≡ []) × (s ≡ []) × (q ≡ 0)) ⊎ (IsAhead (decimal q) text s × (q < 2 ^ 64)) → (p ≡ q) × (r ≡ s)
 one-pick p q text r s (inl t) (inl u) = (t.2 ∙ sym u.2, t.1 ∙ sym u.1)

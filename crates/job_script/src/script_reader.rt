@@ -1,7 +1,7 @@
 //! The reader of scripts.
 ghost use Rattle.std.specs.Prelude.{◌≡◌, ◌≢◌, ◌↔◌, ◌<◌, ◌≤◌, length, Err, IfOk, IfErr};
 ghost use Rattle.job_script.specs.Lines.{script_lines};
-ghost use Rattle.job_script.specs.Scripts.{IsScriptText, RefusesScript, error_at};
+ghost use Rattle.job_script.specs.Scripts.{IsScriptText, RefusesScript, ScriptMay, error_at};
 ghost use Rattle.job_script.specs.declared.limits.TheConstants.{LINE_LIMIT};
 ghost use Rattle.job_script.specs.declared.script_error.ScriptError.{ScriptError};
 
@@ -29,6 +29,7 @@ fn error_at(line: u32, fault: LineFault) -> ScriptError
 fn read_lines(alloc: Global, text: &[u8]) -> Result<Script, ScriptError>
     requires { length (script_lines text.now) ≤ LINE_LIMIT }
     ensures ok { IfOk result (λ script. IsScriptText script text.now) }
+    ensures may { IfOk result ScriptMay }
     ensures err { IfErr result (RefusesScript text.now) }
     ensures few { result ≢ Err ScriptError.TooManyLines }
 {
@@ -52,6 +53,7 @@ fn read_lines(alloc: Global, text: &[u8]) -> Result<Script, ScriptError>
 /// Reads a script. Lines count from 1; of several faults the first from the left in the first bad line counts.
 pub fn read_script(alloc: Global, text: &[u8]) -> Result<Script, ScriptError>
     ensures ok { IfOk result (λ script. IsScriptText script text.now) }
+    ensures may { IfOk result ScriptMay }
     ensures err { IfErr result (RefusesScript text.now) }
     ensures too_many { (result ≡ Err ScriptError.TooManyLines) ↔ LINE_LIMIT < length (script_lines text.now) }
 {

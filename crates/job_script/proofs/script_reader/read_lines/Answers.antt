@@ -1,5 +1,7 @@
 use Rattle.std.proofs.Common.{◌≡◌, ◌++◌, ◌∷◌, [], length, sym, subst, rules, arith}
+use Rattle.subscript_keys.proofs.KeyForms.{bytes-read}
 use Rattle.job_script.specs.Scripts.{RefusesScript}
+use Rattle.job_script.proofs.ScriptLimits.{script_may}
 use Rattle.job_script.proofs.ScriptLemmas.{read-more, read-all, read-bad, lines-left, one-more}
 use Rattle.job_script.proofs.script_reader.read_lines.Goals as goal
 
@@ -23,3 +25,7 @@ pub returns-clause-ok : goal.returns-clause-ok
 returns-clause-ok c =
     let none : length c.loop-rest.rest.now ≡ 0 = search rules in
     read-all c.loop-rest.invariant.0 c.loop-rest.invariant.1 c.args.text.now c.loop-rest.rest.now c.loop-rest.reading.declared c.loop-rest.reading.declarations.items c.loop-rest.reading.todos.items c.loop-rest.reading.line c.into_script.result c.loop-rest.invariant.2 none c.requires c.into_script.ensures.layout c.into_script.ensures.names c.into_script.ensures.declarations c.into_script.ensures.lines
+
+pub returns-clause-may : goal.returns-clause-may
+returns-clause-may c =
+    script_may c.into_script.result c.args.text.now (bytes-read c.args.text.now (λ k. omega (arith, c.type_inv.text k))) (returns-clause-ok c)
