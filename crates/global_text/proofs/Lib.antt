@@ -13,4 +13,6 @@ pub mod NodeLaws
 pub mod NodeSpellings
 pub mod NumberAgreement
 pub mod OneFault
+pub mod StopLaws
+pub mod ByteReads
 pub mod NodeEnds

@@ -168,7 +168,7 @@ one-name name other text rest behind is it n m e k =
     one-span is_ascii_alphanumeric name other rest behind (name-every name is) (name-every other it) n m same
 
 -- a node that is read has no fault in its subscripts
-no-list-fault : (name text rest : List ℕ) (subs : List Sub) (error : TextError) → ReadsParts name subs text rest → HasListFault text error → IsMemory error
+pub no-list-fault : (name text rest : List ℕ) (subs : List Sub) (error : TextError) → ReadsParts name subs text rest → HasListFault text error → IsMemory error
 no-list-fault name text rest subs error (inl (none, (is, e, n))) (other, more, (at, inl (before, fault))) =
     absurd (no-paren rest before.listed.0 n (one-name name other text rest (40 ∷ before.listed.0) is before.named (whole-name rest n) (paren-ends before.listed.0) e before.listed.2).1)
 no-list-fault name text rest subs error (inl (none, (is, e, n))) (other, more, (at, inr (behind, fault))) =
@@ -190,7 +190,7 @@ no-list-fault name text rest subs error (inr read) (other, more, (at, inr (behin
     absurd (list-no-mark read.last.0 behind.last.0 read.last.1 behind.last.1 here.listed.0 read.last.2 rest behind.last.2 at error here.listed.1 read.last.4
     (subst (λ (t : List ℕ). ReadsSubs behind.last.0 t behind.last.2) lists before.listed.1) behind.last.4 fault)
 
-parts-name : (name text rest : List ℕ) (subs : List Sub) → ReadsParts name subs text rest → (behind : List ℕ) × IsName name × BeginsOtherwise is_ascii_alphanumeric behind × (text ≡ 94 ∷ (name ++ behind))
+pub parts-name : (name text rest : List ℕ) (subs : List Sub) → ReadsParts name subs text rest → (behind : List ℕ) × IsName name × BeginsOtherwise is_ascii_alphanumeric behind × (text ≡ 94 ∷ (name ++ behind))
 parts-name name text rest subs (inl (none, (is, e, n))) = (rest, is, whole-name rest n, e)
 parts-name name text rest subs (inr read) = (40 ∷ read.last.3.listed.0, read.last.3.named, paren-ends read.last.3.listed.0, read.last.3.listed.2)
 

@@ -14,7 +14,7 @@ use Rattle.global_text.proofs.ItemLaws.{no-item-at-end}
 use Rattle.global_text.proofs.StringLaws.{one-stop, front-shorter, bare-no-quote, read-is-closed, read-is-good}
 use Rattle.global_text.proofs.NodeLaws.{one-sub, one-name, paren-ends, no-caret, string-no-end, sub-no-fault, mark-no-fault}
 
-swapped : (error other : TextError) → AreOne error other → AreOne other error
+pub swapped : (error other : TextError) → AreOne error other → AreOne other error
 swapped error other (inl memory) = inr (inl memory)
 swapped error other (inr (inl memory)) = inl memory
 swapped error other (inr (inr e)) = inr (inr (sym e))
@@ -130,13 +130,13 @@ one-mark-fault text error BadValue p q = absurd q
 one-mark-fault text error ValueTooLong p q = absurd q
 one-mark-fault text error (Memory other) p q = absurd q
 
-key-none : (key : ℕ) (text : List ℕ) (error : TextError) → HasSubFault (key + length (subs_bytes [])) text error → HasSubFault key text error
+pub key-none : (key : ℕ) (text : List ℕ) (error : TextError) → HasSubFault (key + length (subs_bytes [])) text error → HasSubFault key text error
 key-none key text error fault = subst (λ (k : ℕ). HasSubFault k text error) (add-zero key) fault
 
-key-next : (key : ℕ) (s : Sub) (subs : List Sub) (text : List ℕ) (error : TextError) → HasSubFault (key + length (subs_bytes (s ∷ subs))) text error → HasSubFault (key + length (sub_bytes s) + length (subs_bytes subs)) text error
+pub key-next : (key : ℕ) (s : Sub) (subs : List Sub) (text : List ℕ) (error : TextError) → HasSubFault (key + length (subs_bytes (s ∷ subs))) text error → HasSubFault (key + length (sub_bytes s) + length (subs_bytes subs)) text error
 key-next key s subs text error fault = subst (λ (k : ℕ). HasSubFault k text error) (omega (arith, length-append (sub_bytes s) (subs_bytes subs))) fault
 
-same-head : (a b : Sub) (list after next : List ℕ) → ReadsSub a list (44 ∷ after) → ReadsSub b list (44 ∷ next) → (a ≡ b) × (after ≡ next)
+pub same-head : (a b : Sub) (list after next : List ℕ) → ReadsSub a list (44 ∷ after) → ReadsSub b list (44 ∷ next) → (a ≡ b) × (after ≡ next)
 same-head a b list after next p q =
     let same = one-sub a b list (44 ∷ after) (44 ∷ next) p q in
     (same.0, let tails : after ≡ next = let whole : 44 ∷ after ≡ 44 ∷ next = same.1 in cc in tails)
@@ -185,12 +185,12 @@ both-behind (c ∷ ss) (d ∷ ts) a b list place at rest behind error other (aft
     both-behind ss ts a b after place at rest behind error other more is (subst (λ (t : List ℕ). ReadsSubs ts t at) (sym same.1) others) it fault also
 
 -- the same name and the same list of subscripts
-same-list : (text name other place at : List ℕ) (ss ts : List Sub) (p : BeforeSub text name ss place) (q : BeforeSub text other ts at) → (name ≡ other) × (q.listed.0 ≡ p.listed.0)
+pub same-list : (text name other place at : List ℕ) (ss ts : List Sub) (p : BeforeSub text name ss place) (q : BeforeSub text other ts at) → (name ≡ other) × (q.listed.0 ≡ p.listed.0)
 same-list text name other place at ss ts p q =
     let same = one-name name other text (40 ∷ p.listed.0) (40 ∷ q.listed.0) p.named q.named (paren-ends p.listed.0) (paren-ends q.listed.0) p.listed.2 q.listed.2 in
     (same.0, let lists : q.listed.0 ≡ p.listed.0 = let whole : 40 ∷ p.listed.0 ≡ 40 ∷ q.listed.0 = same.1 in cc in lists)
 
-one-list-fault : (text : List ℕ) (error other : TextError) → HasListFault text error → HasListFault text other → AreOne error other
+pub one-list-fault : (text : List ℕ) (error other : TextError) → HasListFault text error → HasListFault text other → AreOne error other
 one-list-fault text error other (name, ss, (place, inl (p, fault))) (name', ts, (at, inl (q, also))) =
     let same = same-list text name name' place at ss ts p q in
     both-before (length name + 1) ss ts p.listed.0 place at error other p.listed.1 (subst (λ (t : List ℕ). ReadsSubs ts t at) same.1 q.listed.1) p.within (omega (arith, q.within, ap length same.0)) fault (subst (λ (n : List ℕ). HasSubFault (key_length n ts) at other) (sym same.0) also)

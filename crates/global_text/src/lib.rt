@@ -30,6 +30,7 @@ pub use node_printer::print_node;
 pub use node_reader::read_node;
 pub use number_laws::canonical_numbers_agree;
 pub use string_laws::{printed_values_are_read, values_are_read_in_one_way};
+pub use sub_printer::print_sub;
 pub use text_error::TextError;
 pub use value_printer::print_value;
 pub use value_reader::read_value;

@@ -1,5 +1,5 @@
 //! The printed spelling of subscripts.
-ghost use Rattle.std.specs.Prelude.{◌≡◌, ◌++◌, OnOk};
+ghost use Rattle.std.specs.Prelude.{◌≡◌, ◌++◌, OnOk, OnErr};
 ghost use Rattle.std.specs.List.{AllByRecursion};
 ghost use Rattle.subscript_keys.specs.Decimal.{BeginsWith};
 ghost use Rattle.subscript_keys.specs.Key.{HasForm};
@@ -20,6 +20,21 @@ fn put_sub(to: &mut Vec<u8>, sub: &Sub) -> Result<(), AllocError>
         Sub::Num(number) => number.write(to),
         Sub::Text(text) => put_quoted(to, text.as_slice()),
     }
+}
+
+/// Appends the subscript's one printed spelling.
+pub fn print_sub(sub: &Sub, to: &mut Vec<u8>) -> Result<(), AllocError>
+    requires { HasForm sub.now }
+    ensures ok { OnOk result (to.new.items ≡ to.old.items ++ sub_text sub.now) }
+    ensures err { OnErr result (to.new.items ≡ to.old.items) }
+    ensures bytes { HasBytes sub.now }
+{
+    let length = to.len();
+    if let Err(error) = put_sub(to, sub) {
+        to.truncate(length);
+        return Err(error);
+    }
+    Ok(())
 }
 
 /// Appends further subscripts, a comma before each.

@@ -56,6 +56,15 @@ ReadsLine d raw line = ReadsText d (trimmed raw) line
 abbrev pub RefusesCommand : Declared → List ℕ → LineFault → Type 0
 RefusesCommand d text fault = (IsUnknown command_row (first_word text) × (fault ≡ Bad Unknown)) ⊎ Refuses command_row d text fault
 
+-- a job's line asks for this, behind its name
+abbrev pub ReadsNamed : Declared → List ℕ → List ℕ → Todo → Type 0
+ReadsNamed d name text (JobTodo job command) = (index_of d Job name ≡ Some job) × Reads command_row d text command
+ReadsNamed d name text todo = ⊥
+
+-- a job's line is refused behind its name: the job isn't declared, or its command is refused
+abbrev pub RefusesNamed : Declared → List ℕ → List ℕ → LineFault → Type 0
+RefusesNamed d name text fault = ((index_of d Job name ≡ None) × (fault ≡ UnknownName)) ⊎ ((index_of d Job name ≢ None) × RefusesCommand d text fault)
+
 -- a job's line is refused: the job isn't declared, or its command is refused
 abbrev pub RefusesJob : Declared → List ℕ → LineFault → Type 0
 RefusesJob d text fault =
@@ -109,6 +118,12 @@ HasRoomFor d (AppDeclared name) = HasRoom d App
 HasRoomFor d (JobDeclared name app) = HasRoom d Job
 HasRoomFor d (GlobalDeclared name server) = Unit {0}
 HasRoomFor d (TimeDeclared setting ticks) = Unit {0}
+
+-- a line may be taken
+abbrev pub MayTake : Declared → Line → Type 0
+MayTake d Nothing = Unit {0}
+MayTake d (Declares declaration) = HasRoomFor d declaration
+MayTake d (Asks todo) = Unit {0}
 
 -- what is declared behind a line; a line that asks for something closes the declarations
 abbrev pub behind : Declared → Line → Declared
@@ -206,6 +221,12 @@ RefusesScript text (BadLine line kind) = HasBadLine text line (Bad kind)
 RefusesScript text (UnknownInScript line) = HasBadLine text line UnknownName
 RefusesScript text TooManyLines = LINE_LIMIT < length (script_lines text)
 RefusesScript text (NoMemory error) = Unit {0}
+
+-- what a script is refused for, by the refusal of its line with this number
+abbrev pub error_at : ℕ → LineFault → ScriptError
+error_at line (Bad kind) = BadLine line kind
+error_at line UnknownName = UnknownInScript line
+error_at line (Memory error) = NoMemory error
 
 -- the indexes that a line names are declared, and a command is within its limits
 abbrev pub TodoMay : Layout → Todo → Type 0

@@ -1,0 +1,4 @@
+pub mod Parts
+pub mod AnswerText
+pub mod ActText
+pub mod ActGroups
