@@ -3,10 +3,10 @@
 //! memory, which `read` writes first.
 #![tactic(auto)]
 
-ghost use Rattle.std.specs.Prelude.{◌≡◌, ◌+◌, ◌<◌, ◌++◌, ◌^◌, ◌-◌, List, IfOk};
+ghost use Rattle.std.specs.Prelude.{◌≡◌, ◌+◌, ◌<◌, ◌++◌, ◌^◌, ◌-◌, List, IfOk, OnOk};
 ghost use Rattle.plain_orders.specs.declared.entry.Entry.{Entry};
 ghost use Rattle.plain_orders.specs.Ordered.{KeyMay};
-ghost use Rattle.journal_bench.specs.Written.{IsUpdate, IsWritten};
+ghost use Rattle.journal_bench.specs.Written.{IsReady, IsUpdate, IsWritten};
 
 use anyhow::{Result, bail};
 use journal_disk::Journal;
@@ -75,22 +75,53 @@ fn updates(alloc: Global, key: &KeyBytes, from: u64, size: u64) -> Result<Vec<En
     Ok(part)
 }
 
-/// Writes the entries to a fresh journal.
-fn write<D: Disk>(alloc: Global, disk: &mut D, count: u64, batch: u64) -> Result<()> {
-    let key = the_key(alloc)?;
+/// Starts a fresh journal and appends the opening.
+fn begin<D: Disk>(alloc: Global, disk: &mut D) -> Result<Journal>
+    ensures { IfOk result (λ journal. IsReady (D.told disk.new) (D.may_leave disk.new) journal 0) }
+{
     let (mut journal, entries) = Journal::start(alloc, disk)?;
-    if !entries.as_slice().is_empty() {
+    if entries.as_slice().len() > 0 {
         bail!("the journal isn't empty");
     }
-    journal.append(alloc, disk, &opening(alloc)?)?;
-    let mut done = 0;
+    let part = opening(alloc)?;
+    journal.append(alloc, disk, &part)?;
+    Ok(journal)
+}
+
+/// Appends so many updates behind the first `from`.
+fn extend<D: Disk>(
+    alloc: Global,
+    journal: &mut Journal,
+    disk: &mut D,
+    key: &KeyBytes,
+    from: u64,
+    size: u64,
+) -> Result<()>
+    requires ready { IsReady (D.told disk.old) (D.may_leave disk.old) journal.old from }
+    requires key { KeyMay key.now }
+    requires room { from + size < 2 ^ 64 - 1 }
+    ensures { OnOk result (IsReady (D.told disk.new) (D.may_leave disk.new) journal.new (from + size)) }
+{
+    let part = updates(alloc, key, from, size)?;
+    journal.append(alloc, disk, &part)?;
+    Ok(())
+}
+
+/// Writes so many updates to a fresh journal.
+fn write<D: Disk>(alloc: Global, disk: &mut D, count: u32, batch: u32) -> Result<()> {
+    let key = the_key(alloc)?;
+    let mut journal = begin(alloc, disk)?;
+    let mut done = 0u32;
     for _round in 0..count {
-        if done >= count {
-            break;
-        }
         let size = batch.min(count - done);
-        let part = updates(alloc, &key, done, size)?;
-        journal.append(alloc, disk, &part)?;
+        extend(
+            alloc,
+            &mut journal,
+            disk,
+            &key,
+            u64::from(done),
+            u64::from(size),
+        )?;
         done += size;
     }
     Ok(())
@@ -111,23 +142,25 @@ fn main(rt: HostRuntime) -> Result<()> {
     let [phase, path, count, batch] = words.as_slice() else {
         bail!("usage: journal_bench PHASE PATH COUNT BATCH");
     };
-    let (Ok(count), Ok(batch)) = (
-        count.as_str().parse::<u32>(),
-        batch.as_str().parse::<u32>(),
-    ) else {
+    let (Ok(count), Ok(batch)) = (count.as_str().parse::<u32>(), batch.as_str().parse::<u32>())
+    else {
         bail!("usage: journal_bench PHASE PATH COUNT BATCH");
     };
     let made = if path.as_str() == "-" {
         let mut disk = MemDisk::new(alloc, Vec::new(alloc), Vec::new(alloc), None);
-        write(alloc, &mut disk, u64::from(count), u64::from(batch))?;
-        if phase.as_str() == "read" { read(alloc, &mut disk)? } else { 0 }
+        write(alloc, &mut disk, count, batch)?;
+        if phase.as_str() == "read" {
+            read(alloc, &mut disk)?
+        } else {
+            0
+        }
     } else {
         let path = String::from_str(alloc, path.as_str())?;
         let mut disk = FileDisk::new(rt.clone()?, Some(path));
         if phase.as_str() == "read" {
             read(alloc, &mut disk)?
         } else {
-            write(alloc, &mut disk, u64::from(count), u64::from(batch))?;
+            write(alloc, &mut disk, count, batch)?;
             0
         }
     };
