@@ -26,6 +26,7 @@ if_kept es e s (Some l) lives keeps h = keeps l h
 if_silent : (es : List Entry) (number s : ℕ) (o : Option LiveSession) → StandsIf es s o → StandsIf (es ++ Epoch number ∷ []) s o
 if_silent es number s o h = if_kept es (Epoch number) s o (λ b. refl) (λ l k. stands-kept es (Epoch number) s l k refl refl refl (λ b j t. refl)) h
 
+-- behind an Epoch
 pub index-epoch : (es : List Entry) (number : ℕ) (i : OrderIndex) → Indexes es i → Indexes (es ++ Epoch number ∷ []) (record i { epoch = number })
 index-epoch es number i h = record {
   epoch = sym (last_epoch-push es (Epoch number));
@@ -78,6 +79,7 @@ index-rollback es session w j t i n l h epoch apps sessions here =
 
 -- behind an Open
 module _ (es : List Entry) (session app : ℕ) (i n : OrderIndex) (none : BTreeSet TransactionName) (t : CanTake es (Opened session app) i) where
+  -- the new session, of which nothing stands yet
   stands-entered : none.keys ≡ [] → Stands (es ++ Opened session app ∷ []) session (record { app = app; count = 0; begun = none })
   stands-entered empty =
       let p : Past es = ordered_past es t.is_ordered in
@@ -89,6 +91,7 @@ module _ (es : List Entry) (session app : ℕ) (i n : OrderIndex) (none : BTreeS
         begins = λ j x. ap (list_any (is_at (name_cmp (record { job = j; txn = x })))) empty ∙ sym (begun-push es (Opened session app) session j x ∙ p.begins_none session j x late);
       }
 
+  -- each other one, which has another application server
   if_entered : (s : ℕ) (o : Option LiveSession) → nat_eq session s ≡ false → StandsIf es s o → StandsIf (es ++ Opened session app ∷ []) s o
   if_entered s o other h = if_kept es (Opened session app) s o (λ b. rw other refl)
       (λ l k. stands-kept es (Opened session app) s l k (rw other refl) (rw (free l k) refl) refl (λ b j x. refl)) h
@@ -108,6 +111,7 @@ module _ (es : List Entry) (session : ℕ) (i n : OrderIndex) (left : LiveSessio
   left_stood : Stands es session left
   left_stood = subst (StandsIf es session) is (t.indexes.sessions session)
 
+  -- an application server that has another session keeps it
   stays : (o : Option ℕ) → (o ≡ Some session → ⊥) → o ≡ unless_closed session o
   stays None ne = refl
   stays (Some x) ne = rw (apart x session (λ e. ne (ap Some e))) refl

@@ -11,6 +11,7 @@ use Rattle.plain_orders.proofs.EntryLemmas.{count-push, live-push, live_session-
 use Rattle.plain_orders.proofs.OrderLemmas.{ordered_induction}
 use Rattle.plain_programs.proofs.StandLemmas.{apart, apart_live, begun-push}
 
+-- what holds of sessions whose Open is yet to come, and of those that application servers have
 pub record Past (es : List Entry) : Type 0 where
   pub is_dead : (s : ℕ) → length es < s → live es s ≡ false
   pub counts_none : (s : ℕ) → length es < s → count es s ≡ 0
@@ -18,6 +19,7 @@ pub record Past (es : List Entry) : Type 0 where
   pub is_past : (a s : ℕ) → live_session es a ≡ Some s → s ≤ length es
   pub has_one : (a b s : ℕ) → live_session es a ≡ Some s → live_session es b ≡ Some s → a ≡ b
 
+-- a session that is there behind a Close was there before
 kept_open : (session s : ℕ) (o : Option ℕ) → unless_closed session o ≡ Some s → o ≡ Some s
 kept_open session s None h = absurd cc
 kept_open session s (Some x) h = go (nat_eq x session) h
@@ -27,6 +29,7 @@ kept_open session s (Some x) h = go (nat_eq x session) h
     go false e = e
 
 module _ (es : List Entry) (p : Past es) where
+  -- a session yet to come is not live
   dead : (e : Entry) → MayFollow es e → (s : ℕ) → length es + 1 < s → live_after (live es s) e s ≡ false
   dead (Epoch number) may s late = p.is_dead s (omega arith)
   dead (Opened session app) may s late = rw (apart session s (λ e. (let n : session ≡ length es + 1 = may.is_position in omega arith))) (p.is_dead s (omega arith))
@@ -38,6 +41,7 @@ module _ (es : List Entry) (p : Past es) where
   apart_late : (session s : ℕ) → live es session ≡ true → length es + 1 < s → nat_eq session s ≡ false
   apart_late session s lives late = apart_live es session s lives (p.is_dead s (omega arith))
 
+  -- and has no item
   none : (e : Entry) → MayFollow es e → (s : ℕ) → length es + 1 < s → w_in s e ≡ 0
   none (Epoch number) may s late = refl
   none (Opened session app) may s late = refl
@@ -46,6 +50,7 @@ module _ (es : List Entry) (p : Past es) where
   none (Commit session w job txn) may s late = rw (apart_late session s may.is_live late) refl
   none (Rollback session w job txn) may s late = rw (apart_late session s may.is_live late) refl
 
+  -- and no transaction
   unbegun : (e : Entry) → MayFollow es e → (s j t : ℕ) → length es + 1 < s → begun_after false e s j t ≡ false
   unbegun (Epoch number) may s j t late = refl
   unbegun (Opened session app) may s j t late = refl
@@ -54,6 +59,7 @@ module _ (es : List Entry) (p : Past es) where
   unbegun (Commit session w job txn) may s j t late = rw (apart_late session s may.is_live late) refl
   unbegun (Rollback session w job txn) may s j t late = rw (apart_late session s may.is_live late) refl
 
+  -- behind an Open an application server has this session or the one that it had
   opened : (session app a s : ℕ) (o : Option ℕ) → (if nat_eq app a then Some session else o) ≡ Some s → ((app ≡ a) × (session ≡ s)) ⊎ (o ≡ Some s)
   opened session app a s o h = go (nat_eq app a) refl h
     where
@@ -61,6 +67,7 @@ module _ (es : List Entry) (p : Past es) where
       go true e f = inl (eqb-true app a e, cc)
       go false e f = inr f
 
+  -- an application server's session is not yet to come
   past : (e : Entry) → MayFollow es e → (a s : ℕ) → live_session_after (live_session es a) e a ≡ Some s → s ≤ length es + 1
   past (Epoch number) may a s h = let q : s ≤ length es = p.is_past a s h in omega arith
   past (Opened session app) may a s h = elim (opened session app a s _ h) [
@@ -72,6 +79,7 @@ module _ (es : List Entry) (p : Past es) where
   past (Commit session w job txn) may a s h = let q : s ≤ length es = p.is_past a s h in omega arith
   past (Rollback session w job txn) may a s h = let q : s ≤ length es = p.is_past a s h in omega arith
 
+  -- and no other has it
   one : (e : Entry) → MayFollow es e → (a b s : ℕ) → live_session_after (live_session es a) e a ≡ Some s → live_session_after (live_session es b) e b ≡ Some s → a ≡ b
   one (Epoch number) may a b s g h = p.has_one a b s g h
   one (Opened session app) may a b s g h = elim (opened session app a s _ g) [

@@ -18,6 +18,7 @@ use Rattle.plain_programs.specs.declared.transaction_name.TransactionName.{Trans
 use Rattle.plain_programs.specs.declared.live_session.LiveSession.{LiveSession}
 use Rattle.plain_programs.specs.Indexes.{name_cmp, Stands}
 
+-- two numbers that are not equal are told apart
 pub apart : (m n : ℕ) → (m ≡ n → ⊥) → nat_eq m n ≡ false
 apart m n ne = false_from_ne_true (nat_eq m n) (λ h. ne (eqb-true m n h))
 
@@ -29,6 +30,7 @@ apart_live es a b x y = apart a b (λ e. absurd cc)
 pub begun-push : (es : List Entry) (e : Entry) (s j t : ℕ) → is_begun s j t (fold (es ++ e ∷ [])).begun ≡ begun_after (is_begun s j t (fold es).begun) e s j t
 begun-push es e s j t = ap (λ (f : Folded). is_begun s j t f.begun) (fold-push es e) ∙ begun-step s j t (fold es) e
 
+-- the order of numbers has equal ones alone as equal
 pub is_eq-nat_cmp : (m n : ℕ) → is_eq (nat_cmp m n) ≡ nat_eq m n
 is_eq-nat_cmp m n = grind arith
 
