@@ -1,15 +1,14 @@
 -- A script whose lines are all built can be run.
-use Rattle.std.proofs.Common.{◌≡◌, ◌≢◌, ◌⊎◌, ℕ, zero, suc, ◌+◌, ◌<◌, ◌≤◌, Bool, true, false, if◌then◌else◌, ◌||◌, List, [], ◌∷◌, ◌++◌, length, Option, None, Some, refl, sym, ap, ◌∙◌, subst, arith, All, length-append}
-use Rattle.std.specs.List.{AllByRecursion, list_any}
+use Rattle.std.proofs.Common.{◌≡◌, ℕ, ◌+◌, ◌<◌, ◌≤◌, Bool, true, false, if◌then◌else◌, ◌||◌, List, [], ◌∷◌, ◌++◌, length, Option, None, Some, refl, sym, ap, ◌∙◌, subst, arith, All, length-append}
+use Rattle.std.specs.List.{AllByRecursion}
 use Rattle.std.specs.Option.{IfSome}
-use Rattle.std.proofs.lemmas.Bool.{false≢true, true≢false}
+use Rattle.std.proofs.lemmas.Bool.{false≢true}
 use Rattle.std.proofs.lemmas.List.Elements.{recursion_from_All, All-cons, All-nil}
 use Rattle.plain_orders.specs.declared.layout.Layout.{Layout}
 use Rattle.app_job.specs.declared.command.Command.{Command}
 use Rattle.app_job.specs.declared.command.Command.TheVariants.{Set, Kill, Get, Shape, Next}
 use Rattle.app_job.specs.Limits.{CommandMay, server_of}
 use Rattle.app_job.specs.Sites.{Site, IsSite}
-use Rattle.job_script.specs.declared.declaration.Declaration.{Declaration}
 use Rattle.job_script.specs.declared.declaration.Declaration.TheVariants.{Server as ServerDeclared, App as AppDeclared, Job as JobDeclared, Global as GlobalDeclared, Time as TimeDeclared}
 use Rattle.job_script.specs.declared.declared.Declared.{Declared}
 use Rattle.job_script.specs.declared.declared_line.DeclaredLine.{DeclaredLine}
@@ -21,9 +20,9 @@ use Rattle.job_script.specs.declared.script.Script.{Script}
 use Rattle.job_script.specs.declared.script_line.ScriptLine.{ScriptLine}
 use Rattle.job_script.specs.declared.todo.Todo.{Todo}
 use Rattle.job_script.specs.declared.todo.Todo.TheVariants.{Job, Await}
-use Rattle.job_script.specs.Scripts.{IsScriptText, LayoutMay, ScriptMay, TodoMay, behind, declared_behind, declarations_from, nothing_declared, script_of, layout_of}
+use Rattle.job_script.specs.Scripts.{IsScriptText, LayoutMay, ScriptMay, TodoMay, behind, declared_behind, declarations_from, nothing_declared, layout_of}
 use Rattle.cluster_call.specs.Built.{first_of, first_unbuilt, has_word, is_built, is_built_command, is_same_word, is_unbuilt, unbuilt_declaration, unbuilt_todo}
-use Rattle.cluster_call.specs.Running.{CanRun, CommandRuns, HasJob, IsHere, TodoRuns}
+use Rattle.cluster_call.specs.Running.{CanRun, CommandRuns, IsHere, TodoRuns}
 
 -- how many of these lines have the word
 count_word : DeclaringWord → List DeclaredLine → ℕ

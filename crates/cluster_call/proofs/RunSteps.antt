@@ -1,7 +1,7 @@
 -- Steps of the plain machine that a script's lines make.
-use Rattle.std.proofs.Common.{◌≡◌, ℕ, ◌+◌, Bool, true, false, cond, not, List, [], ◌∷◌, ◌++◌, length, Option, None, Some, refl, ap, sym, ◌∙◌, arith, length-append, append-nil, append_assoc}
+use Rattle.std.proofs.Common.{◌≡◌, ℕ, ◌+◌, Bool, true, false, cond, not, List, [], ◌∷◌, ◌++◌, length, Option, None, Some, refl, ap, ◌∙◌, arith, length-append}
 use Rattle.std.specs.Option.{IfSome}
-use Rattle.std.specs.List.{filter, AllByRecursion}
+use Rattle.std.specs.List.{filter}
 use Rattle.std.proofs.lemmas.Bool.{false≢true}
 use Rattle.plain_orders.specs.declared.act.Act.{Act}
 use Rattle.plain_orders.specs.declared.act.Act.TheVariants.{Opened, Enter, Synced, Met, Issue, Read}
@@ -23,10 +23,9 @@ use Rattle.plain_runs.specs.Items.{is_change_op}
 use Rattle.plain_runs.specs.JobRows.{asked_key}
 use Rattle.plain_orders.specs.declared.question.Question.TheVariants.{Next as NextQuestion}
 use Rattle.plain_orders.specs.Answers.{next_key, IsSubIn}
-use Rattle.subscript_keys.specs.declared.node.Node.{Node}
 use Rattle.subscript_keys.specs.declared.sub.Sub.{Sub}
 use Rattle.subscript_keys.specs.declared.sub.Sub.TheVariants.{Num, Text}
-use Rattle.subscript_keys.specs.Key.{IsSub, HasForm, key_of, sub_bytes, subs_bytes}
+use Rattle.subscript_keys.specs.Key.{IsSub, HasForm}
 use Rattle.app_job.specs.Sites.{Site, IsSite}
 use Rattle.app_job.specs.Limits.{NextMay}
 use Rattle.plain_orders.proofs.EntryLemmas.{count-push, live-push}

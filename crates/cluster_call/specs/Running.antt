@@ -21,7 +21,6 @@ use Rattle.app_job.specs.declared.command.Command.TheVariants.{Set, Kill, Get, S
 use Rattle.app_job.specs.Limits.{NextMay}
 use Rattle.app_job.specs.Sites.{Site, IsSite}
 use Rattle.job_script.specs.declared.script.Script.{Script}
-use Rattle.job_script.specs.declared.script_line.ScriptLine.{ScriptLine}
 use Rattle.job_script.specs.declared.todo.Todo.{Todo}
 use Rattle.job_script.specs.declared.todo.Todo.TheVariants.{Job, Await}
 use Rattle.transcript.specs.ActText.{CanPrintAct}

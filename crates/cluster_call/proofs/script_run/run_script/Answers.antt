@@ -1,9 +1,7 @@
-use Rattle.std.proofs.Common.{◌≡◌, ◌+◌, ◌++◌, ◌∷◌, [], ℕ, List, take, All, refl, sym, subst, ◌∙◌, arith}
+use Rattle.std.proofs.Common.{◌+◌, List, take, All, refl, sym, subst, ◌∙◌, arith}
 use Rattle.std.specs.Option.{option_to_list}
 use Rattle.cluster_call.specs.declared.answer_line.AnswerLine.{AnswerLine}
 use Rattle.job_script.specs.declared.script_line.ScriptLine.{ScriptLine}
-use Rattle.plain_orders.specs.declared.act.Act.{Act}
-use Rattle.plain_orders.specs.declared.layout.Layout.{Layout}
 use Rattle.cluster_call.specs.Running.{TodoRuns}
 use Rattle.cluster_call.proofs.PrintLemmas.{answers_can}
 use Rattle.cluster_call.proofs.FitLemmas.{IsRunTo, run_more, fits_all, fits_none, taken_all, one_runs}
