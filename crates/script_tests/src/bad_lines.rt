@@ -189,31 +189,68 @@ fn the_first_of_two_faults_counts_where_one_is_a_length(rt: HostRuntime) -> Resu
     Ok(())
 }
 
-/// What may be declared: how often, with the words before the number and behind it, and how often it is there.
-const MANY: [(&str, &str, usize, usize); 4] = [
-    ("data E", "", 1, 16),
-    ("app B", "", 1, 16),
-    ("job K", " A1", 1, 256),
-    ("global ^g", " D1", 1, 256),
+/// Last lines without their LF, and what they are called.
+const LAST: [(&str, &str); 5] = [
+    ("J1: set ^x \"abc", "bad value"),
+    ("J1: get ^x(\"abc", "bad node"),
+    ("J1: get ^x(1,", "bad node"),
+    // A CR that no LF follows stays.
+    ("J1: set ^x \"a\"\r", "bad value"),
+    ("flow\r", "bad line"),
 ];
+
+#[test]
+fn a_last_line_may_lack_its_end(rt: HostRuntime) -> Result<(), AllocError> {
+    let alloc = rt.alloc();
+    for (line, fault) in LAST {
+        let text = format!(in alloc; "{DECLARED}{line}")?;
+        let want = format!(in alloc; "ecp: line 5: {fault}\n")?;
+        let (_status, output) = run(alloc, text.as_bytes())?;
+        assert!(rt; output.as_slice() == want.as_bytes(), "{line}");
+    }
+    Ok(())
+}
+
+/// What may be declared: the words before the number and behind it, and how often it may be there.
+const MANY: [(&str, &str, u32); 4] = [
+    ("data E", "", 16),
+    ("app B", "", 16),
+    ("job K", " A1", 256),
+    ("global ^g", " D1", 256),
+];
+
+/// As many as may be of these declarations, the one that stands there already among them, and this line.
+fn all_declared(
+    alloc: Global,
+    front: &str,
+    back: &str,
+    most: u32,
+    last: &str,
+) -> Result<String, AllocError> {
+    let mut text = String::from_str(alloc, DECLARED)?;
+    for number in 1..most {
+        text.push_str(&format!(in alloc; "{front}{number}{back}\n")?)?;
+    }
+    text.push_str(last)?;
+    Ok(text)
+}
 
 #[test]
 fn one_declaration_too_many_is_refused(rt: HostRuntime) -> Result<(), AllocError> {
     let alloc = rt.alloc();
-    for (front, back, there, most) in MANY {
-        for more in [0, 1] {
-            let mut text = String::from_str(alloc, DECLARED)?;
-            let mut line = 4;
-            for number in there..most.saturating_add(more) {
-                text.push_str(&format!(in alloc; "{front}{number}{back}\n")?)?;
-                line += 1;
-            }
-            text.push_str("jump\n")?;
-            let fault = if more == 0 { "bad line" } else { "too many" };
-            let at = if more == 0 { line + 1 } else { line };
-            let want = format!(in alloc; "ecp: line {at}: {fault}\n")?;
+    for (front, back, most) in MANY {
+        let one_more = format!(in alloc; "{front}X{back}")?;
+        let two_faults = format!(in alloc; "{front}X{back} x")?;
+        for (last, fault) in [
+            ("jump", "bad line"),
+            (one_more.as_str(), "too many"),
+            (two_faults.as_str(), "too many"),
+        ] {
+            let text = all_declared(alloc, front, back, most, last)?;
+            let line = most.saturating_add(4);
+            let want = format!(in alloc; "ecp: line {line}: {fault}\n")?;
             let (_status, output) = run(alloc, text.as_bytes())?;
-            assert!(rt; output.as_slice() == want.as_bytes(), "{front} {more}");
+            assert!(rt; output.as_slice() == want.as_bytes(), "{last}");
         }
     }
     Ok(())

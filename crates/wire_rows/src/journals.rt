@@ -285,3 +285,38 @@ fn one_byte_more_begins_another_batch(rt: HostRuntime) -> Result<(), Fail> {
     }
     Ok(())
 }
+
+/// How many entries stand in front of each of the three batches below, and how many there are in all.
+const BATCHES: [usize; 4] = [0, 5539, 11_076, 11_078];
+
+#[test]
+fn an_append_of_three_batches_leaves_whole_ones(rt: HostRuntime) -> Result<(), Fail> {
+    let alloc = rt.alloc();
+    let mut part = vec![in alloc; entry(alloc, 0)?, entry(alloc, 1)?]?;
+    for w in 1..=11_076 {
+        part.push(update(alloc, w, 3000)?)?;
+    }
+    // The first write is that of the start, and each batch has two. A read of such a journal takes long, so
+    // each write is tried with three of the picks, and all writes with all of them.
+    let rows = [
+        (0, 0),
+        (1, 0),
+        (2, 0),
+        (3, 1),
+        (4, 1),
+        (5, 2),
+        (6, 2),
+        (7, 3),
+    ];
+    for (write, batches) in rows {
+        let mut disk = disk_with(alloc, b"", &[], Some(write))?;
+        let (answer, _) = save(alloc, &mut disk, &part)?;
+        assert_eq!(rt; answer == Answer::Saved, batches == 3, "{write}");
+        let want = BATCHES.get(batches).copied();
+        for pick in [write, write + 7, write + 14] {
+            let read = read_behind_crash(alloc, &mut disk, pick)?;
+            assert!(rt; want.map(Answer::Read) == Some(read), "{write} {pick}");
+        }
+    }
+    Ok(())
+}
