@@ -2,129 +2,136 @@
 use crate::stages::{DECLARED, run};
 use std::alloc::{AllocError, Global};
 
-/// Lines behind the four declarations, the number of the one that is refused, and what it is called.
-const BAD: [(&str, u32, &str); 109] = [
-    ("jump", 5, "bad line"),
-    ("J1: jump ^x", 5, "bad line"),
-    ("J1:", 5, "bad line"),
-    ("1J: get ^x", 5, "bad line"),
-    ("J1:get ^x", 5, "bad line"),
-    (": get ^x", 5, "bad line"),
-    ("jump ^x(", 5, "bad line"),
-    ("J1: jump \"", 5, "bad line"),
-    ("x# is no comment here", 5, "bad line"),
-    ("pump\njump", 6, "bad line"),
-    ("J1: get ^x\ndata D2", 6, "declaration too late"),
-    ("hold\ntime retry 5", 6, "declaration too late"),
-    ("J1: get ^x\ndata D1 D2", 6, "declaration too late"),
-    ("await J1\nglobal x", 6, "declaration too late"),
-    ("data D1", 5, "declared twice"),
-    ("app J1", 5, "declared twice"),
-    ("job D1 A1", 5, "declared twice"),
-    ("global ^x D1", 5, "declared twice"),
-    ("job A1 B9", 5, "declared twice"),
-    ("data D2\napp D2", 6, "declared twice"),
-    ("data 1D", 5, "bad name"),
-    ("data D-1", 5, "bad name"),
-    ("app A.1", 5, "bad name"),
-    ("data Data4567890123xyz", 5, "bad name"),
-    ("global x D1", 5, "bad name"),
-    ("global ^x(1) D1", 5, "bad name"),
-    ("global ^1 D1", 5, "bad name"),
-    ("global ^ D1", 5, "bad name"),
-    ("job 1 2", 5, "bad name"),
-    ("job J2 -", 5, "bad name"),
-    ("pump\nsave 1", 6, "bad name"),
-    ("J1: get x", 5, "bad node"),
-    ("J1: get ^1", 5, "bad node"),
-    ("J1: get ^x(", 5, "bad node"),
-    ("J1: get ^x(1", 5, "bad node"),
-    ("J1: get ^x(\"a", 5, "bad node"),
-    ("J1: get ^x()", 5, "bad node"),
-    ("J1: get ^x(1,)", 5, "bad node"),
-    ("J1: get ^x(\"\")", 5, "bad node"),
-    ("J1: next ^x(\"\",1)", 5, "bad node"),
-    ("J1: get ^x(01)", 5, "bad node"),
-    ("J1: get ^x(1)(2)", 5, "bad node"),
-    ("J1: get ^x-", 5, "bad node"),
-    ("J1: kill ^x(\"\\4A\")", 5, "bad node"),
-    ("J1: set ^x(01) 05", 5, "bad node"),
-    ("hold\nJ1: get x", 6, "bad node"),
-    ("J1: next ^x", 5, "subscript missing"),
-    ("J1: next ^x y", 5, "subscript missing"),
-    ("flow\nJ1: next ^x", 6, "subscript missing"),
-    ("J1: set ^x", 5, "value missing"),
-    ("J1: set ^x(1)  ", 5, "value missing"),
-    ("pump\nJ1: set ^x", 6, "value missing"),
-    ("J1: set ^x a", 5, "bad value"),
-    ("J1: set ^x 01", 5, "bad value"),
-    ("J1: set ^x \"a", 5, "bad value"),
-    ("J1: set ^x \"\\4A\"", 5, "bad value"),
-    ("J1: set ^x \"\\q\"", 5, "bad value"),
-    ("J1: set ^x 5\"", 5, "bad value"),
-    ("J1: set ^x \"a\"b", 5, "bad value"),
-    ("J1: set ^x .5. 6", 5, "bad value"),
-    ("hold\nJ1: set ^x -", 6, "bad value"),
-    ("tick 0", 5, "bad number"),
-    ("tick 10001", 5, "bad number"),
-    ("tick 01", 5, "bad number"),
-    ("tick -1", 5, "bad number"),
-    ("tick +1", 5, "bad number"),
-    ("J1: incr ^x -0", 5, "bad number"),
-    ("J1: incr ^x 1000000000000000000", 5, "bad number"),
-    ("J1: incr ^x 1.5", 5, "bad number"),
-    ("J1: lock ^x wait 0", 5, "bad number"),
-    ("J1: lock ^x wait 10001", 5, "bad number"),
-    ("time retry 0", 5, "bad number"),
-    ("time round 100001", 5, "bad number"),
-    ("crash D1 18446744073709551616", 5, "bad number"),
-    ("tick 0 1", 5, "bad number"),
-    ("hold\ntick x", 6, "bad number"),
-    ("hold on", 5, "wrong words"),
-    ("J1: get", 5, "wrong words"),
-    ("J1: set", 5, "wrong words"),
-    ("J1: get ^x ^x", 5, "wrong words"),
-    ("up A1", 5, "wrong words"),
-    ("J1: lock ^x wait", 5, "wrong words"),
-    ("J1: lock ^x wait 5 shared", 5, "wrong words"),
-    ("J1: unlock ^x now shared", 5, "wrong words"),
-    ("J1: tcommit now", 5, "wrong words"),
-    ("J1: tstart 1", 5, "wrong words"),
-    ("time foo 5", 5, "wrong words"),
-    ("data", 5, "wrong words"),
-    ("job J2", 5, "wrong words"),
-    ("global ^y", 5, "wrong words"),
-    ("tick", 5, "wrong words"),
-    ("crash D1 1 2", 5, "wrong words"),
-    ("J1: get ^x 01", 5, "wrong words"),
-    ("pump\nflow x", 6, "wrong words"),
-    ("J2: get ^x", 5, "unknown name"),
-    ("D1: get ^x", 5, "unknown name"),
-    ("J1: get ^y", 5, "unknown name"),
-    ("save A1", 5, "unknown name"),
-    ("up D1 A1", 5, "unknown name"),
-    ("await J9", 5, "unknown name"),
-    ("await A1", 5, "unknown name"),
-    ("J1: sync D2", 5, "unknown name"),
-    ("job J2 A9", 5, "unknown name"),
-    ("job J2 D1", 5, "unknown name"),
-    ("global ^y A1", 5, "unknown name"),
-    ("J9: jump", 5, "unknown name"),
-    ("J1: get ^y(01)", 5, "unknown name"),
-    ("J1: set ^y", 5, "unknown name"),
-    ("hold\nJ2: get ^x", 6, "unknown name"),
-];
+/// What a line is called, and behind it, with ~ between its lines, a script that ends in such a line.
+const BAD: &str = r#"bad line|jump
+bad line|J1: jump ^x
+bad line|J1:
+bad line|1J: get ^x
+bad line|J1:get ^x
+bad line|: get ^x
+bad line|jump ^x(
+bad line|J1: jump "
+bad line|x# is no comment here
+bad line|pump~jump
+declaration too late|J1: get ^x~data D2
+declaration too late|hold~time retry 5
+declaration too late|J1: get ^x~data D1 D2
+declaration too late|await J1~global x
+declared twice|data D1
+declared twice|app J1
+declared twice|job D1 A1
+declared twice|global ^x D1
+declared twice|job A1 B9
+declared twice|data D2~app D2
+bad name|data 1D
+bad name|data D-1
+bad name|app A.1
+bad name|data Data4567890123xyz
+bad name|global x D1
+bad name|global ^x(1) D1
+bad name|global ^1 D1
+bad name|global ^ D1
+bad name|job 1 2
+bad name|job J2 -
+bad name|pump~save 1
+bad node|J1: get x
+bad node|J1: get ^1
+bad node|J1: get ^x(
+bad node|J1: get ^x(1
+bad node|J1: get ^x("a
+bad node|J1: get ^x()
+bad node|J1: get ^x(1,)
+bad node|J1: get ^x("")
+bad node|J1: next ^x("",1)
+bad node|J1: get ^x(01)
+bad node|J1: get ^x(1)(2)
+bad node|J1: get ^x-
+bad node|J1: kill ^x("\4A")
+bad node|J1: set ^x(01) 05
+bad node|hold~J1: get x
+subscript missing|J1: next ^x
+subscript missing|J1: next ^x y
+subscript missing|flow~J1: next ^x
+value missing|J1: set ^x
+value missing|J1: set ^x(1)  
+value missing|pump~J1: set ^x
+bad value|J1: set ^x a
+bad value|J1: set ^x 01
+bad value|J1: set ^x "a
+bad value|J1: set ^x "\4A"
+bad value|J1: set ^x "\q"
+bad value|J1: set ^x 5"
+bad value|J1: set ^x "a"b
+bad value|J1: set ^x .5. 6
+bad value|hold~J1: set ^x -
+bad number|tick 0
+bad number|tick 10001
+bad number|tick 01
+bad number|tick -1
+bad number|tick +1
+bad number|J1: incr ^x -0
+bad number|J1: incr ^x 1000000000000000000
+bad number|J1: incr ^x 1.5
+bad number|J1: lock ^x wait 0
+bad number|J1: lock ^x wait 10001
+bad number|time retry 0
+bad number|time round 100001
+bad number|crash D1 18446744073709551616
+bad number|tick 0 1
+bad number|hold~tick x
+wrong words|hold on
+wrong words|J1: get
+wrong words|J1: set
+wrong words|J1: get ^x ^x
+wrong words|up A1
+wrong words|J1: lock ^x wait
+wrong words|J1: lock ^x wait 5 shared
+wrong words|J1: unlock ^x now shared
+wrong words|J1: tcommit now
+wrong words|J1: tstart 1
+wrong words|time foo 5
+wrong words|data
+wrong words|job J2
+wrong words|global ^y
+wrong words|tick
+wrong words|crash D1 1 2
+wrong words|J1: get ^x 01
+wrong words|pump~flow x
+unknown name|J2: get ^x
+unknown name|D1: get ^x
+unknown name|J1: get ^y
+unknown name|save A1
+unknown name|up D1 A1
+unknown name|await J9
+unknown name|await A1
+unknown name|J1: sync D2
+unknown name|job J2 A9
+unknown name|job J2 D1
+unknown name|global ^y A1
+unknown name|J9: jump
+unknown name|J1: get ^y(01)
+unknown name|J1: set ^y
+unknown name|hold~J2: get ^x
+"#;
 
 #[test]
 fn a_bad_line_is_named_with_its_first_fault(rt: HostRuntime) -> Result<(), AllocError> {
     let alloc = rt.alloc();
-    for (lines, line, fault) in BAD {
+    let mut rows = 0;
+    for row in BAD.lines() {
+        let Some((fault, lines)) = row.split_once('|') else {
+            continue;
+        };
+        rows += 1;
+        let line = 5 + lines.matches('~').count();
+        let lines = lines.replace(alloc, '~', "\n")?;
         let text = format!(in alloc; "{DECLARED}{lines}\nJ1: get ^x\n")?;
         let want = format!(in alloc; "ecp: line {line}: {fault}\n")?;
         let (status, output) = run(alloc, text.as_bytes())?;
         assert_eq!(rt; status, 3, "{lines}");
         assert!(rt; output.as_slice() == want.as_bytes(), "{lines}");
     }
+    assert_eq!(rt; rows, 109);
     Ok(())
 }
 
