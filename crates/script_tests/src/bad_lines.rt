@@ -117,12 +117,12 @@ unknown name|hold~J2: get ^x
 #[test]
 fn a_bad_line_is_named_with_its_first_fault(rt: HostRuntime) -> Result<(), AllocError> {
     let alloc = rt.alloc();
-    let mut rows = 0;
+    let mut rows = 0usize;
     for row in BAD.lines() {
         let Some((fault, lines)) = row.split_once('|') else {
             continue;
         };
-        rows += 1;
+        rows = rows.saturating_add(1);
         let line = 5 + lines.matches('~').count();
         let lines = lines.replace(alloc, '~', "\n")?;
         let text = format!(in alloc; "{DECLARED}{lines}\nJ1: get ^x\n")?;
