@@ -2,13 +2,13 @@
 # Times the journal: small entries are appended in batches of 1, 16 and 256 to a disk in memory and to a file, and
 # read back. Beside the file stands what dd takes for as many synced writes of the same sizes. Two syncs a batch.
 # Build the program first: (cd crates/journal_bench && rt run -- read - 1000 16).
-# journal.sh [ENTRIES [ENTRIES_ALONE]]: the second is for batches of one on a file, where each entry is synced twice.
+# journal.sh [ENTRIES [BATCHES]]: batches of 1 and 16 on a file are at most so many, since each is synced twice.
 set -eu
 cd "$(dirname "$0")/.."
 program=$PWD/crates/journal_bench/out/journal_bench
 [ -x "$program" ] || { echo "no $program: build it first, as this file's head says"; exit 1; }
 entries=${1:-1000000}
-alone=${2:-20000}
+most=${2:-1000}
 dir=$(mktemp -d -p "${BENCH_DIR:-.}")
 trap 'rm -rf "$dir"' EXIT
 
@@ -25,9 +25,11 @@ for batch in 1 16 256; do
     write=$(seconds "$program" write - "$entries" "$batch")
     printf '%8s %8d %10d %10s %14s\n' memory "$batch" "$entries" "$write" "$(per_second "$entries" "$write")"
 done
+read=$(seconds "$program" read - "$entries" 256)
+printf '%8s %8s %10d %10s\n' 'and read' 256 "$entries" "$read"
 for batch in 1 16 256; do
     count=$entries
-    [ "$batch" != 1 ] || count=$alone
+    [ "$batch" = 256 ] || [ "$count" -le $((most * batch)) ] || count=$((most * batch))
     rm -f "$dir/journal"
     write=$(seconds "$program" write "$dir/journal" "$count" "$batch")
     size=$(stat -c %s "$dir/journal")
