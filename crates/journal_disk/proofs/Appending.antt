@@ -3,7 +3,7 @@ use Rattle.std.proofs.Common.{◌≡◌, ◌⊎◌, inl, inr, ⊎_elim, ℕ, ◌
 use Rattle.std.specs.Option.{ForSome}
 use Rattle.std.specs.List.{flat_map, AllByRecursion}
 use Rattle.std.proofs.lemmas.Bool.{cases_eq}
-use Rattle.std.proofs.lemmas.List.{append-nil, length-append, length-take, take_at, drop_at, drop_more}
+use Rattle.std.proofs.lemmas.List.{append-nil, length-append, length-map, length-take, take_at, drop_at, drop_more}
 use Rattle.std.proofs.lemmas.Grind.{flat_map-append}
 use Rattle.plain_orders.specs.declared.entry.Entry.{Entry}
 use Rattle.plain_orders.specs.Ordered.{IsOrdered}
@@ -12,7 +12,7 @@ use Rattle.journal_records.specs.Records.{IsRecord}
 use Rattle.outer_disk.specs.Disk.{LeavesOnly, Only}
 use Rattle.journal_disk.specs.Batches.{batch_bytes, bytes_of, IsBatch}
 use Rattle.journal_disk.specs.Stands.{Stands}
-use Rattle.journal_disk.specs.Parts.{joined, AreFilled, IsSplit, StandsWithSome}
+use Rattle.journal_disk.specs.Parts.{joined, AreFilled, IsSplit, IsInBatches, StandsWithSome}
 use Rattle.journal_disk.specs.Settled.{IsResting, IsSettled}
 use Rattle.journal_disk.specs.Staged.{piece, ArePieces, IsStaged}
 use Rattle.journal_disk.specs.Writing.{HasGateOrBatch}
@@ -271,3 +271,8 @@ module _ {D : Type 0} (moment : D → ℕ) (left_since : D → ℕ → List ℕ 
 pub no_sizes : (part : List Entry) (bytes sizes : List ℕ) → IsStaged part bytes sizes → part ≡ [] → sizes ≡ []
 no_sizes part bytes sizes staged e =
     staged.pieces.sizes_are ∙ ap (λ (ps : List (List Entry)). map (λ (p : List Entry). length (piece p)) ps) (no_parts staged.parts staged.split.filled (staged.split.whole ∙ e))
+
+-- how many batches there are
+pub staged_batches : (part : List Entry) (bytes sizes : List ℕ) → IsStaged part bytes sizes → IsInBatches part (length sizes)
+staged_batches part bytes sizes staged =
+    (staged.parts, staged.split, omega (arith, ap length staged.pieces.sizes_are, length-map staged.parts (λ (p : List Entry). length (piece p))))

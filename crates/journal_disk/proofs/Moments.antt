@@ -1,8 +1,8 @@
 -- How what a crash leaves goes on from call to call.
-use Rattle.std.proofs.Common.{◌≡◌, inl, inr, ⊎_elim, ℕ, ◌≤◌, List, Option, Some, None, IfSome, option_map, refl, ap, ◌∙◌, subst, arith}
+use Rattle.std.proofs.Common.{◌≡◌, inl, inr, ⊎_elim, ℕ, ◌≤◌, List, Option, Some, None, IfSome, option_map, is_some, refl, ap, ◌∙◌, subst, arith}
 use Rattle.outer_io.specs.Causes.{Rose}
 use Rattle.outer_disk.specs.Disk.{Elapses, LeavesOnly, LeavesNoMore, Matched}
-use Rattle.journal_disk.specs.Moments.{HasSynced}
+use Rattle.journal_disk.specs.Moments.{HasSynced, IsKept}
 use Rattle.outer_disk.proofs.Runs.{started, goes_on}
 
 -- what a clause says of the value, at the value
@@ -13,14 +13,20 @@ at_some o x P if_some e = subst (λ (v : Option (List ℕ)). IfSome v P) e if_so
 pub at_both : (step : List ℕ → List ℕ → Type 0) (o p : Option (List ℕ)) (x y : List ℕ) → Matched step o p → o ≡ Some x → p ≡ Some y → step x y
 at_both step o p x y m e f = subst (λ (v : Option (List ℕ)). Matched step (Some x) v) f (subst (λ (v : Option (List ℕ)). Matched step v p) e m)
 
--- what tells nothing goes on so
-pub matched_none : (step : List ℕ → List ℕ → Type 0) (o p : Option (List ℕ)) → Matched step o p → o ≡ None → p ≡ None
-matched_none step None None m e = refl
-matched_none step (Some x) p m e = absurd cc
-matched_none step None (Some y) m e = absurd m
+-- what tells goes on telling, and what doesn't goes on so
+pub matched_telling : (step : List ℕ → List ℕ → Type 0) (o p : Option (List ℕ)) → Matched step o p → is_some p ≡ is_some o
+matched_telling step None None m = refl
+matched_telling step (Some x) (Some y) m = refl
+matched_telling step (Some x) None m = absurd m
+matched_telling step None (Some y) m = absurd m
 
-pub mapped_none : (f : List ℕ → List ℕ) (o p : Option (List ℕ)) → p ≡ option_map f o → o ≡ None → p ≡ None
-mapped_none f o p e none = e ∙ ap (λ (v : Option (List ℕ)). option_map f v) none
+pub mapped_telling : (f : List ℕ → List ℕ) (o p : Option (List ℕ)) → p ≡ option_map f o → is_some p ≡ is_some o
+mapped_telling f None p e = ap is_some e
+mapped_telling f (Some x) p e = ap is_some e
+
+pub still_none : (o p : Option (List ℕ)) → is_some p ≡ is_some o → o ≡ None → p ≡ None
+still_none o None e none = refl
+still_none o (Some y) e none = absurd (cc (e, none))
 
 -- a count that rose in a part of a call rose in it
 pub rose_later : (a b c : ℕ) → Rose a b → b ≤ c → Rose a c
@@ -75,4 +81,12 @@ module _ {D : Type 0} (moment : D → ℕ) (left_since : D → ℕ → List ℕ 
     to = on.later;
     before = λ c left. ⊎_elim (λ past. inl (⊎_elim (only_now c) (no_more c) (sync.nothing_else (moment old) c (omega arith) past))) (λ p. inr p) (on.before (moment old) c sync.later left);
     each = on.each;
+  }
+
+  -- behind a call that changes nothing, a call that keeps all
+  pub still_kept : (told : D → Option (List ℕ)) (old mid new : D) → OnlyNow old → Step old mid → LeavesNoMore (may_leave old) (may_leave mid) → told mid ≡ told old
+      → IsKept moment left_since may_leave told mid new → IsKept moment left_since may_leave told old new
+  still_kept told old mid new only_now step no_more same on = record {
+    read = on.read ∙ same;
+    moments = both old mid new (may_leave old) (one old mid (may_leave old) only_now step (λ c left. left) no_more) (weaker mid new (may_leave mid) (may_leave old) on.moments no_more);
   }

@@ -13,7 +13,7 @@ use Rattle.field_bytes.proofs.FieldLengths.{u32_length, u64_length}
 use Rattle.journal_records.specs.Records.{item_bytes, entry_bytes, IsRecordOp, HasRecordOp}
 use Rattle.journal_records.proofs.OrderedRecords.{may_record}
 use Rattle.journal_disk.specs.Batches.{body_length, FitsBatch}
-use Rattle.journal_disk.specs.Parts.{joined, IsFull, AreFilled, IsSplit}
+use Rattle.journal_disk.specs.Parts.{joined, IsFull, AreFilled, IsSplit, IsInBatches}
 use Rattle.journal_disk.proofs.Sizes.{item_length, set_size, kill_size, add_size}
 use Rattle.journal_disk.proofs.Filling.{body_push}
 
@@ -81,6 +81,10 @@ has_split [] ops = ([], record { whole = refl; filled = tt })
 has_split (e ∷ part) ops =
     let all = split_from part (e ∷ []) (one_fits e ops.0) ops.1 in
     (all.parts, record { whole = all.whole; filled = all.filled })
+
+-- and so it has a number of them
+pub has_batches : (part : List Entry) → AllByRecursion HasRecordOp part → (n : ℕ) × IsInBatches part n
+has_batches part ops = let split = has_split part ops in (length split.0, (split.0, split.1, refl))
 
 -- an empty part has no batch
 pub no_parts : (parts : List (List Entry)) → AreFilled parts → joined parts ≡ [] → parts ≡ []

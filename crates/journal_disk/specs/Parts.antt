@@ -1,5 +1,5 @@
 -- How the entries of a part go into batches.
-use Rattle.std.specs.Prelude.{◌≡◌, ℕ, ◌<◌, List, [], ◌∷◌, ◌++◌, take}
+use Rattle.std.specs.Prelude.{◌≡◌, ℕ, ◌<◌, List, [], ◌∷◌, ◌++◌, length, take}
 use Rattle.std.specs.List.{flat_map}
 use Rattle.plain_orders.specs.declared.entry.Entry.{Entry}
 use Rattle.journal_disk.specs.Batches.{body_length, FitsBatch}
@@ -23,6 +23,10 @@ AreFilled (p ∷ parts) = FitsBatch p × IsFull p (joined parts) × AreFilled pa
 pub record IsSplit (part : List Entry) (parts : List (List Entry)) : Type 0 where
   pub whole : joined parts ≡ part
   pub filled : AreFilled parts
+
+-- the entries of a part fill so many batches
+abbrev pub IsInBatches : List Entry → ℕ → Type 0
+IsInBatches part n = (parts : List (List Entry)) × IsSplit part parts × (length parts ≡ n)
 
 -- bytes stand for a list with some of these batches from the front, each whole
 abbrev pub StandsWithSome : List Entry → List (List Entry) → List ℕ → Type 0

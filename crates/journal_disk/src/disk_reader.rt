@@ -1,7 +1,7 @@
-ghost use Rattle.std.specs.Prelude.{◌≡◌, ◌≤◌, length, IfOk, IfErr};
+ghost use Rattle.std.specs.Prelude.{◌≡◌, ◌+◌, ◌≤◌, length, IfOk, IfErr};
 ghost use Rattle.std.specs.Option.{ForSome};
 ghost use Rattle.outer_io.specs.Causes.{Rose};
-ghost use Rattle.outer_disk.specs.Disk.{LeavesNoMore, LeavesOnly};
+ghost use Rattle.outer_disk.specs.Disk.{LeavesNoMore, LeavesOnly, RoseBy};
 
 use outer_disk::Disk;
 use outer_io::{Failed, Stop};
@@ -27,6 +27,7 @@ pub(crate) fn read_all<D: Disk>(alloc: Global, disk: &mut D) -> Result<Vec<u8>, 
     ensures faults { D.faults disk.old ≤ D.faults disk.new }
     ensures failed { IfErr result (λ stop. stop ≡ Stop.Failed
         → Rose (D.faults disk.old) (D.faults disk.new)) }
+    ensures few { D.calls disk.new ≤ D.calls disk.old + 2 }
 {
     let length = match disk.len() {
         Ok(length) => length,

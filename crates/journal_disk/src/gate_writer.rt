@@ -1,7 +1,7 @@
-ghost use Rattle.std.specs.Prelude.{◌≡◌, ◌+◌, ◌<◌, ◌≤◌, ◌^◌, ◌++◌, ◌∷◌, [], Some, None, length, take, OnOk, IfErr};
+ghost use Rattle.std.specs.Prelude.{◌≡◌, ◌+◌, ◌<◌, ◌≤◌, ◌^◌, ◌++◌, ◌∷◌, [], Some, None, length, take, OnOk, IfErr, is_some};
 ghost use Rattle.std.specs.Option.{ForSome};
 ghost use Rattle.outer_io.specs.Causes.{Rose};
-ghost use Rattle.outer_disk.specs.Disk.{Cut, Only, LeavesOnly};
+ghost use Rattle.outer_disk.specs.Disk.{Cut, Only, LeavesOnly, RoseBy};
 ghost use Rattle.journal_disk.specs.Writing.{IsShort, HasGateOrBatch};
 
 use crate::gates::{CLOSED, OPEN};
@@ -9,7 +9,7 @@ use outer_disk::Disk;
 use outer_io::Stop;
 
 /// Cuts a journal behind its closed gate. After an `Err` some of what stood there may be left.
-#[tactic(auto, using(crate::proofs::Moments::matched_none))]
+#[tactic(auto, using(crate::proofs::Moments::matched_telling, crate::proofs::Moments::mapped_telling))]
 pub(crate) fn cut_behind<D: Disk>(disk: &mut D, gate: u64) -> Result<(), Stop>
     requires number { gate + 1 < 2 ^ 64 }
     requires within { ForSome (D.told disk.old) (λ bytes. gate + 1 ≤ length bytes) }
@@ -19,17 +19,18 @@ pub(crate) fn cut_behind<D: Disk>(disk: &mut D, gate: u64) -> Result<(), Stop>
     ensures read { ForSome (D.told disk.old) (λ old. ForSome (D.told disk.new) (Cut (gate + 1) old)) }
     ensures any_moment { ForSome (D.told disk.old) (λ old. Only old (D.may_leave disk.old)
         → LeavesOnly D.moment D.left_since disk.old disk.new (Cut (gate + 1) old)) }
-    ensures silent { D.told disk.old ≡ None → D.told disk.new ≡ None }
+    ensures telling { is_some (D.told disk.new) ≡ is_some (D.told disk.old) }
     ensures faults { D.faults disk.old ≤ D.faults disk.new }
     ensures failed { IfErr result (λ stop. stop ≡ Stop.Failed
         → Rose (D.faults disk.old) (D.faults disk.new)) }
+    ensures few { D.calls disk.new ≤ D.calls disk.old + 2 }
 {
     disk.cut(gate + 1)?;
     disk.sync()
 }
 
 /// Puts a closed gate on a disk that has at most one byte. After an `Err` it still has at most one.
-#[tactic(auto, using(crate::proofs::Moments::matched_none))]
+#[tactic(auto, using(crate::proofs::Moments::matched_telling, crate::proofs::Moments::mapped_telling))]
 pub(crate) fn put_gate<D: Disk>(disk: &mut D, size: u64) -> Result<(), Stop>
     requires within { ForSome (D.told disk.old) (λ bytes. (size ≡ length bytes) × IsShort bytes) }
     ensures ok { OnOk result (ForSome (D.told disk.old) (λ bytes.
@@ -37,10 +38,11 @@ pub(crate) fn put_gate<D: Disk>(disk: &mut D, size: u64) -> Result<(), Stop>
     ensures read { ForSome (D.told disk.old) (λ old. ForSome (D.told disk.new) IsShort) }
     ensures any_moment { ForSome (D.told disk.old) (λ old. Only old (D.may_leave disk.old)
         → LeavesOnly D.moment D.left_since disk.old disk.new IsShort) }
-    ensures silent { D.told disk.old ≡ None → D.told disk.new ≡ None }
+    ensures telling { is_some (D.told disk.new) ≡ is_some (D.told disk.old) }
     ensures faults { D.faults disk.old ≤ D.faults disk.new }
     ensures failed { IfErr result (λ stop. stop ≡ Stop.Failed
         → Rose (D.faults disk.old) (D.faults disk.new)) }
+    ensures few { D.calls disk.new ≤ D.calls disk.old + 3 }
 {
     disk.cut(size)?;
     disk.write_at(0, &[CLOSED])?;
@@ -49,7 +51,7 @@ pub(crate) fn put_gate<D: Disk>(disk: &mut D, size: u64) -> Result<(), Stop>
 
 /// Writes a batch and the closed gate behind it, and opens the gate in front once they are on the disk. After
 /// an `Err` that gate may be open or closed, and the batch counts as a whole or not at all.
-#[tactic(auto, using(crate::proofs::Moments::matched_none))]
+#[tactic(auto, using(crate::proofs::Moments::matched_telling, crate::proofs::Moments::mapped_telling))]
 pub(crate) fn write_batch<D: Disk>(disk: &mut D, gate: u64, batch: &[u8]) -> Result<(), Stop>
     requires some { 0 < length batch.now }
     requires number { gate + 1 < 2 ^ 64 }
@@ -61,10 +63,15 @@ pub(crate) fn write_batch<D: Disk>(disk: &mut D, gate: u64, batch: &[u8]) -> Res
         ForSome (D.told disk.new) (HasGateOrBatch gate old batch.now)) }
     ensures any_moment { ForSome (D.told disk.old) (λ old. Only old (D.may_leave disk.old)
         → LeavesOnly D.moment D.left_since disk.old disk.new (HasGateOrBatch gate old batch.now)) }
-    ensures silent { D.told disk.old ≡ None → D.told disk.new ≡ None }
+    ensures telling { is_some (D.told disk.new) ≡ is_some (D.told disk.old) }
     ensures faults { D.faults disk.old ≤ D.faults disk.new }
     ensures failed { IfErr result (λ stop. stop ≡ Stop.Failed
         → Rose (D.faults disk.old) (D.faults disk.new)) }
+    ensures calls { OnOk result (RoseBy 4 (D.calls disk.old) (D.calls disk.new)) }
+    ensures few { D.calls disk.new ≤ D.calls disk.old + 4 }
+    ensures wants { D.wants disk.old ≤ D.wants disk.new }
+    ensures wanted { IfErr result (λ stop. stop ≡ Stop.Memory
+        → Rose (D.wants disk.old) (D.wants disk.new)) }
 {
     disk.write_at(gate + 1, batch)?;
     disk.sync()?;

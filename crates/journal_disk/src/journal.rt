@@ -1,13 +1,15 @@
-ghost use Rattle.std.specs.Prelude.{◌≡◌, ◌≢◌, ◌⊎◌, ◌↔◌, ◌+◌, ◌^◌, ◌<◌, ◌≤◌, ◌++◌, [], ℕ, List, true, false, None, Err, length, All, OnOk, IfOk, IsErrOf, alloc_error};
+ghost use Rattle.std.specs.Prelude.{◌≡◌, ◌≢◌, ◌⊎◌, ◌↔◌, ◌+◌, ◌*◌, ◌^◌, ◌<◌, ◌≤◌, ◌++◌, [], ℕ, List, true, false, None, Err, length, All, OnOk, IfOk, IsErrOf, alloc_error, is_some};
 ghost use Rattle.std.specs.Option.{ForSome};
 ghost use Rattle.outer_io.specs.Causes.{Rose};
+ghost use Rattle.outer_disk.specs.Disk.{RoseBy};
 ghost use Rattle.plain_orders.specs.declared.entry.Entry.{Entry};
 ghost use Rattle.plain_orders.specs.Ordered.{IsOrdered};
 ghost use Rattle.journal_records.specs.Records.{HasRecordOp};
 ghost use Rattle.journal_disk.specs.Staged.{IsStaged};
+ghost use Rattle.journal_disk.specs.Parts.{IsInBatches};
 ghost use Rattle.journal_disk.specs.Stands.{Stands, StandsAs, AreLow, HasBadGate};
 ghost use Rattle.journal_disk.specs.Settled.{IsSettled, EachStands, MayAppend};
-ghost use Rattle.journal_disk.specs.Moments.{OnceSynced, AppendsWhole};
+ghost use Rattle.journal_disk.specs.Moments.{HasSynced, OnceSynced, IsKept, AppendsWhole};
 
 use crate::batch_writer::{StagedBatches, stage};
 use crate::journal_error::JournalError;
@@ -35,8 +37,8 @@ impl Model for Journal {
 }
 
 impl Journal {
-    /// Reads the list that a disk stands for, and repairs the disk's end. After an `Err` the disk stands
-    /// for what it stood for, and may be started again.
+    /// Reads the list that a disk stands for, and repairs the disk's end, with at most six device calls.
+    /// After an `Err` the disk stands for what it stood for, and may be started again.
     pub fn start<D: Disk>(alloc: Global, disk: &mut D) -> Result<(Journal, Entries), JournalError>
         ensures stood { IfOk result (λ got.
             ForSome (D.told disk.old) (λ bytes. Stands bytes got.1)) }
@@ -48,20 +50,27 @@ impl Journal {
         ensures ordered { IfOk result (λ got. IsOrdered got.1) }
         ensures low { IfOk result (λ got. AreLow got.1) }
 
-        // What the bytes stood for they stand for behind the call, and at each moment behind its
-        // first sync.
+        // What the bytes stood for they stand for behind the call, and at each moment from some
+        // moment of it on.
         ensures read { ForSome (D.told disk.old) (λ old.
             ForSome (D.told disk.new) (StandsAs old)) }
         ensures any_moment { ForSome (D.told disk.old) (λ old.
             OnceSynced D.moment D.left_since D.may_leave disk.old disk.new (StandsAs old)) }
+        ensures synced { OnOk result (ForSome (D.told disk.old) (λ old.
+            HasSynced D.moment D.left_since D.may_leave disk.old disk.new (StandsAs old))) }
+
+        // Bytes that are no journal stay as they are.
+        ensures kept { ForSome (D.told disk.old) (λ old. (place : ℕ) → HasBadGate old place
+            → IsKept D.moment D.left_since D.may_leave D.told disk.old disk.new) }
 
         ensures not_a_journal { (place : ℕ) → IsErrOf result (JournalError.NotAJournal place)
             → ForSome (D.told disk.old) (λ bytes. HasBadGate bytes place) }
         ensures disk { IsErrOf result JournalError.Disk
             → Rose (D.faults disk.old) (D.faults disk.new) }
         ensures needs_start { result ≢ Err JournalError.NeedsStart }
-        ensures silent { D.told disk.old ≡ None → D.told disk.new ≡ None }
+        ensures telling { is_some (D.told disk.new) ≡ is_some (D.told disk.old) }
         ensures faults { D.faults disk.old ≤ D.faults disk.new }
+        ensures few { D.calls disk.new ≤ D.calls disk.old + 6 }
     {
         disk.sync()?;
         let read = recover(alloc, disk)?;
@@ -126,17 +135,24 @@ impl Journal {
         ensures needs_start { IsErrOf result JournalError.NeedsStart
             ↔ (self.old.needs_start ≡ true) }
         ensures not_a_journal { (place : ℕ) → result ≢ Err (JournalError.NotAJournal place) }
-        ensures silent { D.told disk.old ≡ None → D.told disk.new ≡ None }
+        ensures telling { is_some (D.told disk.new) ≡ is_some (D.told disk.old) }
         ensures faults { D.faults disk.old ≤ D.faults disk.new }
 
-        // What stands after an error.
+        // Four device calls for each batch, and after an error at most so many.
+        ensures calls { OnOk result ((n : ℕ) × IsInBatches part.now n
+            × RoseBy (4 * n) (D.calls disk.old) (D.calls disk.new)) }
+        ensures few { self.old.needs_start ≡ false → (n : ℕ) × IsInBatches part.now n
+            × (D.calls disk.new ≤ D.calls disk.old + 4 * n) }
+
+        // What stands after an error. Memory for the bytes is wanting before the first device call.
         ensures refused { IsErrOf result JournalError.NeedsStart
             → (self.new ≡ self.old) × (disk.new ≡ disk.old) }
         ensures stopped { IsErrOf result JournalError.Disk
             → self.new ≡ record self.old { needs_start = true } }
         ensures memory { IsErrOf result (JournalError.Memory alloc_error)
             → ((self.new ≡ self.old) × (disk.new ≡ disk.old))
-            ⊎ (self.new ≡ record self.old { needs_start = true }) }
+            ⊎ ((self.new ≡ record self.old { needs_start = true })
+            × Rose (D.wants disk.old) (D.wants disk.new)) }
         ensures empty { part.now ≡ [] → disk.new ≡ disk.old }
     {
         if self.needs_start {

@@ -11,7 +11,7 @@ use thiserror::Error;
 pub enum JournalError {
     #[error("the disk failed while a journal was read or written")]
     Disk,
-    #[error("no batch and no closed gate stands at byte {place} of the journal")]
+    #[error("no batch that may be read and no closed gate stands at byte {place} of the journal")]
     NotAJournal { place: u64 },
     #[error("the journal has to be started anew, since an earlier append failed")]
     NeedsStart,

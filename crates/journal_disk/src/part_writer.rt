@@ -1,6 +1,7 @@
-ghost use Rattle.std.specs.Prelude.{◌≡◌, ◌+◌, ◌<◌, ◌≤◌, ◌^◌, ◌++◌, [], List, None, length, IfOk, IfErr};
+ghost use Rattle.std.specs.Prelude.{◌≡◌, ◌+◌, ◌*◌, ◌<◌, ◌≤◌, ◌^◌, ◌++◌, [], List, None, length, OnOk, IfOk, IfErr, is_some};
 ghost use Rattle.std.specs.Option.{ForSome};
 ghost use Rattle.outer_io.specs.Causes.{Rose};
+ghost use Rattle.outer_disk.specs.Disk.{RoseBy};
 ghost use Rattle.plain_orders.specs.declared.entry.Entry.{Entry};
 ghost use Rattle.plain_orders.specs.Ordered.{IsOrdered};
 ghost use Rattle.journal_disk.specs.Moments.{AppendsWhole};
@@ -33,10 +34,16 @@ pub(crate) fn write_batches<D: Disk>(
         → ForSome (D.told disk.old) (λ bytes.
         AppendsWhole D.moment D.left_since D.told disk.old disk.new list part) }
     ensures none { staged.now.sizes.items ≡ [] → disk.new ≡ disk.old }
-    ensures silent { D.told disk.old ≡ None → D.told disk.new ≡ None }
+    ensures telling { is_some (D.told disk.new) ≡ is_some (D.told disk.old) }
     ensures faults { D.faults disk.old ≤ D.faults disk.new }
     ensures failed { IfErr result (λ stop. stop ≡ Stop.Failed
         → Rose (D.faults disk.old) (D.faults disk.new)) }
+    ensures calls { OnOk result (RoseBy (4 * length staged.now.sizes.items)
+        (D.calls disk.old) (D.calls disk.new)) }
+    ensures few { D.calls disk.new
+        ≤ D.calls disk.old + 4 * length staged.now.sizes.items }
+    ensures wanted { IfErr result (λ stop. stop ≡ Stop.Memory
+        → Rose (D.wants disk.old) (D.wants disk.new)) }
 {
     let mut gate = gate;
     let mut rest = staged.bytes.as_slice();

@@ -1,12 +1,13 @@
-ghost use Rattle.std.specs.Prelude.{◌≡◌, ◌≢◌, ◌+◌, ◌^◌, ◌<◌, ◌≤◌, ℕ, List, None, Err, length, OnOk, IfOk, IfErr, IsErrOf};
+ghost use Rattle.std.specs.Prelude.{◌≡◌, ◌≢◌, ◌+◌, ◌^◌, ◌<◌, ◌≤◌, ℕ, List, None, Err, length, OnOk, IfOk, IfErr, IsErrOf, is_some};
 ghost use Rattle.std.specs.Option.{ForSome};
 ghost use Rattle.outer_io.specs.Causes.{Rose};
-ghost use Rattle.outer_disk.specs.Disk.{Only, IsSynced, LeavesOnly};
+ghost use Rattle.outer_disk.specs.Disk.{Only, IsSynced, LeavesOnly, RoseBy};
 ghost use Rattle.plain_orders.specs.declared.entry.Entry.{Entry};
 ghost use Rattle.plain_orders.specs.Ordered.{IsOrdered};
 ghost use Rattle.journal_disk.specs.Stands.{Stands, StandsAs, AreLow, HasBadGate};
 ghost use Rattle.journal_disk.specs.Reading.{IsRead};
 ghost use Rattle.journal_disk.specs.Settled.{IsSettled};
+ghost use Rattle.journal_disk.specs.Moments.{IsKept};
 
 use crate::disk_reader::read_all;
 use crate::gate_writer::{cut_behind, put_gate};
@@ -30,10 +31,11 @@ fn repair<D: Disk>(disk: &mut D, size: u64, gate: u64) -> Result<(), Stop>
     ensures any_moment { ForSome (D.told disk.old) (λ old. Only old (D.may_leave disk.old)
         → (list : List Entry) → IsRead old list gate
         → LeavesOnly D.moment D.left_since disk.old disk.new (λ c. Stands c list)) }
-    ensures silent { D.told disk.old ≡ None → D.told disk.new ≡ None }
+    ensures telling { is_some (D.told disk.new) ≡ is_some (D.told disk.old) }
     ensures faults { D.faults disk.old ≤ D.faults disk.new }
     ensures failed { IfErr result (λ stop. stop ≡ Stop.Failed
         → Rose (D.faults disk.old) (D.faults disk.new)) }
+    ensures few { D.calls disk.new ≤ D.calls disk.old + 3 }
 {
     if size < 2 {
         put_gate(disk, size)
@@ -53,13 +55,16 @@ pub(crate) fn recover<D: Disk>(alloc: Global, disk: &mut D) -> Result<ReadJourna
     ensures read { ForSome (D.told disk.old) (λ old. ForSome (D.told disk.new) (StandsAs old)) }
     ensures any_moment { ForSome (D.told disk.old) (λ old.
         LeavesOnly D.moment D.left_since disk.old disk.new (StandsAs old)) }
-    ensures silent { D.told disk.old ≡ None → D.told disk.new ≡ None }
+    ensures kept { ForSome (D.told disk.old) (λ old. (place : ℕ) → HasBadGate old place
+        → IsKept D.moment D.left_since D.may_leave D.told disk.old disk.new) }
+    ensures telling { is_some (D.told disk.new) ≡ is_some (D.told disk.old) }
     ensures faults { D.faults disk.old ≤ D.faults disk.new }
     ensures disk { IsErrOf result JournalError.Disk
         → Rose (D.faults disk.old) (D.faults disk.new) }
     ensures not_a_journal { (place : ℕ) → result ≡ Err (JournalError.NotAJournal place)
         → ForSome (D.told disk.old) (λ bytes. HasBadGate bytes place) }
     ensures needs_start { result ≢ Err JournalError.NeedsStart }
+    ensures few { D.calls disk.new ≤ D.calls disk.old + 5 }
 {
     let bytes = read_all(alloc, disk)?;
     let read = read_journal(alloc, &bytes)?;

@@ -1,5 +1,5 @@
 -- What the calls of a disk do to its bytes, and what a crash may do between two syncs.
-use Rattle.std.specs.Prelude.{◌≡◌, ◌⊎◌, ℕ, ◌+◌, ◌≤◌, min, max, List, ◌++◌, length, take, drop, Option, None, Some, IfSome, ⊤}
+use Rattle.std.specs.Prelude.{◌≡◌, ◌⊎◌, ℕ, ◌+◌, ◌-◌, ◌^◌, ◌≤◌, min, max, List, ◌++◌, length, take, drop, Option, None, Some, IfSome, ⊤}
 
 -- the bytes with this part written over those at the place, and past the end
 abbrev pub written : List ℕ → ℕ → List ℕ → List ℕ
@@ -52,3 +52,7 @@ pub record LeavesOnly {D : Type 0} (moment : D → ℕ) (left_since : D → ℕ 
   pub each : (c : List ℕ) → left_since new (moment old) c → P c
   -- for a run that began earlier
   pub before : (t : ℕ) (c : List ℕ) → t ≤ moment old → left_since new t c → left_since old t c ⊎ P c
+
+-- a count rose by so many, where one that stands at the greatest u64 stays there
+abbrev pub RoseBy : ℕ → ℕ → ℕ → Type 0
+RoseBy more before now = (min (before + more) (2 ^ 64 - 1) ≤ now) × (now ≤ before + more)

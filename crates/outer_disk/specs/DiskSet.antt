@@ -2,8 +2,9 @@
 use Rattle.std.specs.Prelude.{◌≡◌, ◌≢◌, ℕ, ◌-◌, ◌≤◌, List, [], ◌++◌, length, map, replicate, Option, None, Some, IfSome, is_some}
 use Rattle.std.specs.List.{slice_index_or}
 use Rattle.outer_disk.specs.Disk.{IsSynced}
-use Rattle.outer_disk.specs.Faults.{fresh_faults}
-use Rattle.outer_disk.specs.MemDisk.{DiskState}
+use Rattle.outer_disk.specs.Crash.{IsImage}
+use Rattle.outer_disk.specs.Faults.{fresh_faults, after_crash}
+use Rattle.outer_disk.specs.MemDisk.{DiskState, held}
 
 -- what stands in each place stays
 abbrev pub AllStay : {D : Type 0} → (ℕ → Option D) → (ℕ → Option D) → Type 0
@@ -20,9 +21,16 @@ pub record Crashes {D : Type 0} (told : D → Option (List ℕ)) (may_leave : D 
   pub telling : is_some (told new) ≡ is_some (told old)
   pub later : faults old ≤ faults new
 
+-- what a crash makes of a disk in memory: the image of this pick, all of it on the disk; a stop ends
+pub record IsCrashed (pick : ℕ) (old new : DiskState) : Type 0 where
+  pub image : IsImage pick old.first old.calls (held new)
+  pub synced : new.calls ≡ []
+  pub faults : new.faults ≡ after_crash old.faults
+  pub wants : new.wants ≡ old.wants
+
 -- a disk that was just made, with no bytes and no faults to come
 abbrev pub empty_disk : DiskState
-empty_disk = record { first = []; calls = []; faults = fresh_faults [] None }
+empty_disk = record { first = []; calls = []; faults = fresh_faults [] None; wants = 0 }
 
 -- these disks in the first places, and empty ones in the others
 abbrev pub filled : List DiskState → List (Option DiskState)

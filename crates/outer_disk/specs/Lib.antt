@@ -3,4 +3,5 @@ pub mod Crash
 pub mod Disk
 pub mod DiskSet
 pub mod Faults
+pub mod FileDisk
 pub mod MemDisk

@@ -2,15 +2,20 @@
 use Rattle.std.specs.Prelude.{◌≡◌, ℕ, ◌≤◌, List, [], ◌∷◌, length, take}
 use Rattle.std.proofs.Common.{sym, subst, arith}
 use Rattle.std.proofs.Math.Seq.{take-length}
+use Rattle.outer_io.specs.Plan.{one_more}
+use Rattle.outer_io.specs.declared.stops.Stop.{Stop}
+use Rattle.outer_io.specs.declared.stops.Stop.TheVariants.{Failed, Memory}
 use Rattle.outer_disk.specs.Calls.{bytes_after, AreWithin, MayLeave, LeftSince}
 use Rattle.outer_disk.specs.Faults.{Faults}
 use Rattle.outer_disk.specs.declared.disk_call.DiskCall.{DiskCall}
 
--- the bytes that were on the disk at first, the calls that it has taken since, and its faults
+-- the bytes that were on the disk at first, the calls that it has taken since, its faults, and how often it has
+-- wanted memory
 pub record DiskState : Type 0 where
   pub first : List ℕ
   pub calls : List DiskCall
   pub faults : Faults
+  pub wants : ℕ
 
 -- the bytes that a read gives
 abbrev pub held : DiskState → List ℕ
@@ -27,6 +32,11 @@ moment_of d = length d.calls
 -- what a crash at a moment from t on might have left
 abbrev pub LeftSinceOf : DiskState → ℕ → List ℕ → Type 0
 LeftSinceOf d = LeftSince d.first d.calls
+
+-- how often it has wanted memory behind a call that was stopped so
+abbrev pub wants_with : Stop → ℕ → ℕ
+wants_with Failed wants = wants
+wants_with Memory wants = one_more wants
 
 -- the first bytes, where those that stand there are kept apart from the first call on
 abbrev pub first_of : List DiskCall → List ℕ → List ℕ → List ℕ

@@ -1,7 +1,7 @@
 ghost use Rattle.std.specs.Prelude.{◌≡◌, ℕ, ◌+◌, ◌<◌, ◌≤◌, List, length, take, drop, Option, IfOk, IfErr, IfSome, OnOk, OnErr, option_map};
 ghost use Rattle.std.specs.Option.{ForSome};
 ghost use Rattle.outer_io.specs.Causes.{HasCause, Rose};
-ghost use Rattle.outer_disk.specs.Disk.{written, Torn, Cut, Follows, LeavesNoMore, IsSynced, Matched, Elapses};
+ghost use Rattle.outer_disk.specs.Disk.{written, Torn, Cut, Follows, LeavesNoMore, IsSynced, Matched, Elapses, RoseBy};
 
 use outer_io::{Failed, Stop};
 
@@ -23,6 +23,12 @@ pub trait Disk {
     /// How often it has failed. It never falls, and stays at the greatest u64.
     ghost faults: { Self → ℕ };
 
+    /// How often it has wanted memory. It never falls, and stays at the greatest u64.
+    ghost wants: { Self → ℕ };
+
+    /// How many calls it has taken, those that failed with them. It stays at the greatest u64.
+    ghost calls: { Self → ℕ };
+
     /// How many bytes it has.
     fn len(&mut self) -> Result<u64, Failed>
         ensures value { IfOk result (λ n. IfSome (told self.old) (λ bytes. n ≡ length bytes)) }
@@ -30,7 +36,9 @@ pub trait Disk {
         ensures crash { LeavesNoMore (may_leave self.old) (may_leave self.new) }
         ensures time { Elapses (moment self.old) (moment self.new)
             (left_since self.old) (left_since self.new) (may_leave self.new) }
-        ensures cause { HasCause (faults self.old) (faults self.new) result };
+        ensures cause { HasCause (faults self.old) (faults self.new) result }
+        ensures wants { wants self.new ≡ wants self.old }
+        ensures counted { RoseBy 1 (calls self.old) (calls self.new) };
 
     /// Fills `buf` with the bytes from `at` on. After an `Err` any bytes may stand in `buf`.
     fn read(&mut self, at: u64, buf: &mut [u8]) -> Result<(), Failed>
@@ -42,7 +50,9 @@ pub trait Disk {
         ensures crash { LeavesNoMore (may_leave self.old) (may_leave self.new) }
         ensures time { Elapses (moment self.old) (moment self.new)
             (left_since self.old) (left_since self.new) (may_leave self.new) }
-        ensures cause { HasCause (faults self.old) (faults self.new) result };
+        ensures cause { HasCause (faults self.old) (faults self.new) result }
+        ensures wants { wants self.new ≡ wants self.old }
+        ensures counted { RoseBy 1 (calls self.old) (calls self.new) };
 
     /// Writes over what is there, and past the end. After an `Err` any bytes may stand in the range, whole or
     /// cut short. Until a sync, a crash may leave any bytes there.
@@ -59,10 +69,14 @@ pub trait Disk {
             (left_since self.old) (left_since self.new) (may_leave self.new) }
         ensures faults { faults self.old ≤ faults self.new }
         ensures failed { IfErr result (λ stop. stop ≡ Stop.Failed
-            → Rose (faults self.old) (faults self.new)) };
+            → Rose (faults self.old) (faults self.new)) }
+        ensures wants { wants self.old ≤ wants self.new }
+        ensures wanted { IfErr result (λ stop. stop ≡ Stop.Memory
+            → Rose (wants self.old) (wants self.new)) }
+        ensures counted { RoseBy 1 (calls self.old) (calls self.new) };
 
     /// Cuts it to a length. After an `Err` any part of what stood behind may be gone, from the end. Until a
-    /// sync, a crash may leave any part of it.
+    /// sync, a crash may leave any front of it.
     fn cut(&mut self, to: u64) -> Result<(), Stop>
         requires { ForSome (told self.old) (λ bytes. to ≤ length bytes) }
         ensures ok { OnOk result (told self.new ≡ option_map (take to) (told self.old)) }
@@ -72,7 +86,11 @@ pub trait Disk {
             (left_since self.old) (left_since self.new) (may_leave self.new) }
         ensures faults { faults self.old ≤ faults self.new }
         ensures failed { IfErr result (λ stop. stop ≡ Stop.Failed
-            → Rose (faults self.old) (faults self.new)) };
+            → Rose (faults self.old) (faults self.new)) }
+        ensures wants { wants self.old ≤ wants self.new }
+        ensures wanted { IfErr result (λ stop. stop ≡ Stop.Memory
+            → Rose (wants self.old) (wants self.new)) }
+        ensures counted { RoseBy 1 (calls self.old) (calls self.new) };
 
     /// After it a crash leaves what a read gives. One that fails loses nothing.
     fn sync(&mut self) -> Result<(), Stop>
@@ -83,7 +101,11 @@ pub trait Disk {
             (left_since self.old) (left_since self.new) (may_leave self.new) }
         ensures faults { faults self.old ≤ faults self.new }
         ensures failed { IfErr result (λ stop. stop ≡ Stop.Failed
-            → Rose (faults self.old) (faults self.new)) };
+            → Rose (faults self.old) (faults self.new)) }
+        ensures wants { wants self.old ≤ wants self.new }
+        ensures wanted { IfErr result (λ stop. stop ≡ Stop.Memory
+            → Rose (wants self.old) (wants self.new)) }
+        ensures counted { RoseBy 1 (calls self.old) (calls self.new) };
 
     /// This moment is one of those since an earlier one.
     ghost counts_now: { (disk : Self) (t : ℕ) (c : List ℕ) → t ≤ moment disk

@@ -1,5 +1,7 @@
-ghost use Rattle.std.specs.Prelude.{◌≡◌, ◌↔◌, IsErr};
+ghost use Rattle.std.specs.Prelude.{◌≡◌, ◌↔◌, IsErr, IfErr};
 ghost use Rattle.outer_io.specs.Causes.{HasCause};
+ghost use Rattle.outer_disk.specs.Disk.{RoseBy};
+ghost use Rattle.outer_disk.specs.FileDisk.{no_calls};
 
 use crate::disk::Disk;
 use outer_io::{Failed, Stop};
@@ -9,33 +11,36 @@ use std::marker::Model;
 use std::rt::Files;
 
 /// A disk over a file, which it opens at its first call and makes where it is missing. With no path each call
-/// fails. It tells nothing of what the file has, nor of what a crash leaves. Contracts see how often it failed.
+/// fails. It tells nothing of what the file has, nor of what a crash leaves. Contracts see how often it failed,
+/// and how many calls it took.
 #[derive(Drop)]
 pub struct FileDisk<R: Files> {
     rt: R,
     path: Option<String>,
     file: Option<R::File>,
     faults: u64,
+    calls: u64,
 }
 
 impl<R: Files> Model for FileDisk<R> {
-    ghost use Rattle.std.specs.Prelude.{ℕ};
+    ghost use Rattle.outer_disk.specs.FileDisk.{FileCounts};
 
-    ghost Value = { ℕ };
+    ghost Value = { FileCounts };
 
-    ghost view = { λ d. d.faults };
+    ghost view = { λ d. record { faults = d.faults; calls = d.calls } };
 }
 
 impl<R: Files> FileDisk<R> {
     /// A disk over the file with this path.
     pub fn new(rt: R, path: Option<String>) -> FileDisk<R>
-        ensures { result ≡ 0 }
+        ensures { result ≡ no_calls }
     {
         FileDisk {
             rt,
             path,
             file: None,
             faults: 0,
+            calls: 0,
         }
     }
 
@@ -48,12 +53,14 @@ impl<R: Files> FileDisk<R> {
         }
     }
 
-    /// Counts a failure.
+    /// Counts a call, and a failure.
     fn counted<T>(&mut self, answer: Result<T, Failed>) -> Result<T, Failed>
         ensures same { result ≡ answer }
-        ensures cause { HasCause self.old self.new result }
+        ensures cause { HasCause self.old.faults self.new.faults result }
+        ensures counted { RoseBy 1 self.old.calls self.new.calls }
     {
         let faults = self.faults;
+        self.calls = self.calls.saturating_add(1);
         if answer.is_err() {
             self.faults = faults.saturating_add(1);
         }
@@ -118,7 +125,8 @@ fn sync_of<F: OpenFile>(file: &Option<F>) -> Result<(), Failed> {
 
 /// The same, as a call that may also want memory answers it.
 fn as_stop(answer: Result<(), Failed>) -> Result<(), Stop>
-    ensures { IsErr result ↔ IsErr answer }
+    ensures same { IsErr result ↔ IsErr answer }
+    ensures failed { IfErr result (λ stop. stop ≡ Stop.Failed) }
 {
     match answer {
         Ok(()) => Ok(()),
@@ -137,7 +145,11 @@ impl<R: Files> Disk for FileDisk<R> {
 
     ghost left_since = { λ _ _ _. ⊤ };
 
-    ghost faults = { λ d. d };
+    ghost faults = { λ d. d.faults };
+
+    ghost wants = { λ _. 0 };
+
+    ghost calls = { λ d. d.calls };
 
     ghost counts_now = { λ _ _ _ _ _. tt };
 

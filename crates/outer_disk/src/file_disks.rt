@@ -1,4 +1,5 @@
 ghost use Rattle.std.specs.Prelude.{◌≡◌, ◌≤◌, length, replicate, vec_len, Some, IfOk, OnOk};
+ghost use Rattle.outer_disk.specs.FileDisk.{no_calls};
 
 use crate::disk_set::{DiskSet, PLACES};
 use crate::file_disk::FileDisk;
@@ -20,9 +21,10 @@ pub struct FileDisks<R: Files> {
 }
 
 impl<R: Files> Model for FileDisks<R> {
-    ghost use Rattle.std.specs.Prelude.{◌≡◌, ℕ, List, Option, vec_len};
+    ghost use Rattle.std.specs.Prelude.{◌≡◌, List, Option, vec_len};
+    ghost use Rattle.outer_disk.specs.FileDisk.{FileCounts};
 
-    ghost Value = { List (Option ℕ) };
+    ghost Value = { List (Option FileCounts) };
 
     ghost view = { λ d. d.places.items };
 
@@ -32,7 +34,7 @@ impl<R: Files> Model for FileDisks<R> {
 impl<R: Files + Copy> FileDisks<R> {
     /// A set of disks over the files in this directory.
     pub fn new(rt: R, alloc: Global, dir: Word) -> Result<FileDisks<R>, AllocError>
-        ensures { IfOk result (λ disks. disks ≡ replicate 16 (Some 0)) }
+        ensures { IfOk result (λ disks. disks ≡ replicate 16 (Some no_calls)) }
     {
         let places = places_over(rt, alloc)?;
         Ok(FileDisks {
@@ -49,7 +51,7 @@ fn places_over<R: Files + Copy>(
     rt: R,
     alloc: Global,
 ) -> Result<Vec<Option<FileDisk<R>>>, AllocError>
-    ensures { IfOk result (λ places. places.items ≡ replicate 16 (Some 0)) }
+    ensures { IfOk result (λ places. places.items ≡ replicate 16 (Some no_calls)) }
 {
     let mut places = Vec::with_capacity(alloc, PLACES)?;
     for _place in 0..PLACES {

@@ -20,6 +20,7 @@ pub struct MemDisk {
     first: Vec<u8>,
     calls: Vec<DiskCall>,
     faults: DiskFaults,
+    wants: u64,
 }
 
 impl Model for MemDisk {
@@ -31,12 +32,14 @@ impl Model for MemDisk {
       first = first_of d.calls.items d.first.items d.bytes.items;
       calls = d.calls.items;
       faults = d.faults;
+      wants = d.wants;
     } };
 
     ghost invariant = { λ d. IsReplay d.calls.items d.first.items d.bytes.items };
 }
 
 impl MemDisk {
+    ghost use Rattle.outer_io.specs.Plan.{one_more};
     ghost use Rattle.outer_disk.specs.Crash.{IsImage};
     ghost use Rattle.outer_disk.specs.Faults.{fresh_faults, after_crash};
     ghost use Rattle.outer_disk.specs.MemDisk.{held, MayLeaveOf};
@@ -47,6 +50,7 @@ impl MemDisk {
         ensures bytes { result.first ≡ bytes.items }
         ensures calls { result.calls ≡ [] }
         ensures faults { result.faults ≡ fresh_faults fail.items stop }
+        ensures wants { result.wants ≡ 0 }
     {
         MemDisk {
             alloc,
@@ -54,6 +58,7 @@ impl MemDisk {
             first: Vec::new(alloc),
             calls: Vec::new(alloc),
             faults: DiskFaults::new(fail, stop),
+            wants: 0,
         }
     }
 
@@ -73,6 +78,7 @@ impl MemDisk {
         ensures allowed { OnOk result (MayLeaveOf self.old (held self.new)) }
         ensures synced { OnOk result (self.new.calls ≡ []) }
         ensures faults { OnOk result (self.new.faults ≡ after_crash self.old.faults) }
+        ensures wants { self.new.wants ≡ self.old.wants }
         ensures err { OnErr result (self.new ≡ self.old) }
     {
         let first = first_bytes(&self.calls, &self.first, &self.bytes);
@@ -81,6 +87,14 @@ impl MemDisk {
         self.calls.clear();
         self.faults.end_stop();
         Ok(())
+    }
+
+    /// Counts a call that wanted memory.
+    fn count_want(&mut self)
+        ensures { self.new ≡ record self.old { wants = one_more self.old.wants } }
+    {
+        let wants = self.wants;
+        self.wants = wants.saturating_add(1);
     }
 
     /// Writes, and notes it. After an `Err` all is as it was.
@@ -126,9 +140,9 @@ impl MemDisk {
 impl Disk for MemDisk {
     ghost use Rattle.std.specs.Prelude.{Some, ◌+◌, ◌<◌, ◌↔◌, take, drop, IfErr, IfOk, IsErr, IsTrue};
     ghost use Rattle.outer_io.specs.Causes.{HasCause, Rose};
-    ghost use Rattle.outer_disk.specs.Disk.{written, Torn, Cut, Follows, LeavesNoMore, Only, Elapses};
+    ghost use Rattle.outer_disk.specs.Disk.{written, Torn, Cut, Follows, LeavesNoMore, Only, Elapses, RoseBy};
     ghost use Rattle.outer_disk.specs.Faults.{fault_count, fails, write_fails, after_other, after_write};
-    ghost use Rattle.outer_disk.specs.MemDisk.{held, MayLeaveOf, moment_of, LeftSinceOf, counts_now_of, only_now_of};
+    ghost use Rattle.outer_disk.specs.MemDisk.{held, MayLeaveOf, moment_of, LeftSinceOf, counts_now_of, only_now_of, wants_with};
 
     ghost told = { λ d. Some (held d) };
 
@@ -139,6 +153,10 @@ impl Disk for MemDisk {
     ghost left_since = { LeftSinceOf };
 
     ghost faults = { λ d. fault_count d.faults };
+
+    ghost wants = { λ d. d.wants };
+
+    ghost calls = { λ d. d.faults.plan.calls };
 
     ghost counts_now = { counts_now_of };
 
@@ -153,6 +171,9 @@ impl Disk for MemDisk {
             (LeftSinceOf self.old) (LeftSinceOf self.new) (MayLeaveOf self.new) }
         ensures cause { HasCause (fault_count self.old.faults)
             (fault_count self.new.faults) result }
+        ensures wants { self.new.wants ≡ self.old.wants }
+        ensures counted { RoseBy 1 self.old.faults.plan.calls
+            self.new.faults.plan.calls }
     {
         if self.faults.is_next_to_fail() {
             return Err(Failed);
@@ -170,6 +191,9 @@ impl Disk for MemDisk {
             (LeftSinceOf self.old) (LeftSinceOf self.new) (MayLeaveOf self.new) }
         ensures cause { HasCause (fault_count self.old.faults)
             (fault_count self.new.faults) result }
+        ensures wants { self.new.wants ≡ self.old.wants }
+        ensures counted { RoseBy 1 self.old.faults.plan.calls
+            self.new.faults.plan.calls }
     {
         if self.faults.is_next_to_fail() {
             return Err(Failed);
@@ -187,8 +211,10 @@ impl Disk for MemDisk {
           calls = self.old.calls ++ DiskCall.Write at part.now ∷ [];
           faults = after_write self.old.faults;
         }) }
-        ensures err { OnErr result (self.new
-            ≡ record self.old { faults = after_write self.old.faults }) }
+        ensures err { IfErr result (λ stop. self.new ≡ record self.old {
+          faults = after_write self.old.faults;
+          wants = wants_with stop self.old.wants;
+        }) }
         ensures due { (result ≡ Err Stop.Failed) ↔ IsTrue (write_fails self.old.faults) }
         ensures crash { Follows (Torn at (length part.now))
             (MayLeaveOf self.old) (MayLeaveOf self.new) }
@@ -197,13 +223,21 @@ impl Disk for MemDisk {
         ensures faults { fault_count self.old.faults ≤ fault_count self.new.faults }
         ensures failed { IfErr result (λ stop. stop ≡ Stop.Failed
             → Rose (fault_count self.old.faults) (fault_count self.new.faults)) }
+        ensures wants { self.old.wants ≤ self.new.wants }
+        ensures wanted { IfErr result (λ stop. stop ≡ Stop.Memory
+            → Rose self.old.wants self.new.wants) }
+        ensures counted { RoseBy 1 self.old.faults.plan.calls
+            self.new.faults.plan.calls }
     {
         if self.faults.is_next_write_to_fail() {
             return Err(Stop::Failed);
         }
         match self.take_write(at, part) {
             Ok(()) => Ok(()),
-            Err(_) => Err(Stop::Memory),
+            Err(_) => {
+                self.count_want();
+                Err(Stop::Memory)
+            }
         }
     }
 
@@ -214,8 +248,10 @@ impl Disk for MemDisk {
           calls = self.old.calls ++ DiskCall.Cut to ∷ [];
           faults = after_other self.old.faults;
         }) }
-        ensures err { OnErr result (self.new
-            ≡ record self.old { faults = after_other self.old.faults }) }
+        ensures err { IfErr result (λ stop. self.new ≡ record self.old {
+          faults = after_other self.old.faults;
+          wants = wants_with stop self.old.wants;
+        }) }
         ensures due { (result ≡ Err Stop.Failed) ↔ IsTrue (fails self.old.faults) }
         ensures crash { Follows (Cut to) (MayLeaveOf self.old) (MayLeaveOf self.new) }
         ensures time { Elapses (moment_of self.old) (moment_of self.new)
@@ -223,13 +259,21 @@ impl Disk for MemDisk {
         ensures faults { fault_count self.old.faults ≤ fault_count self.new.faults }
         ensures failed { IfErr result (λ stop. stop ≡ Stop.Failed
             → Rose (fault_count self.old.faults) (fault_count self.new.faults)) }
+        ensures wants { self.old.wants ≤ self.new.wants }
+        ensures wanted { IfErr result (λ stop. stop ≡ Stop.Memory
+            → Rose self.old.wants self.new.wants) }
+        ensures counted { RoseBy 1 self.old.faults.plan.calls
+            self.new.faults.plan.calls }
     {
         if self.faults.is_next_to_fail() {
             return Err(Stop::Failed);
         }
         match self.take_cut(to) {
             Ok(()) => Ok(()),
-            Err(_) => Err(Stop::Memory),
+            Err(_) => {
+                self.count_want();
+                Err(Stop::Memory)
+            }
         }
     }
 
@@ -240,8 +284,10 @@ impl Disk for MemDisk {
           calls = self.old.calls ++ DiskCall.Sync ∷ [];
           faults = after_other self.old.faults;
         }) }
-        ensures err { OnErr result (self.new
-            ≡ record self.old { faults = after_other self.old.faults }) }
+        ensures err { IfErr result (λ stop. self.new ≡ record self.old {
+          faults = after_other self.old.faults;
+          wants = wants_with stop self.old.wants;
+        }) }
         ensures due { (result ≡ Err Stop.Failed) ↔ IsTrue (fails self.old.faults) }
         ensures crash { LeavesNoMore (MayLeaveOf self.old) (MayLeaveOf self.new) }
         ensures time { Elapses (moment_of self.old) (moment_of self.new)
@@ -249,13 +295,21 @@ impl Disk for MemDisk {
         ensures faults { fault_count self.old.faults ≤ fault_count self.new.faults }
         ensures failed { IfErr result (λ stop. stop ≡ Stop.Failed
             → Rose (fault_count self.old.faults) (fault_count self.new.faults)) }
+        ensures wants { self.old.wants ≤ self.new.wants }
+        ensures wanted { IfErr result (λ stop. stop ≡ Stop.Memory
+            → Rose self.old.wants self.new.wants) }
+        ensures counted { RoseBy 1 self.old.faults.plan.calls
+            self.new.faults.plan.calls }
     {
         if self.faults.is_next_to_fail() {
             return Err(Stop::Failed);
         }
         match self.take_sync() {
             Ok(()) => Ok(()),
-            Err(_) => Err(Stop::Memory),
+            Err(_) => {
+                self.count_want();
+                Err(Stop::Memory)
+            }
         }
     }
 }

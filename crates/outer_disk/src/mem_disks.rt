@@ -64,7 +64,11 @@ fn fill_up(alloc: Global, places: &mut Vec<Option<MemDisk>>) -> Result<(), Alloc
 }
 
 impl DiskSet for MemDisks {
-    ghost use Rattle.outer_disk.specs.DiskSet.{place_of};
+    ghost use Rattle.std.specs.Prelude.{◌<◌, IsSome, OnErr};
+    ghost use Rattle.outer_disk.specs.Disk.{Matched};
+    ghost use Rattle.outer_disk.specs.DiskSet.{place_of, AllStay, OthersStay, Crashes, IsCrashed};
+    ghost use Rattle.outer_disk.specs.Faults.{fault_count};
+    ghost use Rattle.outer_disk.specs.MemDisk.{held, MayLeaveOf};
 
     type D = MemDisk;
 
@@ -86,7 +90,17 @@ impl DiskSet for MemDisks {
         self.places[usize::from(server)] = Some(disk);
     }
 
-    fn crash(&mut self, server: u8, pick: u64) -> Result<(), AllocError> {
+    fn crash(&mut self, server: u8, pick: u64) -> Result<(), AllocError>
+        requires within { server < 16 }
+        requires there { IsSome (place_of self.old server) }
+        ensures image { OnOk result (Matched (IsCrashed pick)
+            (place_of self.old server) (place_of self.new server)) }
+        ensures ok { OnOk result (Matched (Crashes (λ d. Some (held d)) MayLeaveOf
+            (λ d. fault_count d.faults))
+            (place_of self.old server) (place_of self.new server)) }
+        ensures others { OthersStay server (place_of self.old) (place_of self.new) }
+        ensures err { OnErr result (AllStay (place_of self.old) (place_of self.new)) }
+    {
         match &mut self.places[usize::from(server)] {
             Some(disk) => disk.crash(pick),
             None => unreachable!(),
@@ -114,8 +128,13 @@ mod tests {
         disks.give(15, last);
         assert_eq!(rt; disk.write_at(0, b"x"), Ok(()));
         disks.give(0, disk);
+        disks.crash(0, 1)?;
+        let mut disk = disks.take(0);
+        assert_eq!(rt; disk.bytes(), b"xb".as_slice());
+        assert_eq!(rt; disk.write_at(0, b"y"), Ok(()));
+        disks.give(0, disk);
         disks.crash(0, 0)?;
-        assert_eq!(rt; disks.take(0).bytes(), b"ab".as_slice());
+        assert_eq!(rt; disks.take(0).bytes(), b"xb".as_slice());
         Ok(())
     }
 }

@@ -15,7 +15,7 @@ use subscript_keys::ValueBytes;
 
 /// What a start or an append answers.
 #[derive(Clone, Copy, Debug, PartialEq, Eq)]
-enum Answer {
+pub(crate) enum Answer {
     /// A start read so many entries.
     Read(usize),
     Saved,
@@ -35,7 +35,7 @@ fn answer_of(error: JournalError) -> Answer {
 }
 
 /// What a start answers.
-fn read(alloc: Global, disk: &mut MemDisk) -> Answer {
+pub(crate) fn read(alloc: Global, disk: &mut MemDisk) -> Answer {
     match Journal::start(alloc, disk) {
         Ok((_journal, entries)) => Answer::Read(entries.as_slice().len()),
         Err(error) => answer_of(error),
@@ -80,7 +80,11 @@ fn append(
 }
 
 /// Starts a journal and appends a part: what that answers, and what an append behind it does.
-fn save(alloc: Global, disk: &mut MemDisk, part: &[Entry]) -> Result<(Answer, Answer), Fail> {
+pub(crate) fn save(
+    alloc: Global,
+    disk: &mut MemDisk,
+    part: &[Entry],
+) -> Result<(Answer, Answer), Fail> {
     let (mut journal, entries) = match Journal::start(alloc, disk) {
         Ok(started) => started,
         Err(error) => {
@@ -99,7 +103,7 @@ fn save(alloc: Global, disk: &mut MemDisk, part: &[Entry]) -> Result<(Answer, An
 }
 
 /// An update of ^x in session 2, with a value of so many bytes.
-fn update(alloc: Global, w: u64, length: usize) -> Result<Entry, Fail> {
+pub(crate) fn update(alloc: Global, w: u64, length: usize) -> Result<Entry, Fail> {
     let Some((key, _)) = take_key(alloc, b"\x00\x02x\x00")? else {
         return Err(Fail::from("the key of ^x"));
     };
@@ -114,7 +118,7 @@ fn update(alloc: Global, w: u64, length: usize) -> Result<Entry, Fail> {
 }
 
 /// The entry with this number, from 0, of an Epoch, an Open and updates.
-fn entry(alloc: Global, number: u64) -> Result<Entry, Fail> {
+pub(crate) fn entry(alloc: Global, number: u64) -> Result<Entry, Fail> {
     match number {
         0 => Ok(Entry::Epoch { number: 1 }),
         1 => Ok(Entry::Opened { session: 2, app: 0 }),
@@ -122,7 +126,7 @@ fn entry(alloc: Global, number: u64) -> Result<Entry, Fail> {
     }
 }
 
-fn disk_with(
+pub(crate) fn disk_with(
     alloc: Global,
     bytes: &[u8],
     fail: &[u64],
@@ -132,7 +136,7 @@ fn disk_with(
 }
 
 /// Saves three entries, each in a batch of its own, up to the first failure; answers how often it saved.
-fn save_three(alloc: Global, disk: &mut MemDisk) -> Result<u64, Fail> {
+pub(crate) fn save_three(alloc: Global, disk: &mut MemDisk) -> Result<u64, Fail> {
     for number in 0..3 {
         let part = vec![in alloc; entry(alloc, number)?]?;
         if save(alloc, disk, &part)?.0 != Answer::Saved {
@@ -140,12 +144,6 @@ fn save_three(alloc: Global, disk: &mut MemDisk) -> Result<u64, Fail> {
         }
     }
     Ok(3)
-}
-
-/// What a start answers behind a crash.
-fn read_behind_crash(alloc: Global, disk: &mut MemDisk, pick: u64) -> Result<Answer, Fail> {
-    disk.crash(pick)?;
-    Ok(read(alloc, disk))
 }
 
 #[test]
@@ -171,57 +169,6 @@ fn a_bad_gate_and_a_failed_disk_are_told(rt: HostRuntime) -> Result<(), Fail> {
     assert_eq!(rt; read(alloc, &mut disk), Answer::NotAJournal(0));
     let mut disk = disk_with(alloc, b"", &[0], None)?;
     assert_eq!(rt; read(alloc, &mut disk), Answer::Disk);
-    Ok(())
-}
-
-#[test]
-fn a_batch_is_absent_or_whole(rt: HostRuntime) -> Result<(), Fail> {
-    let alloc = rt.alloc();
-    let part = vec![in alloc; entry(alloc, 0)?]?;
-    // A start of an empty disk makes the calls 0 to 4.
-    let rows = [(5, 0), (6, 0), (7, 1), (8, 1)];
-    for (call, most) in rows {
-        for pick in 0..=20 {
-            let mut disk = disk_with(alloc, b"", &[call], None)?;
-            assert_eq!(rt;
-                save(alloc, &mut disk, &part)?,
-                (Answer::Disk, Answer::NeedsStart)
-            );
-            let answer = read_behind_crash(alloc, &mut disk, pick)?;
-            assert!(rt;
-                answer == Answer::Read(0) || answer == Answer::Read(most),
-                "{call} {pick}"
-            );
-        }
-    }
-    for pick in 0..=20 {
-        let mut disk = disk_with(alloc, b"", &[], None)?;
-        assert_eq!(rt;
-            save(alloc, &mut disk, &part)?,
-            (Answer::Saved, Answer::Saved)
-        );
-        assert_eq!(rt;
-            read_behind_crash(alloc, &mut disk, pick)?,
-            Answer::Read(1),
-            "{pick}"
-        );
-    }
-    Ok(())
-}
-
-#[test]
-fn a_stop_at_any_write_leaves_whole_batches(rt: HostRuntime) -> Result<(), Fail> {
-    let alloc = rt.alloc();
-    // The first write is that of a start, and each batch has two.
-    for write in 0..8 {
-        for pick in 0..=20 {
-            let mut disk = disk_with(alloc, b"", &[], Some(write))?;
-            let saved = save_three(alloc, &mut disk)?;
-            assert_eq!(rt; saved, if write == 0 { 0 } else { (write - 1) / 2 });
-            let answer = read_behind_crash(alloc, &mut disk, pick)?;
-            assert_eq!(rt; answer, Answer::Read(saved as usize), "{write} {pick}");
-        }
-    }
     Ok(())
 }
 
@@ -282,41 +229,6 @@ fn one_byte_more_begins_another_batch(rt: HostRuntime) -> Result<(), Fail> {
         assert_eq!(rt; disk.bytes().len(), length);
         assert!(rt; disk.bytes().starts_with(head));
         assert_eq!(rt; read(alloc, &mut disk), Answer::Read(5540));
-    }
-    Ok(())
-}
-
-/// How many entries stand in front of each of the three batches below, and how many there are in all.
-const BATCHES: [usize; 4] = [0, 5539, 11_076, 11_078];
-
-#[test]
-fn an_append_of_three_batches_leaves_whole_ones(rt: HostRuntime) -> Result<(), Fail> {
-    let alloc = rt.alloc();
-    let mut part = vec![in alloc; entry(alloc, 0)?, entry(alloc, 1)?]?;
-    for w in 1..=11_076 {
-        part.push(update(alloc, w, 3000)?)?;
-    }
-    // The first write is that of the start, and each batch has two. A read of such a journal takes long, so
-    // each write is tried with three of the picks, and all writes with all of them.
-    let rows = [
-        (0, 0),
-        (1, 0),
-        (2, 0),
-        (3, 1),
-        (4, 1),
-        (5, 2),
-        (6, 2),
-        (7, 3),
-    ];
-    for (write, batches) in rows {
-        let mut disk = disk_with(alloc, b"", &[], Some(write))?;
-        let (answer, _) = save(alloc, &mut disk, &part)?;
-        assert_eq!(rt; answer == Answer::Saved, batches == 3, "{write}");
-        let want = BATCHES.get(batches).copied();
-        for pick in [write, write + 7, write + 14] {
-            let read = read_behind_crash(alloc, &mut disk, pick)?;
-            assert!(rt; want.map(Answer::Read) == Some(read), "{write} {pick}");
-        }
     }
     Ok(())
 }

@@ -9,6 +9,8 @@ mod fields;
 #[cfg(test)]
 mod frames;
 #[cfg(test)]
+mod journal_stops;
+#[cfg(test)]
 mod journals;
 #[cfg(test)]
 mod messages;

@@ -1,4 +1,4 @@
-use Rattle.std.proofs.Common.{◌≡◌, ◌+◌, ◌++◌, [], ℕ, List, length, drop, get_or, refl, sym, ap, subst, arith}
+use Rattle.std.proofs.Common.{◌≡◌, ◌+◌, ◌++◌, [], ℕ, List, length, drop, get_or, refl, sym, ap, ◌∙◌, subst, arith}
 use Rattle.std.specs.List.{AllByRecursion}
 use Rattle.std.proofs.lemmas.List.{drop_all}
 use Rattle.plain_orders.specs.declared.entry.Entry.{Entry}
@@ -6,6 +6,7 @@ use Rattle.plain_orders.specs.Ordered.{IsOrdered}
 use Rattle.journal_records.specs.Records.{IsRecord}
 use Rattle.journal_disk.specs.Staged.{ArePieces, IsStaged}
 use Rattle.journal_disk.proofs.Appending.{AreNext, HasWritten, are_next, next_piece, next_size, some_before, within_next, written_none, moments_next, read_next, written_next, written_all, read_some}
+use Rattle.journal_disk.proofs.Moments.{still_none}
 use Rattle.journal_disk.proofs.part_writer.write_batches.Goals as goal
 
 next_of : (list part : List Entry) (bytes sizes : List ℕ) → IsOrdered (list ++ part) → (staged : IsStaged part bytes sizes) → AreNext list staged.parts
@@ -22,8 +23,10 @@ loop-size-init g c =
       room = omega (arith, c.requires.room, ap length value);
       pieces = (c.requires.staged.1.parts, subst (λ (bs : List ℕ). ArePieces c.requires.staged.1.parts bs sizes) (sym value) c.requires.staged.1.pieces);
       within = c.requires.within;
-      silent = λ none. none;
+      telling = refl;
       faults = omega arith;
+      calls = (omega arith, omega arith);
+      wants = omega arith;
       none = λ zero. refl;
       written = λ x e list parts settled next pieces.
           written_none g.D.Disk.moment g.D.Disk.left_since g.D.Disk.may_leave g.D.Disk.told first x list parts c.args.gate c.as_slice-rest.result.now sizes e settled next
@@ -91,9 +94,11 @@ loop-size-preserved g c =
     record {
       room = omega (arith, was.room, c.split_at.ensures.back_len, next.within);
       pieces = (next.parts, subst (λ (bs : List ℕ). ArePieces next.parts bs (drop (i + 1) sizes)) (sym back) next.after);
-      within = within_next (told mid) (told new) (may new) gate size batch c.write_batch.ensures.silent was.within c.in_ok-write_batch.ensures.ok c.split_at.ensures.front_len;
-      silent = λ none. c.write_batch.ensures.silent (was.silent none);
+      within = within_next (told mid) (told new) (may new) gate size batch (still_none (told mid) (told new) c.write_batch.ensures.telling) was.within c.in_ok-write_batch.ensures.ok c.split_at.ensures.front_len;
+      telling = c.write_batch.ensures.telling ∙ was.telling;
       faults = omega (arith, was.faults, c.write_batch.ensures.faults);
+      calls = let step = c.in_ok-write_batch.ensures.calls in (omega (arith, was.calls.0, step.0), omega (arith, was.calls.1, step.1));
+      wants = omega (arith, was.wants, c.write_batch.ensures.wants);
       none = λ zero. absurd (omega arith);
       written = λ x f list parts settled follow pieces.
           let here = subst (HasWritten moment since may told first mid list parts gate rest) e (was.written x f list parts settled follow pieces) in
@@ -109,7 +114,7 @@ returns-clause-ok g c = λ list part settled ordered staged.
     let sizes = c.args.staged.now.sizes.items in
     let none : drop c.loop-size.size-index sizes ≡ [] = drop_all c.loop-size.size-index sizes (omega (arith, ap length c.deref-size-items.ensures.value)) in
     λ y f.
-    let x = some_before (told first) (told now) y c.loop-size.invariant.silent f in
+    let x = some_before (told first) (told now) y (still_none (told first) (told now) c.loop-size.invariant.telling) f in
     let was = c.loop-size.invariant.written x.0 x.1 list staged.parts settled (next_of list part _ _ ordered staged) staged.pieces in
     written_all g.D.Disk.moment g.D.Disk.left_since g.D.Disk.may_leave told first now list part staged.parts c.loop-size.gate c.loop-size.rest.now _ was none staged.split.whole y f
 

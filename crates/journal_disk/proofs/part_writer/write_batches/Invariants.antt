@@ -1,5 +1,6 @@
-use Rattle.std.proofs.Common.{◌≡◌, ◌+◌, ◌<◌, ◌≤◌, ◌^◌, ℕ, List, None, Some, length, drop}
+use Rattle.std.proofs.Common.{◌≡◌, ◌+◌, ◌*◌, ◌<◌, ◌≤◌, ◌^◌, ℕ, List, Some, is_some, length, drop}
 use Rattle.std.specs.Option.{ForSome}
+use Rattle.outer_disk.specs.Disk.{RoseBy}
 use Rattle.plain_orders.specs.declared.entry.Entry.{Entry}
 use Rattle.journal_disk.specs.Settled.{IsSettled}
 use Rattle.journal_disk.specs.Staged.{ArePieces}
@@ -11,8 +12,10 @@ invariant-loop-size g l = record {
   room : l.gate + 1 + length l.rest < 2 ^ 64;
   pieces : (todo : List (List Entry)) × ArePieces todo l.rest (drop l.size-index l.staged.sizes.items);
   within : ForSome (g.D.Disk.told l.disk) (λ bytes. length bytes ≡ l.gate + 1);
-  silent : g.D.Disk.told l.fn.disk ≡ None → g.D.Disk.told l.disk ≡ None;
+  telling : is_some (g.D.Disk.told l.disk) ≡ is_some (g.D.Disk.told l.fn.disk);
   faults : g.D.Disk.faults l.fn.disk ≤ g.D.Disk.faults l.disk;
+  calls : RoseBy (4 * l.size-index) (g.D.Disk.calls l.fn.disk) (g.D.Disk.calls l.disk);
+  wants : g.D.Disk.wants l.fn.disk ≤ g.D.Disk.wants l.disk;
   none : l.size-index ≡ 0 → l.disk ≡ l.fn.disk;
   written : (x : List ℕ) → g.D.Disk.told l.fn.disk ≡ Some x → (list : List Entry) (parts : List (List Entry)) → IsSettled (g.D.Disk.told l.fn.disk) (g.D.Disk.may_leave l.fn.disk) l.fn.gate list
       → AreNext list parts → ArePieces parts l.staged.bytes.items l.staged.sizes.items

@@ -1,7 +1,9 @@
-use Rattle.std.proofs.Common.{◌∙◌, ℕ, List, subst, sym}
+use Rattle.std.proofs.Common.{◌≡◌, ◌∙◌, ℕ, List, subst, sym}
+use Rattle.plain_orders.specs.declared.entry.Entry.{Entry}
 use Rattle.outer_disk.specs.Disk.{Only}
-use Rattle.journal_disk.specs.Stands.{Stands, StandsAs, HasBadGate}
+use Rattle.journal_disk.specs.Stands.{Stands, StandsAs, AreLow, HasBadGate}
 use Rattle.journal_disk.specs.Reading.{IsRead}
+use Rattle.journal_disk.proofs.OneList.{bad_no_list}
 use Rattle.journal_disk.proofs.Moments.{at_some, weaker, both}
 use Rattle.journal_disk.proofs.Settling.{read_stands, read_as, same_as}
 use Rattle.journal_disk.proofs.recovery.recover.Goals as goal
@@ -11,6 +13,21 @@ returns-in_err-read-clause-not_a_journal g c = λ place e x f.
     let from = rw e at c.from_residual-in_err-read.ensures in
     let bytes = c.deref.ensures.value ∙ c.in_ok-bytes.ensures.bytes x f in
     subst (λ (bs : List ℕ). HasBadGate bs place) bytes (c.in_err-read.ensures.not_a_journal place (cc (from.1)))
+
+-- what has a bad gate isn't read
+refused : (bytes held : List ℕ) (list : List Entry) (gate place : ℕ) → bytes ≡ held → IsRead bytes list gate → AreLow list → HasBadGate held place → ⊥
+refused bytes held list gate place e read low bad =
+    bad_no_list held place list bad (read_stands held list gate (subst (λ (bs : List ℕ). IsRead bs list gate) e read)) low
+
+pub returns-in_err-repair-clause-kept : goal.returns-in_err-repair-clause-kept
+returns-in_err-repair-clause-kept g c = λ x e place bad.
+    let bytes = c.deref.ensures.value ∙ c.in_ok-bytes.ensures.bytes x e in
+    absurd (refused c.deref.result.now x c.in_ok-read.read.entries c.in_ok-read.read.gate place bytes c.in_ok-read.ensures.ok c.in_ok-read.ensures.low bad)
+
+pub returns-clause-kept : goal.returns-clause-kept
+returns-clause-kept g c = λ x e place bad.
+    let bytes = c.deref.ensures.value ∙ c.in_ok-bytes.ensures.bytes x e in
+    absurd (refused c.deref.result.now x c.in_ok-read.read.entries c.in_ok-read.read.gate place bytes c.in_ok-read.ensures.ok c.in_ok-read.ensures.low bad)
 
 pub returns-in_err-repair-clause-read : goal.returns-in_err-repair-clause-read
 returns-in_err-repair-clause-read g c = λ x e y f.

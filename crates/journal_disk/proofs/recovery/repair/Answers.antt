@@ -2,7 +2,7 @@ use Rattle.std.proofs.Common.{◌+◌, arith}
 use Rattle.outer_disk.specs.Disk.{Cut}
 use Rattle.journal_disk.specs.Writing.{IsShort}
 use Rattle.journal_disk.specs.Stands.{Stands}
-use Rattle.journal_disk.proofs.Moments.{weaker}
+use Rattle.journal_disk.proofs.Moments.{weaker, still_none}
 use Rattle.journal_disk.proofs.Settling.{on_ok, short_read, long_read, short_stands, cut_stands, put_settled, cut_settled}
 use Rattle.journal_disk.proofs.recovery.repair.Goals as goal
 
@@ -10,7 +10,7 @@ pub returns-then-size-lt2-clause-settled : goal.returns-then-size-lt2-clause-set
 returns-then-size-lt2-clause-settled g c =
     on_ok c.put_gate.result _ _
     (λ done list read. put_settled (g.D.Disk.told c.args.disk.now) (g.D.Disk.told c.put_gate.new.disk) (g.D.Disk.may_leave c.put_gate.new.disk) c.args.gate list
-    c.put_gate.ensures.silent done (λ x e. omega (arith, c.requires.within x e)) read)
+    (still_none (g.D.Disk.told c.args.disk.now) (g.D.Disk.told c.put_gate.new.disk) c.put_gate.ensures.telling) done (λ x e. omega (arith, c.requires.within x e)) read)
     c.put_gate.ensures.ok
 
 pub returns-then-size-lt2-clause-read : goal.returns-then-size-lt2-clause-read
@@ -27,7 +27,7 @@ pub returns-else-size-lt2-clause-settled : goal.returns-else-size-lt2-clause-set
 returns-else-size-lt2-clause-settled g c =
     on_ok c.cut_behind.result _ _
     (λ done list read. cut_settled (g.D.Disk.told c.args.disk.now) (g.D.Disk.told c.cut_behind.new.disk) (g.D.Disk.may_leave c.cut_behind.new.disk) c.args.gate list
-    c.cut_behind.ensures.silent done (λ x e. omega (arith, c.requires.within x e)) read)
+    (still_none (g.D.Disk.told c.args.disk.now) (g.D.Disk.told c.cut_behind.new.disk) c.cut_behind.ensures.telling) done (λ x e. omega (arith, c.requires.within x e)) read)
     c.cut_behind.ensures.ok
 
 pub returns-else-size-lt2-clause-read : goal.returns-else-size-lt2-clause-read

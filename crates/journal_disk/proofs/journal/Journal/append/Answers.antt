@@ -1,8 +1,8 @@
-use Rattle.std.proofs.Common.{◌≡◌, ◌∙◌, ◌++◌, false, ℕ, sym, ap, subst, arith}
+use Rattle.std.proofs.Common.{◌≡◌, ◌∙◌, ◌++◌, false, ℕ, length, sym, ap, subst, arith}
 use Rattle.journal_disk.specs.Settled.{JournalState, IsSettled}
-use Rattle.journal_disk.proofs.Appending.{resting_length, whole_none, no_sizes}
+use Rattle.journal_disk.proofs.Appending.{staged_batches, resting_length, whole_none, no_sizes}
 use Rattle.journal_disk.proofs.Settling.{settled_stands}
-use Rattle.journal_disk.proofs.Splits.{part_ops, all_by_index, has_split}
+use Rattle.journal_disk.proofs.Splits.{part_ops, all_by_index, has_split, has_batches}
 use Rattle.journal_disk.proofs.journal.Journal.append.Goals as goal
 
 pub stage-requires : goal.stage-requires
@@ -16,6 +16,27 @@ returns-in_err-staged-clause-any_moment g c = λ ready list may x e.
     let split = has_split c.args.part.now (part_ops list c.args.part.now may.1) in
     whole_none g.D.Disk.moment g.D.Disk.left_since g.D.Disk.may_leave g.D.Disk.told c.args.disk.now x list c.args.part.now split.0 c.args.self.now.gate e may.0 split.1
     (g.met.D.Disk.only_now c.args.disk.now)
+
+pub returns-in_err-staged-clause-few : goal.returns-in_err-staged-clause-few
+returns-in_err-staged-clause-few g c = λ ready.
+    let may = c.requires.ready ready in
+    let has = has_batches c.args.part.now (part_ops may.0 c.args.part.now may.1.1) in
+    (has.0, has.1, omega arith)
+
+pub returns-in-Ok-clause-calls : goal.returns-in-Ok-clause-calls
+returns-in-Ok-clause-calls g c =
+    let sizes = c.in_ok-staged.staged.sizes.items in
+    (length sizes, staged_batches c.args.part.now _ sizes c.in_ok-staged.ensures.staged, c.in-Ok.ensures.calls)
+
+pub returns-in-Ok-clause-few : goal.returns-in-Ok-clause-few
+returns-in-Ok-clause-few g c = λ ready.
+    let sizes = c.in_ok-staged.staged.sizes.items in
+    (length sizes, staged_batches c.args.part.now _ sizes c.in_ok-staged.ensures.staged, c.write_batches.ensures.few)
+
+pub returns-clause-few : goal.returns-clause-few
+returns-clause-few g c = λ ready.
+    let sizes = c.in_ok-staged.staged.sizes.items in
+    (length sizes, staged_batches c.args.part.now _ sizes c.in_ok-staged.ensures.staged, c.write_batches.ensures.few)
 
 pub write_batches-requires-clause-within : goal.write_batches-requires-clause-within
 write_batches-requires-clause-within g c = λ x e.
