@@ -7,7 +7,7 @@ use subscript_keys::{Sub, ValueBytes};
 /// What a command is answered. `at` is the length of the prefix of the update list at which the answer holds.
 #[derive(Debug, Drop)]
 pub enum Answer {
-    /// The running numbers of the updates, which are on their way.
+    /// The running numbers of what was issued (an update, an increment, a Commit or a Rollback), which is on its way.
     Queued {
         places: Places,
     },

@@ -3,7 +3,8 @@ ghost use Rattle.std.specs.Prelude.{◌≡◌, [], ◌∷◌, ◌++◌, OnOk, On
 use std::alloc::{AllocError, Global};
 use std::marker::Model;
 
-/// A number at a data server: an update's running number, or a position in the server's update list.
+/// A number at a data server: the running number of what was issued there (an update, an increment, a Commit or a
+/// Rollback), or a position in the server's update list.
 #[derive(Clone, Copy, Debug, PartialEq, Eq)]
 pub struct Place {
     pub server: u8,

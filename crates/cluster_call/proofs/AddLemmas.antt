@@ -6,15 +6,16 @@ use Rattle.plain_orders.specs.declared.act.Act.{Act}
 use Rattle.plain_orders.specs.declared.layout.Layout.{Layout}
 use Rattle.plain_runs.specs.Plain.{Plain}
 use Rattle.plain_runs.specs.Step.{MayCome, after}
-use Rattle.cluster_call.specs.Fits.{acts_of, if_of, job_of, answer_of, tick_of, end_of, loss_of}
+use Rattle.cluster_call.specs.Fits.{acts_of, if_of, job_of, answer_of, tick_of, end_of, loss_of, found_of}
 use Rattle.transcript.specs.ActText.{CanPrintAct}
 use Rattle.cluster_call.specs.Running.{Adds, AllCanPrint}
 
--- an act that moves no clock, breaks nothing and loses nothing
+-- an act that moves no clock, breaks nothing, loses nothing and finds nothing
 pub record IsPlain (a : Act) : Type 0 where
   pub clock : tick_of a ≡ []
   pub ends : end_of a ≡ []
   pub losses : loss_of a ≡ []
+  pub found : found_of a ≡ []
   pub printed : CanPrintAct a
 
 AllCanPrint-more : (acts : List Act) (a : Act) → AllCanPrint acts → CanPrintAct a → AllCanPrint (acts ++ a ∷ [])
@@ -33,6 +34,7 @@ adds_made old new a e plain = subst (λ xs. Adds old xs (a ∷ [])) (sym e) (rec
   clock = nothing_more tick_of old a plain.clock;
   ends = nothing_more end_of old a plain.ends;
   losses = nothing_more loss_of old a plain.losses;
+  found = nothing_more found_of old a plain.found;
   printed = λ all. AllCanPrint-more old a all plain.printed;
 })
 
@@ -44,6 +46,7 @@ adds_served old new a e plain served silent = subst (λ xs. Adds old xs []) (sym
   clock = nothing_more tick_of old a plain.clock;
   ends = nothing_more end_of old a plain.ends;
   losses = nothing_more loss_of old a plain.losses;
+  found = nothing_more found_of old a plain.found;
   printed = λ all. AllCanPrint-more old a all plain.printed;
 })
 
@@ -54,6 +57,7 @@ adds_none old = record {
   clock = refl;
   ends = refl;
   losses = refl;
+  found = refl;
   printed = λ all. all;
 }
 
@@ -71,6 +75,7 @@ adds_both old mid new first second x y = record {
   clock = y.clock ∙ x.clock;
   ends = y.ends ∙ x.ends;
   losses = y.losses ∙ x.losses;
+  found = y.found ∙ x.found;
   printed = λ all. y.printed (x.printed all);
 }
 

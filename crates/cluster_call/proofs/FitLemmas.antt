@@ -18,7 +18,7 @@ use Rattle.job_script.specs.declared.todo.Todo.{Todo}
 use Rattle.job_script.specs.declared.todo.Todo.TheVariants.{Job, Await}
 use Rattle.cluster_call.specs.declared.answer_line.AnswerLine.{AnswerLine}
 use Rattle.cluster_call.specs.declared.output.Output.{Output}
-use Rattle.cluster_call.specs.Fits.{Fits, DoesJob, DoesCommand, DoesLine, DoesTodo, acts_of, if_of, job_of, lines_of, line_if_of, joined, answer_of, tick_of, end_of, loss_of}
+use Rattle.cluster_call.specs.Fits.{Fits, DoesJob, DoesCommand, DoesLine, DoesTodo, acts_of, if_of, job_of, lines_of, line_if_of, joined, answer_of, tick_of, end_of, loss_of, found_of}
 use Rattle.cluster_call.specs.Running.{Adds, CanRun, DidTodo, TodoRuns}
 use Rattle.cluster_call.proofs.AddLemmas.{adds_both}
 
@@ -129,6 +129,7 @@ fits_all script out acts answers groups runs r t a = record {
   clock = ap (flat_map tick_of) t ∙ r.adds.clock;
   ends = ap (flat_map end_of) t ∙ r.adds.ends;
   losses = ap (flat_map loss_of) t ∙ r.adds.losses;
+  fresh = ap (flat_map found_of) t ∙ r.adds.found;
 }
   where
     of_job : (j : ℕ) (b : Bool) → (0 == j) ≡ b → (gs : List (List Act)) × DoesJob script out.trail j gs
@@ -149,6 +150,7 @@ fits_none script out none runs t a = record {
   clock = ap (flat_map tick_of) t;
   ends = ap (flat_map end_of) t;
   losses = ap (flat_map loss_of) t;
+  fresh = ap (flat_map found_of) t;
 }
   where
     quiet : (j : ℕ) (line : ScriptLine) (todo : Todo) → TodoRuns script.layout todo → line_if_of j line todo ≡ []

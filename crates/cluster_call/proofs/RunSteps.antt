@@ -14,18 +14,17 @@ use Rattle.plain_orders.specs.declared.question.Question.{Question}
 use Rattle.plain_orders.specs.declared.via.Via.TheVariants.{Fetched}
 use Rattle.plain_orders.specs.declared.layout.Layout.{Layout}
 use Rattle.plain_orders.specs.Fold.{Folded, fold_step, nothing_folded, op_after}
-use Rattle.plain_orders.specs.Ordered.{OpMay, KeyMay}
+use Rattle.plain_orders.specs.Ordered.{OpMay}
 use Rattle.plain_orders.specs.PairMap.{Map, is_under}
 use Rattle.plain_programs.specs.Keys.{HasKeys}
 use Rattle.plain_programs.proofs.OrderKeys.{put_keys}
 use Rattle.plain_programs.proofs.KeyLemmas.{child_key}
 use Rattle.plain_runs.specs.Items.{is_change_op}
-use Rattle.plain_runs.specs.JobRows.{asked_key}
+use Rattle.plain_runs.specs.JobRows.{asked_key, asked_bytes}
 use Rattle.plain_orders.specs.declared.question.Question.TheVariants.{Next as NextQuestion}
 use Rattle.plain_orders.specs.Answers.{next_key, IsSubIn}
 use Rattle.subscript_keys.specs.declared.sub.Sub.{Sub}
-use Rattle.subscript_keys.specs.declared.sub.Sub.TheVariants.{Num, Text}
-use Rattle.subscript_keys.specs.Key.{IsSub, HasForm}
+use Rattle.subscript_keys.specs.Key.{IsKey, IsSub, IsWithinLimit}
 use Rattle.app_job.specs.Sites.{Site, IsSite}
 use Rattle.app_job.specs.Limits.{NextMay}
 use Rattle.plain_orders.proofs.EntryLemmas.{count-push, live-push}
@@ -195,26 +194,25 @@ read_stands l p entries issued line store question h = record {
   );
 }
 
--- a subscript that is one has its form
-sub_form : (sub : Sub) → IsSub sub → HasForm sub
-sub_form (Num number) is = is
-sub_form (Text text) is = is.no_number
-
 -- the node behind which a next looks
-asked_may : (site : Site) (sub : Option Sub) → IsSite site → NextMay site sub → KeyMay (asked_key site.key sub)
-asked_may site None is may = record { is_key = (site.node, is.node, is.key); within = is.within }
-asked_may site (Some sub) is may = record { is_key = child_key site.key sub (site.node, is.node, is.key) may.0; within = may.1 }
+asked_node : (site : Site) (sub : Option Sub) → IsSite site → NextMay site sub → IsKey (asked_key site.key sub)
+asked_node site None is may = (site.node, is.node, is.key)
+asked_node site (Some sub) is may = child_key site.key sub (site.node, is.node, is.key) may.0
 
-found_form : (parent : List ℕ) (key : Option (List ℕ)) (found : Option Sub) → IsSubIn parent key found → IfSome found HasForm
-found_form parent None None is = tt
-found_form parent None (Some sub) is = absurd is
-found_form parent (Some key) None is = absurd is
-found_form parent (Some key) (Some sub) is = sub_form sub is.0
+asked_within : (site : Site) (sub : Option Sub) → NextMay site sub → IsWithinLimit (asked_bytes site.key sub)
+asked_within site None may = may
+asked_within site (Some sub) may = may.1
 
-asked_form : (site : Site) (sub : Option Sub) → NextMay site sub → IfSome sub HasForm
-asked_form site None may = tt
-asked_form site (Some sub) may = sub_form sub may.0
+asked_sub : (site : Site) (sub : Option Sub) → NextMay site sub → IfSome sub IsSub
+asked_sub site None may = tt
+asked_sub site (Some sub) may = may.0
+
+found_sub : (parent : List ℕ) (key : Option (List ℕ)) (found : Option Sub) → IsSubIn parent key found → IfSome found IsSub
+found_sub parent None None is = tt
+found_sub parent None (Some sub) is = absurd is
+found_sub parent (Some key) None is = absurd is
+found_sub parent (Some key) (Some sub) is = is.0
 
 -- what a next finds is an answer
 pub next_answered : (m : Map) (site : Site) (sub found : Option Sub) → IsSite site → NextMay site sub → IsSubIn site.key (next_key m site.key sub) found → IsAnswered m (NextQuestion site.key sub found)
-next_answered m site sub found is may in_it = (in_it, asked_may site sub is may, (site.node, is.node, is.key), asked_form site sub may, found_form site.key (next_key m site.key sub) found in_it)
+next_answered m site sub found is may in_it = (in_it, asked_node site sub is may, asked_within site sub may, (site.node, is.node, is.key), asked_sub site sub may, found_sub site.key (next_key m site.key sub) found in_it)

@@ -3,6 +3,7 @@ use Rattle.std.specs.Prelude.{◌≡◌, ℕ, ◌==◌, if◌then◌else◌, Lis
 use Rattle.std.specs.List.{flat_map, AllZip}
 use Rattle.plain_orders.specs.declared.act.Act.{Act}
 use Rattle.plain_orders.specs.declared.act.Act.TheVariants.{Opened, Enter, Synced, Shut, Release, Met, Told, Back, Crash, Issue, Read, Grant, Granted, GiveUp, Quit, Free, Counted, NotWhole, Range, Committed, RolledBack, Reached, Level, Done, Refused, Broke, Mended, Tick, Lose, Died}
+use Rattle.plain_orders.specs.declared.entry.Entry.{Entry}
 use Rattle.plain_orders.specs.declared.item.Item.{Item}
 use Rattle.plain_orders.specs.declared.item.Item.TheVariants.{Op as OpItem}
 use Rattle.plain_orders.specs.declared.op.Op.TheVariants.{Set as SetOp, Kill as KillOp}
@@ -128,6 +129,11 @@ abbrev pub loss_of : Act → List Act
 loss_of (Lose app d loss) = Lose app d loss ∷ []
 loss_of act = []
 
+-- the entries that a data server found as it opened
+abbrev pub found_of : Act → List Entry
+found_of (Opened d entries) = entries
+found_of act = []
+
 -- groups of acts, one behind the other
 abbrev pub joined : List (List Act) → List Act
 joined groups = flat_map (λ acts. acts) groups
@@ -147,3 +153,5 @@ pub record Fits (script : Script) (out : Output) : Type 0 where
   pub clock : flat_map tick_of out.trail ≡ []
   pub ends : flat_map end_of out.trail ≡ []
   pub losses : flat_map loss_of out.trail ≡ []
+  -- each data server begins with an empty list
+  pub fresh : flat_map found_of out.trail ≡ []

@@ -1,5 +1,6 @@
 -- What the outside told in one call: each object before and after it.
 use Rattle.std.specs.Prelude.{◌≡◌, ℕ, List, [], Option, Some, IfSome, ◌⊎◌}
+use Rattle.std.specs.Io.KnownBytes.{Appends}
 use Rattle.outer_io.specs.Causes.{Rose}
 use Rattle.outer_io.specs.Took.{TookFront}
 
@@ -40,3 +41,7 @@ SinkStopped s = Rose s.faults_before s.faults_after ⊎ Rose s.refusals_before s
 -- the sink holds what it held, and behind it the piece or some of it from its front
 abbrev pub HoldsFrontOf : SinkTold → List ℕ → Type 0
 HoldsFrontOf s piece = TookFront s.held_before s.held_after piece
+
+-- the whole piece was put, or the sink stopped and holds some of it from its front
+abbrev pub WasPut : SinkTold → List ℕ → Type 0
+WasPut s piece = Appends s.held_before s.held_after piece ⊎ (SinkStopped s × HoldsFrontOf s piece)

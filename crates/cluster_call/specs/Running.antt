@@ -6,14 +6,14 @@ use Rattle.plain_orders.specs.declared.entry.Entry.TheVariants.{Epoch}
 use Rattle.plain_orders.specs.declared.layout.Layout.{Layout}
 use Rattle.plain_orders.specs.Entries.{count, live}
 use Rattle.plain_orders.specs.Fold.{Folded, fold}
-use Rattle.subscript_keys.specs.Key.{HasForm, IsKey}
+use Rattle.subscript_keys.specs.Key.{IsKey, IsSub, IsWithinLimit}
 use Rattle.plain_orders.specs.declared.question.Question.{Question}
 use Rattle.plain_orders.specs.declared.question.Question.TheVariants.{Get as GetQuestion, Data as DataQuestion, Next as NextQuestion}
 use Rattle.plain_orders.specs.Answers.{data_at, next_key, IsSubIn}
 use Rattle.plain_orders.specs.Ordered.{KeyMay}
 use Rattle.plain_orders.specs.PairMap.{Map, value_at}
 use Rattle.plain_programs.specs.Keys.{HasKeys}
-use Rattle.plain_runs.specs.JobRows.{asked_key}
+use Rattle.plain_runs.specs.JobRows.{asked_key, asked_bytes}
 use Rattle.plain_runs.specs.Plain.{Plain, Server, Session}
 use Rattle.app_job.specs.declared.answer.Answer.{Answer}
 use Rattle.app_job.specs.declared.command.Command.{Command}
@@ -26,7 +26,7 @@ use Rattle.job_script.specs.declared.todo.Todo.TheVariants.{Job, Await}
 use Rattle.transcript.specs.ActText.{CanPrintAct}
 use Rattle.transcript.specs.AnswerText.{CanPrintAnswer}
 use Rattle.cluster_call.specs.declared.answer_line.AnswerLine.{AnswerLine}
-use Rattle.cluster_call.specs.Fits.{DoesCommand, acts_of, answer_of, tick_of, end_of, loss_of}
+use Rattle.cluster_call.specs.Fits.{DoesCommand, acts_of, answer_of, tick_of, end_of, loss_of, found_of}
 
 -- a node at the only data server
 abbrev pub IsHere : Site → Type 0
@@ -101,7 +101,7 @@ abbrev pub IsAnswered : Map → Question → Type 0
 IsAnswered m (GetQuestion key value) = (value ≡ value_at m key) × KeyMay key
 IsAnswered m (DataQuestion key code) = (code ≡ data_at m key) × KeyMay key
 IsAnswered m (NextQuestion parent sub found) =
-    IsSubIn parent (next_key m parent sub) found × KeyMay (asked_key parent sub) × IsKey parent × IfSome sub HasForm × IfSome found HasForm
+    IsSubIn parent (next_key m parent sub) found × IsKey (asked_key parent sub) × IsWithinLimit (asked_bytes parent sub) × IsKey parent × IfSome sub IsSub × IfSome found IsSub
 
 -- each act can be printed
 abbrev pub AllCanPrint : List Act → Type 0
@@ -111,14 +111,15 @@ AllCanPrint acts = AllByRecursion CanPrintAct acts
 abbrev pub AllCanAnswer : List AnswerLine → Type 0
 AllCanAnswer answers = AllByRecursion (λ (a : AnswerLine). CanPrintAnswer a.answer) answers
 
--- What some more acts add: those of them that jobs make, with their answers. They move no clock, break nothing and lose nothing,
--- and all of them can be printed.
+-- What some more acts add: those of them that jobs make, with their answers. They move no clock, break nothing, lose nothing and
+-- find nothing, and all of them can be printed.
 pub record Adds (old new made : List Act) : Type 0 where
   pub jobs : (j : ℕ) → acts_of j new ≡ acts_of j old ++ acts_of j made
   pub gives : flat_map answer_of new ≡ flat_map answer_of old ++ flat_map answer_of made
   pub clock : flat_map tick_of new ≡ flat_map tick_of old
   pub ends : flat_map end_of new ≡ flat_map end_of old
   pub losses : flat_map loss_of new ≡ flat_map loss_of old
+  pub found : flat_map found_of new ≡ flat_map found_of old
   pub printed : AllCanPrint old → AllCanPrint new
 
 -- a command was done: its acts, and the answer of the one that ends it

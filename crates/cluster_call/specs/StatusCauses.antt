@@ -1,5 +1,5 @@
 -- What each status says of the outside.
-use Rattle.std.specs.Prelude.{◌≡◌, ◌≢◌, ◌⊎◌, ℕ, ◌<◌, ◌≤◌, List, [], ◌∷◌, ◌++◌, length, slice_get, Some, IfSome, codes}
+use Rattle.std.specs.Prelude.{◌≡◌, ◌≢◌, ◌⊎◌, ℕ, ◌<◌, ◌≤◌, List, [], ◌∷◌, ◌++◌, length, slice_get, None, Some, IfSome, codes}
 use Rattle.std.specs.Fmt.{decimal}
 use Rattle.std.specs.Io.KnownBytes.{Appends}
 use Rattle.plain_runs.specs.Run.{IsRun}
@@ -16,7 +16,7 @@ use Rattle.cluster_call.specs.declared.status.Status.TheVariants.{Ok, Usage, Bad
 use Rattle.cluster_call.specs.Built.{first_unbuilt}
 use Rattle.cluster_call.specs.Fits.{Fits}
 use Rattle.cluster_call.specs.OutputText.{IsOutputText}
-use Rattle.cluster_call.specs.Outside.{Outside, SinkTold, IsReadToEnd, SourceFailed, SinkStopped, HoldsFrontOf}
+use Rattle.cluster_call.specs.Outside.{Outside, SinkTold, IsReadToEnd, SourceFailed, SinkStopped, HoldsFrontOf, WasPut}
 
 -- a file's name isn't empty and doesn't begin with a dash
 pub record IsFileName (name : List ℕ) : Type 0 where
@@ -73,13 +73,14 @@ pub record HasRead (o : Outside) (script : Script) : Type 0 where
 abbrev pub TookOutput : SinkTold → Script → Output → Type 0
 TookOutput k script out = (text : List ℕ) × IsOutputText script out text × Appends k.held_before k.held_after text
 
--- The script was run: the whole source was read and its bytes are this script's text; what the sink took is the answers, the line
--- `trail` and the trail; the trail is a run of the plain machine; and each command stands there in its order, with just its answer.
+-- The script was run: the whole source was read and its bytes are this script's text, all of whose lines are built; what the sink
+-- took is the answers, the line `trail` and the trail; the trail is a run of the plain machine; and each command stands there in its order, with just its answer.
 pub record Ran (o : Outside) (script : Script) (out : Output) : Type 0 where
   pub words : IsScriptForm o.words
   pub read : IsReadToEnd o.source
   pub within : IfSome o.source.left_before IsWithinLimit
   pub text : IfSome o.source.left_before (IsScriptText script)
+  pub built : first_unbuilt script ≡ None
   pub put : TookOutput o.sink script out
   pub run : IsRun script.layout out.trail
   pub fits : Fits script out
@@ -125,14 +126,15 @@ Ends o ReadFault = CouldNotRead o
 Ends o WriteFault = ⊥
 Ends o OutOfMemory = Unit {0}
 
--- a status that refuses: its cause, and a front of its line behind what the sink held
+-- a status that refuses: its cause, and its line behind what the sink held
 pub record Refuses (o : Outside) (status : Status) : Type 0 where
   pub because : Ends o status
-  pub put : HoldsFrontOf o.sink (fault_line status)
+  pub put : WasPut o.sink (fault_line status)
 
 -- the script was read and run, and the sink failed or took nothing of a piece that isn't empty; it holds a front of the output
 pub record IsWriteFault (o : Outside) (script : Script) (out : Output) : Type 0 where
   pub read : HasRead o script
+  pub built : first_unbuilt script ≡ None
   pub run : IsRun script.layout out.trail
   pub fits : Fits script out
   pub stopped : SinkStopped o.sink

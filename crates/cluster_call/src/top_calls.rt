@@ -1,6 +1,7 @@
 //! The calls behind the program's commands.
-ghost use Rattle.std.specs.Prelude.{◌≡◌, ◌⊎◌, ◌↔◌, IsTrue, IfOk, IfErr};
-ghost use Rattle.cluster_call.specs.Outside.{Outside, SinkTold};
+ghost use Rattle.std.specs.Prelude.{◌≡◌, ◌≢◌, ◌⊎◌, ◌↔◌, IsTrue, None, IfOk, IfErr};
+ghost use Rattle.cluster_call.specs.Built.{first_unbuilt};
+ghost use Rattle.cluster_call.specs.Outside.{Outside, SinkTold, WasPut};
 ghost use Rattle.cluster_call.specs.StatusCauses.{Answers, Ends, HasRead, IsScriptForm, about_line, fault_line};
 ghost use Rattle.outer_io.specs.Took.{TookFront};
 ghost use Rattle.plain_runs.specs.Run.{IsRun};
@@ -74,7 +75,15 @@ fn fault_text(alloc: Global, status: Status) -> Result<Vec<u8>, AllocError>
 /// Puts the line of a status that refuses. It stays as it is where the sink fails.
 fn refuse<K: Sink>(alloc: Global, out: &mut K, status: Status) -> Status
     ensures answer { (result ≡ status) ⊎ (result ≡ Status.OutOfMemory) }
-    ensures put { TookFront (K.held out.old) (K.held out.new) (fault_line status) }
+    ensures front { TookFront (K.held out.old) (K.held out.new) (fault_line status) }
+    ensures put { result ≢ Status.OutOfMemory → WasPut (record {
+      held_before = K.held out.old;
+      held_after = K.held out.new;
+      faults_before = K.faults out.old;
+      faults_after = K.faults out.new;
+      refusals_before = K.refusals out.old;
+      refusals_after = K.refusals out.new;
+    }) (fault_line status) }
 {
     let Ok(line) = fault_text(alloc, status) else {
         return Status::OutOfMemory;
@@ -92,6 +101,7 @@ fn read_source<S: Source>(alloc: Global, words: &[Word], src: &mut S) -> Result<
       sink = k;
       source = record { left_before = S.left src.old; left_after = S.left src.new; faults_before = S.faults src.old; faults_after = S.faults src.new };
     })) }
+    ensures built { IfOk result (λ script. first_unbuilt script ≡ None) }
     ensures can_run { IfOk result (λ script. CanRun script) }
     ensures err { (k : SinkTold) → IfErr result (Ends (record {
       words = words.now;

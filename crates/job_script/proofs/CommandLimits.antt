@@ -60,7 +60,7 @@ asked-within parent last e within =
 
 next-may : (parent : Site) (last : Sub) → HasForm last → HasBytes last → IsWithinLimit (parent.key ++ sub_bytes last) → NextMay parent (asked last)
 next-may parent (Num number) form bytes within = (form, within)
-next-may parent (Text []) form bytes within = tt
+next-may parent (Text []) form bytes within = within
 next-may parent (Text (b ∷ text)) form bytes within = (record { some = λ e. cc; no_number = form; bytes = bytes }, within)
 
 last-form : (subs : List Sub) (last : Sub) → AllByRecursion HasForm (subs ++ last ∷ []) → HasForm last

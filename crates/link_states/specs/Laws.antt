@@ -1,4 +1,4 @@
--- When a session is lost, and when it is closed.
+-- When a session is lost, and when it is closed by a tick.
 use Rattle.std.specs.Prelude.{◌≡◌, ◌≢◌, ◌↔◌, ◌≤◌, ◌⊎◌, ℕ}
 use Rattle.plain_orders.specs.declared.layout.Times.{Times}
 use Rattle.link_states.specs.declared.app_link.AppLink.{AppLink}

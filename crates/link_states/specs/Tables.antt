@@ -12,7 +12,7 @@ use Rattle.link_states.specs.declared.link_event.LinkEvent.TheVariants.{Welcomed
 abbrev pub later : ℕ → ℕ → ℕ
 later moment time = min (moment + time) (2 ^ 64 - 1)
 
--- the connection ended now
+-- in trouble since a moment, the next try at now and the time to retry
 abbrev pub app_trouble : Times → ℕ → ℕ → AppLink
 app_trouble times now broke = client.Trouble broke (later now times.retry)
 

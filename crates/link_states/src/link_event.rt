@@ -5,6 +5,7 @@ pub enum LinkEvent {
     Welcomed,
     /// The connection ended.
     Ended,
+    /// The time now. A recovering end gets it only while its session isn't done, which the round decides.
     Ticked,
     /// The pair, which was kept apart, may connect again.
     Joined,

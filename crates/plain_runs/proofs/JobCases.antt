@@ -20,7 +20,7 @@ use Rattle.plain_runs.proofs.LockFrontRuns.{quitted_runs, quitted_dead_runs}
 use Rattle.plain_runs.proofs.JobFrontRuns.{back_to_0, level_one_runs, level_two_runs, updated_runs, updated_in_runs, updated_more_runs, updated_next_runs, updated_other_runs, updated_again_runs, commit_issued_runs, rollback_issued_runs, updated_lost_runs, updated_dead_runs, barred_runs, used_no_way_runs, no_way_runs, no_way_dead_runs}
 use Rattle.plain_runs.proofs.RunLemmas.{run_more}
 use Rattle.plain_runs.proofs.FirstRun.{x_may, x_key, no_empty_key}
-use Rattle.plain_runs.proofs.LongKeys.{long_key_is_key, x_long_is_key}
+use Rattle.plain_runs.proofs.LongKeys.{long_key_is_key, near_key_is_key, x_long_is_key}
 use Rattle.plain_runs.specs.JobExamples.{IssueExamples, ReadExamples, LevelExamples, DoneExamples, RefusedExamples, TooDeepExamples}
 use Rattle.std.proofs.Common.{◌∙◌, ◌==◌, ◌||◌, eqb, ap, Bool, true, false}
 use Rattle.std.proofs.lemmas.Bool.{eq-eqb, ne_eqb}
@@ -93,12 +93,12 @@ read_examples = (
   (issued_runs, search (rules, x_key)),
   (kept_runs, (omega arith, (refl, (refl, (refl, (omega arith, (omega arith, (refl, (refl, (refl, (no_empty_key, (omega arith, tt)))))))))))),
   (met_runs, (omega arith, (refl, (refl, (refl, (omega arith, (omega arith, (refl, (refl, (refl, (long_key_is_key, ((λ e. omega (arith, e)), tt)))))))))))),
-  run_more small start kept (Read 0 6 0 3 Cached (Next (120 ∷ 0 ∷ []) None None)) kept_runs ((record { known = omega arith; alive = refl; free = refl }, record { there = refl; no_less = omega arith; within = omega arith; answer = record { result = tt; by = refl; entered = refl; node = x_may } })),
+  run_more small start kept (Read 0 6 0 3 Cached (Next (120 ∷ 0 ∷ []) None None)) kept_runs ((record { known = omega arith; alive = refl; free = refl }, record { there = refl; no_less = omega arith; within = omega arith; answer = record { result = tt; by = refl; entered = refl; node = x_may.is_key; within = omega arith } })),
   (kept_runs, search (rules, x_key)),
   (kept_runs, search (rules, x_key)),
   (issued_runs, search (rules, x_key)),
   (met_runs, (omega arith, (refl, (refl, (refl, (omega arith, (omega arith, (tt, (refl, (refl, (no_empty_key, (omega arith, tt)))))))))))),
-  (kept_runs, (omega arith, (refl, (refl, (refl, (omega arith, (omega arith, (tt, (refl, (refl, (long_key_is_key, ((λ e. omega (arith, e)), tt)))))))))))),
+  (kept_runs, (omega arith, (refl, (refl, (refl, (omega arith, (omega arith, (tt, (refl, (refl, (near_key_is_key, ((λ e. omega (arith, e)), tt)))))))))))),
   (kept_runs, (omega arith, (refl, (refl, (refl, (omega arith, (omega arith, (tt, (refl, (refl, (x_long_is_key, ((λ e. omega (arith, e)), tt)))))))))))),
 )
 

@@ -1,11 +1,11 @@
--- Keys of 501 bytes.
+-- Keys near the limit.
 use Rattle.std.proofs.Common.{◌≡◌, ℕ, zero, suc, ◌<◌, List, [], ◌∷◌, ◌++◌, replicate, ap, refl, subst, inl, inr, arith, Bool, true, false, Some}
 use Rattle.std.proofs.lemmas.List.{append-nil}
 use Rattle.subscript_keys.specs.declared.sub.Sub.TheVariants.{Text}
 use Rattle.subscript_keys.specs.Key.{AreBytes, IsKey, IsText, escaped, key_of, text_bytes}
 use Rattle.subscript_keys.specs.Decimal.{AreDigits, IsNumberText, number_text}
 use Rattle.plain_runs.specs.JobRows.{asked_key}
-use Rattle.plain_runs.specs.Fronts.{below_x, long_key, long_text}
+use Rattle.plain_runs.specs.Fronts.{below_x, long_key, long_text, near_key}
 use Rattle.plain_orders.specs.Ordered.{KeyMay}
 
 -- letters are bytes
@@ -51,6 +51,10 @@ x_long_is_key = letters_key 495
 pub long_key_is_key : IsKey long_key
 unfolding text_bytes
 long_key_is_key = subst IsKey (ap (λ cs. 120 ∷ 0 ∷ 64 ∷ cs ++ 0 ∷ 1 ∷ []) (letters_escaped 496)) (letters_key 495)
+
+pub near_key_is_key : IsKey near_key
+unfolding text_bytes
+near_key_is_key = subst IsKey (ap (λ cs. 120 ∷ 0 ∷ 64 ∷ cs ++ 0 ∷ 1 ∷ []) (letters_escaped 493)) (letters_key 492)
 
 pub below_x_is_key : IsKey below_x
 unfolding text_bytes

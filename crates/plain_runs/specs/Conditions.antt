@@ -99,8 +99,8 @@ conditions l p (Read job line d at via (Data key code)) =
 conditions l p (Read job line d at via (Next parent sub found)) =
     at_server
     (field (λ m. m.1.there) ∷ field (λ m. m.1.no_less) ∷ field (λ m. m.1.within) ∷ field (λ m. m.1.answer.result)
-    ∷ field (λ m. m.1.answer.by) ∷ field (λ m. m.1.answer.entered) ∷ field (λ m. m.1.answer.node.is_key)
-    ∷ field (λ m. m.1.answer.node.within) ∷ [])
+    ∷ field (λ m. m.1.answer.by) ∷ field (λ m. m.1.answer.entered) ∷ field (λ m. m.1.answer.node)
+    ∷ field (λ m. m.1.answer.within) ∷ [])
 conditions l p (Grant d session job mode key at) =
     field (λ m. m.is_live) ∷ field (λ m. m.up) ∷ field (λ m. m.here) ∷ field (λ m. m.free) ∷ field (λ m. m.node.is_key)
     ∷ field (λ m. m.node.within) ∷ []

@@ -9,7 +9,7 @@ use Rattle.plain_orders.specs.declared.refused.Refused.TheVariants.{NoTransactio
 use Rattle.plain_orders.specs.declared.refused.ReasonName.TheVariants.{Reset, Expired, NoWay}
 use Rattle.plain_orders.specs.declared.refused.LinkName.TheVariants.{NotConnected, Normal, Trouble, Recovery}
 use Rattle.subscript_keys.specs.declared.sub.Sub.TheVariants.{Text}
-use Rattle.plain_runs.specs.Fronts.{Accepted, Refuses, FailsAt, long_key, long_text, long_value, nothing, saved, met, issued, kept, app_broke, met_dead}
+use Rattle.plain_runs.specs.Fronts.{Accepted, Refuses, FailsAt, long_key, long_text, near_key, long_value, nothing, saved, met, issued, kept, app_broke, met_dead}
 use Rattle.plain_runs.specs.JobFronts.{levels, level_one, level_two, updated, updated_in, updated_more, updated_next, updated_other, updated_again, commit_issued, rollback_issued, updated_lost, updated_dead, barred, used_no_way, no_way, no_way_dead}
 use Rattle.plain_runs.specs.LockFronts.{quitted, quitted_dead}
 
@@ -137,11 +137,11 @@ ReadExamples =
     × FailsAt 7 kept (Read 0 6 0 3 Own (Next (120 ∷ 0 ∷ []) None None))
     -- entered of a next
     × FailsAt 8 issued (Read 0 6 0 2 Cached (Next (120 ∷ 0 ∷ []) None None))
-    -- is_key of a next
+    -- node of a next
     × FailsAt 9 met (Read 0 6 0 2 Cached (Next [] None None))
-    -- node.within of a next: the parent alone
-    × FailsAt 10 kept (Read 0 6 0 3 Cached (Next long_key None None))
-    -- node.within of a next: the parent with the subscript
+    -- within of a next: the parent with the empty text
+    × FailsAt 10 kept (Read 0 6 0 3 Cached (Next near_key None None))
+    -- within of a next: the parent with the subscript
     × FailsAt 10 kept (Read 0 6 0 3 Cached (Next (120 ∷ 0 ∷ []) (Some (Text long_text)) None))
 
 -- level

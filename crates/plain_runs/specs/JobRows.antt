@@ -8,7 +8,8 @@ use Rattle.plain_orders.specs.declared.item.Item.TheVariants.{Op, Commit, Rollba
 use Rattle.plain_orders.specs.declared.via.Via.{Via}
 use Rattle.plain_orders.specs.declared.via.Via.TheVariants.{Own, Cached, Fetched}
 use Rattle.subscript_keys.specs.declared.sub.Sub.{Sub}
-use Rattle.subscript_keys.specs.Key.{sub_bytes}
+use Rattle.subscript_keys.specs.declared.sub.Sub.TheVariants.{Text}
+use Rattle.subscript_keys.specs.Key.{IsKey, IsWithinLimit, sub_bytes}
 use Rattle.plain_orders.specs.declared.question.Question.{Question}
 use Rattle.plain_orders.specs.declared.question.Question.TheVariants.{Get, Data, Next}
 use Rattle.plain_orders.specs.declared.layout.Layout.{Layout}
@@ -99,12 +100,18 @@ abbrev pub asked_key : List ℕ → Option Sub → List ℕ
 asked_key parent None = parent
 asked_key parent (Some sub) = parent ++ sub_bytes sub
 
--- so does next
+-- the bytes that its limit counts, an empty last subscript among them
+abbrev pub asked_bytes : List ℕ → Option Sub → List ℕ
+asked_bytes parent None = parent ++ sub_bytes (Text [])
+asked_bytes parent (Some sub) = parent ++ sub_bytes sub
+
+-- so does next, within the limit that counts an empty last subscript too
 pub record NextIs (s : Server) (app job n : ℕ) (via : Via) (parent : List ℕ) (sub found : Option Sub) : Type 0 where
   pub result : IsNextOn (take n (told_order s app)) parent sub found
   pub by : is_own via ≡ false
   pub entered : own_behind s app job n ≡ []
-  pub node : KeyMay (asked_key parent sub)
+  pub node : IsKey (asked_key parent sub)
+  pub within : IsWithinLimit (asked_bytes parent sub)
 
 -- what a read is answered
 abbrev pub AnswerIs : Server → ℕ → ℕ → ℕ → Via → Question → Type 0

@@ -8,13 +8,14 @@ use Rattle.subscript_keys.specs.declared.node.Node.{Node}
 use Rattle.subscript_keys.specs.Decimal.{sign_text, digit_text, fraction_text, IsNumberText}
 use Rattle.subscript_keys.specs.Key.{HasForm, IsSub, IsNode}
 
-sub-form : (s : Sub) → IsSub s → HasForm s
-sub-form (Num d) is = is
-sub-form (Text t) is = is.no_number
+-- a subscript of a node has its form
+pub sub_form : (s : Sub) → IsSub s → HasForm s
+sub_form (Num d) is = is
+sub_form (Text t) is = is.no_number
 
 subs-forms : (subs : List Sub) → AllByRecursion IsSub subs → AllByRecursion HasForm subs
 subs-forms [] all = tt
-subs-forms (s ∷ subs) all = (sub-form s all.0, subs-forms subs all.1)
+subs-forms (s ∷ subs) all = (sub_form s all.0, subs-forms subs all.1)
 
 -- the subscripts of a node have their forms
 pub node_has_forms : (node : Node) → IsNode node → AllByRecursion HasForm node.subs

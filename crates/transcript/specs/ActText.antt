@@ -1,7 +1,7 @@
 -- The text of acts.
 use Rattle.std.specs.Prelude.{◌≡◌, ℕ, List, [], ◌∷◌, ◌++◌, codes, length, IfSome}
 use Rattle.std.specs.List.{AllByRecursion}
-use Rattle.subscript_keys.specs.Key.{IsKey, HasForm}
+use Rattle.subscript_keys.specs.Key.{IsKey, IsSub}
 use Rattle.plain_orders.specs.declared.layout.Layout.{Layout}
 use Rattle.plain_orders.specs.declared.causes.ShutCause.{ShutCause}
 use Rattle.plain_orders.specs.declared.causes.ShutCause.TheVariants.{Trouble, Replaced, Round}
@@ -172,16 +172,23 @@ abbrev pub CanPrintItem : Item → Type 0
 CanPrintItem (OpItem op) = CanPrintOp op
 CanPrintItem item = Unit {0}
 
--- a read, where its key is a node's and its subscripts have their forms
+-- a read, where its key is a node's and its subscripts are ones that a node may have, so not the empty text
 abbrev pub CanPrintQuestion : Question → Type 0
 CanPrintQuestion (Get key value) = IsKey key
 CanPrintQuestion (Data key code) = IsKey key
-CanPrintQuestion (Next parent sub found) = IsKey parent × IfSome sub HasForm × IfSome found HasForm
+CanPrintQuestion (Next parent sub found) = IsKey parent × IfSome sub IsSub × IfSome found IsSub
 
--- an act, where each of its keys is a node's and each of its subscripts has its form
+-- an entry that is entered, where it can be printed; an Epoch and a Close have acts of their own
+abbrev pub CanPrintEntered : Entry → Type 0
+CanPrintEntered (Epoch number) = ⊥
+CanPrintEntered (Closed session) = ⊥
+CanPrintEntered entry = CanPrintEntry entry
+
+-- an act, where each of its keys is a node's, each of its subscripts is one that a node may have, and what is entered is neither an
+-- Epoch nor a Close
 abbrev pub CanPrintAct : Act → Type 0
 CanPrintAct (Opened server entries) = AllByRecursion CanPrintEntry entries
-CanPrintAct (Enter server entry) = CanPrintEntry entry
+CanPrintAct (Enter server entry) = CanPrintEntered entry
 CanPrintAct (Issue job line server w item) = CanPrintItem item
 CanPrintAct (Read job line server at via question) = CanPrintQuestion question
 CanPrintAct (Grant server session job mode key at) = IsKey key

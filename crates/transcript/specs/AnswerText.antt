@@ -2,7 +2,7 @@
 use Rattle.std.specs.Prelude.{◌≡◌, ℕ, List, [], ◌∷◌, ◌++◌, codes, IfSome}
 use Rattle.std.specs.List.{flat_map}
 use Rattle.std.specs.Fmt.{decimal, signed_decimal}
-use Rattle.subscript_keys.specs.Key.{HasForm}
+use Rattle.subscript_keys.specs.Key.{IsSub}
 use Rattle.plain_orders.specs.declared.layout.Names.{Names}
 use Rattle.plain_orders.specs.declared.via.Via.{Via}
 use Rattle.app_job.specs.declared.place.Place.{Place}
@@ -28,7 +28,7 @@ held_text at via = at_text at ++ (32 ∷ via_word via)
 abbrev pub place_text : List (List ℕ) → ℕ → Place → List ℕ
 place_text servers mark place = 32 ∷ (name_at servers place.server ++ (mark ∷ decimal place.number))
 
--- the running numbers of updates, a colon before each
+-- the running numbers of what was issued (an update, an increment, a Commit or a Rollback), a colon before each
 abbrev pub numbers_text : List (List ℕ) → List Place → List ℕ
 numbers_text servers places = flat_map (place_text servers 58) places
 
@@ -79,7 +79,7 @@ IsAnswerOf names (Refused refusal) text = text ≡ codes "refused " ++ refusal_t
 abbrev pub IsAnswerLine : Names → ℕ → ℕ → Answer → List ℕ → Type 0
 IsAnswerLine names job line answer text = (shown : List ℕ) × IsAnswerOf names answer shown × (text ≡ name_at names.jobs job ++ (field line ++ (32 ∷ (shown ++ 10 ∷ []))))
 
--- an answer can be printed where its subscript has its form
+-- an answer can be printed where its subscript is one that a node may have, so not the empty text
 abbrev pub CanPrintAnswer : Answer → Type 0
-CanPrintAnswer (Next sub at via) = IfSome sub HasForm
+CanPrintAnswer (Next sub at via) = IfSome sub IsSub
 CanPrintAnswer answer = Unit {0}

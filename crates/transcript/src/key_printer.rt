@@ -1,7 +1,7 @@
 //! The text of the nodes that keys stand for.
 ghost use Rattle.std.specs.Prelude.{◌≡◌, OnOk, IfOk, IfSome};
 ghost use Rattle.std.specs.List.{AllByRecursion};
-ghost use Rattle.subscript_keys.specs.Key.{key_of, IsKey, IsNode, HasForm};
+ghost use Rattle.subscript_keys.specs.Key.{key_of, IsKey, IsNode, IsSub, HasForm};
 ghost use Rattle.global_text.specs.Printed.{Appends};
 ghost use Rattle.transcript.specs.Parts.{or_empty, IsKeyText, IsBehindText};
 ghost use Rattle.transcript.specs.ActText.{IsLockText};
@@ -27,9 +27,9 @@ fn node_of(alloc: Global, key: &KeyBytes) -> Result<Node, AllocError>
 }
 
 /// The subscript, or the empty text where it is wanting.
-#[tactic(auto, using(crate::proofs::PartLemmas::empty_is_no_number))]
+#[tactic(auto, using(crate::proofs::PartLemmas::empty_is_no_number, crate::proofs::PartLemmas::sub_form))]
 fn sub_or_empty(alloc: Global, sub: &Option<Sub>) -> Result<Sub, AllocError>
-    requires { IfSome sub.now HasForm }
+    requires { IfSome sub.now IsSub }
     ensures sub { IfOk result (λ made. made ≡ or_empty sub.now) }
     ensures form { IfOk result HasForm }
 {
@@ -52,7 +52,7 @@ pub fn put_key(to: &mut Printer, key: &KeyBytes) -> Result<(), AllocError>
 #[tactic(auto, using(crate::proofs::PartLemmas::forms_more))]
 pub fn put_behind(to: &mut Printer, key: &KeyBytes, sub: &Option<Sub>) -> Result<(), AllocError>
     requires key { IsKey key.now }
-    requires sub { IfSome sub.now HasForm }
+    requires sub { IfSome sub.now IsSub }
     ensures { OnOk result (Appends (IsBehindText key.now sub.now) to.old to.new) }
 {
     let mut node = node_of(to.alloc(), key)?;

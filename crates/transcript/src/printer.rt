@@ -1,7 +1,7 @@
 ghost use Rattle.std.specs.Prelude.{◌≡◌, [], ◌++◌, OnOk, IfSome, decimal};
 ghost use Rattle.std.specs.Fmt.{signed_decimal};
 ghost use Rattle.std.specs.List.{AllByRecursion};
-ghost use Rattle.subscript_keys.specs.Key.{HasForm};
+ghost use Rattle.subscript_keys.specs.Key.{IsSub, HasForm};
 ghost use Rattle.global_text.specs.Nodes.{node_text};
 ghost use Rattle.global_text.specs.Printed.{Appends, IsPrinted};
 ghost use Rattle.transcript.specs.Parts.{field, fields, signed_field, name_at, IsValueText, found_text};
@@ -133,8 +133,9 @@ impl Printer {
     }
 
     /// A subscript that may be wanting.
+    #[tactic(auto, using(crate::proofs::PartLemmas::sub_form))]
     pub fn sub_or_empty(&mut self, sub: &Option<Sub>) -> Result<(), AllocError>
-        requires { IfSome sub.now HasForm }
+        requires { IfSome sub.now IsSub }
         ensures { OnOk result (self.new ≡ self.old ++ found_text sub.now) }
     {
         match sub {

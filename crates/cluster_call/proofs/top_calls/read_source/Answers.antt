@@ -7,3 +7,6 @@ pub returns-clause-can_run : goal.returns-clause-can_run
 returns-clause-can_run g c =
     let built : first_unbuilt c.in-Ok-read_script.script ≡ None = search rules in
     can_run c.in-Ok-read_script.script _ c.in-Ok-read_script.ensures.ok c.in-Ok-read_script.ensures.may built
+
+pub returns-clause-built : goal.returns-clause-built
+returns-clause-built g c = search rules

@@ -20,6 +20,6 @@ pub returns-clause-adds : goal.returns-clause-adds
 returns-clause-adds c =
     adds_both c.args.self.now.recorder.acts c.note-2.new.self.acts c.note-3.new.self.acts [] []
     (adds_both c.args.self.now.recorder.acts c.note.new.self.acts c.note-2.new.self.acts [] []
-    (adds_served c.args.self.now.recorder.acts c.note.new.self.acts open_session c.in_ok-note.ensures.ok (record { clock = refl; ends = refl; losses = refl; printed = tt }) (λ j. refl) refl)
-    (adds_served c.note.new.self.acts c.note-2.new.self.acts (Synced 0 2) c.in_ok-note-2.ensures.ok (record { clock = refl; ends = refl; losses = refl; printed = tt }) (λ j. refl) refl))
-    (adds_served c.note-2.new.self.acts c.note-3.new.self.acts (Met 0 0 2) c.in_ok-note-3.ensures.ok (record { clock = refl; ends = refl; losses = refl; printed = tt }) (λ j. refl) refl)
+    (adds_served c.args.self.now.recorder.acts c.note.new.self.acts open_session c.in_ok-note.ensures.ok (record { clock = refl; ends = refl; losses = refl; found = refl; printed = tt }) (λ j. refl) refl)
+    (adds_served c.note.new.self.acts c.note-2.new.self.acts (Synced 0 2) c.in_ok-note-2.ensures.ok (record { clock = refl; ends = refl; losses = refl; found = refl; printed = tt }) (λ j. refl) refl))
+    (adds_served c.note-2.new.self.acts c.note-3.new.self.acts (Met 0 0 2) c.in_ok-note-3.ensures.ok (record { clock = refl; ends = refl; losses = refl; found = refl; printed = tt }) (λ j. refl) refl)
