@@ -103,7 +103,7 @@ may_fall (Tick time) = false
 may_fall (Lose app d loss) = false
 may_fall (Died app) = false
 
--- What a job has seen of a server never falls, but where its application server is told of a new epoch or meets a new session.
+-- What a job has seen of a server falls only by a `told` or a `met`.
 abbrev pub SeenNeverFalls : Type 0
 SeenNeverFalls =
     (layout : Layout) (p : Plain) (a : Act) (d j : ℕ) → MayCome layout p a → may_fall a ≡ false
@@ -149,7 +149,7 @@ ItemsInOrder =
 abbrev pub IsHold : Server → ℕ → Hold → Type 0
 IsHold s i h = slice_get s.holds i ≡ Some h
 
--- No two holds in force of different holders conflict.
+-- No two holds that bind, of different holders, conflict.
 abbrev pub NoConflict : Type 0
 NoConflict =
     (layout : Layout) (acts : List Act) (d i j : ℕ) (h k : Hold) → IsRun layout acts

@@ -18,7 +18,7 @@ pub fn an_act_leaves_the_other_servers()
     ensures { Framed }
 {}
 
-/// What a job has seen never falls, but where its application server is told of an epoch or meets a session.
+/// What a job has seen falls only by a `told` or a `met`.
 pub fn what_is_seen_never_falls()
     ensures { SeenNeverFalls }
 {}
@@ -38,7 +38,7 @@ pub fn items_stand_in_order()
     ensures { ItemsInOrder }
 {}
 
-/// No two holds in force of different holders conflict.
+/// No two holds that bind, of different holders, conflict.
 pub fn no_two_holds_conflict()
     ensures { NoConflict }
 {}
