@@ -216,12 +216,15 @@ fn a_next_and_the_times_have_their_lines(rt: HostRuntime) {
     let alloc = rt.alloc();
     let names = declared(alloc).expect(&rt, "memory");
     let subs: [(&[u8], &[u8]); 3] = [
-        (b"A", b"J1 7 next \"A\" @11 cached\n"),
-        (b"-.5", b"J1 7 next -.5 @11 cached\n"),
-        (b"a\"b\\", b"J1 7 next \"a\"\"b\\\\\" @11 cached\n"),
+        (b"^x(\"A\")", b"J1 7 next \"A\" @11 cached\n"),
+        (b"^x(-.5)", b"J1 7 next -.5 @11 cached\n"),
+        (
+            b"^x(\"a\"\"b\\\\\")",
+            b"J1 7 next \"a\"\"b\\\\\" @11 cached\n",
+        ),
     ];
-    for (string, want) in subs {
-        let found = sub(alloc, string).expect(&rt, "memory");
+    for (node, want) in subs {
+        let found = sub(alloc, node).expect(&rt, "a subscript");
         let answer = Answer::Next {
             sub: Some(found),
             at: 11,

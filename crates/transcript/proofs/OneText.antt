@@ -1,4 +1,4 @@
--- An act has one text, and so has an answer.
+-- An act has at most one text, and so has an answer.
 use Rattle.std.proofs.Common.{◌≡◌, ℕ, List, [], ◌∷◌, ◌++◌, Option, None, Some, sym, ap, ◌∙◌}
 use Rattle.std.specs.Prelude.{codes}
 use Rattle.subscript_keys.specs.declared.sub.Sub.{Sub}
@@ -111,7 +111,7 @@ one-lines : (entries : List Entry) (a b : List ℕ) → AreEntryLines entries a 
 one-lines [] a b p q = p ∙ sym q
 one-lines (e ∷ entries) a b p q = within-two (IsEntryText e) (AreEntryLines entries) (λ shown rest. codes "entry " ++ (shown ++ (10 ∷ rest))) (one-entry e) (one-lines entries) a b p q
 
--- an act has one text
+-- an act has at most one text
 pub one-act-text : (act : Act) (a b : List ℕ) → AreActLines act a → AreActLines act b → a ≡ b
 one-act-text act = within-two (IsActText act) (AreEntryLines (entries_behind act)) (λ line rest. line ++ (10 ∷ rest)) (one-act act) (one-lines (entries_behind act))
 
@@ -128,6 +128,6 @@ one-answer names (WaitingAnswer why) a b p q = p ∙ sym q
 one-answer names (RefusedAnswer refusal) a b p q = p ∙ sym q
 one-answer names DoneAnswer a b p q = p ∙ sym q
 
--- an answer's line has one text
+-- an answer's line has at most one text
 pub one-answer-text : (names : Names) (job line : ℕ) (answer : Answer) (a b : List ℕ) → IsAnswerLine names job line answer a → IsAnswerLine names job line answer b → a ≡ b
 one-answer-text names job line answer = within (IsAnswerOf names answer) (λ shown. name_at names.jobs job ++ (field line ++ (32 ∷ (shown ++ 10 ∷ [])))) (one-answer names answer)
