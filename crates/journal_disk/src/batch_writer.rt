@@ -21,6 +21,9 @@ pub(crate) const BODY_LIMIT: usize = 16_777_216;
 /// How many bytes a batch has beside its body: its length, and the closed gate behind it.
 const FRAME: usize = 5;
 
+/// Fewer bytes of records than a batch has that another follows.
+const LEAST_FULL: usize = 16_000_000;
+
 /// Batches that are to be written, each with its length in front and a closed gate behind.
 #[derive(Drop)]
 pub(crate) struct StagedBatches {
@@ -91,15 +94,16 @@ fn put_batch(to: &mut Vec<u8>, entries: &[Entry], body: usize) -> Result<(), All
     put_u8(to, CLOSED)
 }
 
-/// How much room the bytes of a part take where it is one batch.
+/// How much room the bytes of a part take.
 fn room_for(part: &[Entry]) -> usize
     requires { All HasRecordOp part.now }
 {
-    let mut room = FRAME + 1;
+    let mut records = 0usize;
     for entry in part {
-        room = room.saturating_add(record_size(entry));
+        records = records.saturating_add(record_size(entry));
     }
-    room
+    let batches = records / LEAST_FULL + 1;
+    records.saturating_add(batches * (FRAME + 1))
 }
 
 /// The batches of a part.
