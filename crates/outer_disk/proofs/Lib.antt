@@ -5,3 +5,4 @@ pub mod Picks
 pub mod Places
 pub mod Replays
 pub mod Runs
+pub mod Stops

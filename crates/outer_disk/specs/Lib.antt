@@ -5,3 +5,4 @@ pub mod DiskSet
 pub mod Faults
 pub mod FileDisk
 pub mod MemDisk
+pub mod Stops
