@@ -1,12 +1,6 @@
-ghost use Rattle.plain_runs.specs.FirstRun.{FirstRunIsRun};
 ghost use Rattle.plain_runs.specs.Conditions.{FailureRefuses, FailureRefusesBehind, NoneIsLeftOut, NoneIsLeftOutBehind};
 ghost use Rattle.plain_runs.specs.Together.{AllInOrderAreTold, AnsweredIsTold, BarredDidNothing, MetOnce, NoLaterEpoch, NoneWithoutSession, OnlyAddsSum, OpenIsLive, StrangersAreToldNothing, StrangersDidNothing};
 ghost use Rattle.plain_runs.specs.Laws.{Extended, Framed, ItemsInOrder, ItemsWereIssued, NeighboursAgree, NoConflict, SeenIsTold, SeenNeverFalls, Settled, SyncedStays};
-
-/// The trail of the worked first run is a run.
-pub fn first_run_is_run()
-    ensures { FirstRunIsRun }
-{}
 
 /// A run goes on with an act that may come.
 pub fn a_run_goes_on()

@@ -1,0 +1,188 @@
+ghost use Rattle.plain_examples.specs.FirstRun.{FirstRunIsRun};
+ghost use Rattle.plain_examples.specs.EntryExamples.{EntryExamples};
+ghost use Rattle.plain_examples.specs.OrderExamples.{BackExamples, CrashExamples, EnterExamples, OpenedExamples, SyncedExamples};
+ghost use Rattle.plain_examples.specs.EndExamples.{BrokeExamples, FreeActExamples, LoseExamples, MendedExamples, MetExamples, ShutExamples, ToldExamples};
+ghost use Rattle.plain_examples.specs.LockExamples.{FreeExamples, GiveUpExamples, GrantExamples, GrantedExamples, QuitExamples, ReleaseExamples};
+ghost use Rattle.plain_examples.specs.JobExamples.{DoneExamples, IssueExamples, LevelExamples, ReadExamples, RefusedExamples, TooDeepExamples};
+ghost use Rattle.plain_examples.specs.AnswerExamples.{CommittedExamples, CountedExamples, NotWholeExamples, RangeExamples, ReachedExamples, RolledBackExamples};
+ghost use Rattle.plain_examples.specs.ChangeExamples.{NewsExamples, RoomExamples, SeenExamples, UnclaimedExamples};
+
+/// The trail of the worked first run is a run.
+pub fn first_run_is_run()
+    ensures { FirstRunIsRun }
+{}
+
+/// Examples of entries that no server opens with.
+pub fn entry_examples()
+    ensures { EntryExamples }
+{}
+
+/// Examples of opened.
+pub fn opened_examples()
+    ensures { OpenedExamples }
+{}
+
+/// Examples of enter.
+pub fn enter_examples()
+    ensures { EnterExamples }
+{}
+
+/// Examples of synced.
+pub fn synced_examples()
+    ensures { SyncedExamples }
+{}
+
+/// Examples of crash.
+pub fn crash_examples()
+    ensures { CrashExamples }
+{}
+
+/// Examples of back.
+pub fn back_examples()
+    ensures { BackExamples }
+{}
+
+/// Examples of shut.
+pub fn shut_examples()
+    ensures { ShutExamples }
+{}
+
+/// Examples of met.
+pub fn met_examples()
+    ensures { MetExamples }
+{}
+
+/// Examples of told.
+pub fn told_examples()
+    ensures { ToldExamples }
+{}
+
+/// Examples of broke.
+pub fn broke_examples()
+    ensures { BrokeExamples }
+{}
+
+/// Examples of mended.
+pub fn mended_examples()
+    ensures { MendedExamples }
+{}
+
+/// Examples of lose.
+pub fn lose_examples()
+    ensures { LoseExamples }
+{}
+
+/// Examples of the clock and deaths.
+pub fn free_act_examples()
+    ensures { FreeActExamples }
+{}
+
+/// Examples of release.
+pub fn release_examples()
+    ensures { ReleaseExamples }
+{}
+
+/// Examples of grant.
+pub fn grant_examples()
+    ensures { GrantExamples }
+{}
+
+/// Examples of granted.
+pub fn granted_examples()
+    ensures { GrantedExamples }
+{}
+
+/// Examples of giveup.
+pub fn give_up_examples()
+    ensures { GiveUpExamples }
+{}
+
+/// Examples of quit.
+pub fn quit_examples()
+    ensures { QuitExamples }
+{}
+
+/// Examples of free.
+pub fn free_examples()
+    ensures { FreeExamples }
+{}
+
+/// Examples of issue.
+pub fn issue_examples()
+    ensures { IssueExamples }
+{}
+
+/// Examples of read.
+pub fn read_examples()
+    ensures { ReadExamples }
+{}
+
+/// Examples of level.
+pub fn level_examples()
+    ensures { LevelExamples }
+{}
+
+/// Examples of done.
+pub fn done_examples()
+    ensures { DoneExamples }
+{}
+
+/// Examples of refused.
+pub fn refused_examples()
+    ensures { RefusedExamples }
+{}
+
+/// Examples of a transaction that is too deep.
+pub fn too_deep_examples()
+    ensures { TooDeepExamples }
+{}
+
+/// Examples of counted.
+pub fn counted_examples()
+    ensures { CountedExamples }
+{}
+
+/// Examples of notwhole.
+pub fn not_whole_examples()
+    ensures { NotWholeExamples }
+{}
+
+/// Examples of range.
+pub fn range_examples()
+    ensures { RangeExamples }
+{}
+
+/// Examples of committed.
+pub fn committed_examples()
+    ensures { CommittedExamples }
+{}
+
+/// Examples of rolledback.
+pub fn rolled_back_examples()
+    ensures { RolledBackExamples }
+{}
+
+/// Examples of reached.
+pub fn reached_examples()
+    ensures { ReachedExamples }
+{}
+
+/// Examples of a release and of a free that make room for another lock.
+pub fn room_examples()
+    ensures { RoomExamples }
+{}
+
+/// Examples of a grant that was not answered, before and behind the end of a recovery round.
+pub fn unclaimed_examples()
+    ensures { UnclaimedExamples }
+{}
+
+/// Examples of a failed connect that a job is told of until it acts.
+pub fn news_examples()
+    ensures { NewsExamples }
+{}
+
+/// Examples of a read below what was seen, before and behind the news of an epoch.
+pub fn seen_examples()
+    ensures { SeenExamples }
+{}
