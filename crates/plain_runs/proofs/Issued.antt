@@ -187,17 +187,17 @@ open_steps s session app opened place k = record {
     go e old low n true q ent i = absurd (omega (arith, low n i, eqb-true n session q, place))
     go e old low n false q ent i = old n (subst (λ (b : Bool). is_some (if b then Some (record { app = app; in_order = length s.past; lost_since = false }) else s.entered_at n) ≡ true) q ent) i
 
-enter_steps : (s : Server) (x : Entry) → EnterMay s x → IssuedSteps s (entered s x)
-enter_steps s (Epoch number) may = absurd may
-enter_steps s (Closed session) may = absurd may
-enter_steps s (OpenedEntry session app) may = open_steps s session app may.opened may.place
-enter_steps s (Update session w job txn op) may =
+enter_steps : (l : Layout) (clock : ℕ) (s : Server) (x : Entry) → EnterMay l clock s x → IssuedSteps s (entered s x)
+enter_steps l clock s (Epoch number) may = absurd may
+enter_steps l clock s (Closed session) may = absurd may
+enter_steps l clock s (OpenedEntry session app) may = open_steps s session app may.opened may.place
+enter_steps l clock s (Update session w job txn op) may =
     push s (entered s (Update session w job txn op)) (Update session w job txn op) refl (λ k. live_low s.order session k.placed may.is_live)
     (λ n ent i. subst (λ m. StandsAsIssued (issued_of (s.session_at m)) m (Update session w job txn op)) (eqb-true session n i) may.issued)
-enter_steps s (Commit session w job txn) may =
+enter_steps l clock s (Commit session w job txn) may =
     push s (entered s (Commit session w job txn)) (Commit session w job txn) refl (λ k. live_low s.order session k.placed may.is_live)
     (λ n ent i. subst (λ m. StandsAsIssued (issued_of (s.session_at m)) m (Commit session w job txn)) (eqb-true session n i) may.issued)
-enter_steps s (Rollback session w job txn) may =
+enter_steps l clock s (Rollback session w job txn) may =
     push s (entered s (Rollback session w job txn)) (Rollback session w job txn) refl (λ k. live_low s.order session k.placed may.is_live)
     (λ n ent i. subst (λ m. StandsAsIssued (issued_of (s.session_at m)) m (Rollback session w job txn)) (eqb-true session n i) may.issued)
 
@@ -299,7 +299,7 @@ refused_steps p j (Network d state reason) e = at_put IssuedSteps p.server_at d 
 
 pub row_steps : (l : Layout) (p : Plain) (a : Act) → MayCome l p a → (e : ℕ) → IssuedSteps (p.server_at e) ((after l p a).server_at e)
 row_steps l p (Opened d entries) may e = at_put IssuedSteps p.server_at d _ issued_same (opened_steps p.clock l.times.round (p.server_at d) entries may) e
-row_steps l p (Enter d x) may e = at_put IssuedSteps p.server_at d _ issued_same (enter_steps (p.server_at d) x may) e
+row_steps l p (Enter d x) may e = at_put IssuedSteps p.server_at d _ issued_same (enter_steps l p.clock (p.server_at d) x may) e
 row_steps l p (Synced d n) may e = at_put IssuedSteps p.server_at d _ issued_same (issued_same (p.server_at d)) e
 row_steps l p (Shut d session cause) may e = at_put IssuedSteps p.server_at d _ issued_same (push (p.server_at d) (shut (p.server_at d) session) (Closed session) refl (λ k. live_high (p.server_at d).order session k.placed (shut_live l p (p.server_at d) session cause may)) (λ n ent i. absurd (cc (i)))) e
 row_steps l p (Release d session) may e = at_put IssuedSteps p.server_at d _ issued_same (issued_same (p.server_at d)) e

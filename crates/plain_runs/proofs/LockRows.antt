@@ -146,13 +146,13 @@ pub entry_steps : (s t : Server) (e : Entry) → locks t ≡ record (locks s) { 
 entry_steps s t e same o k =
     subst LocksKept (sym same) (grown (locks s) (record (locks s) { order = s.order ++ e ∷ [] }) (e ∷ []) refl (omega arith) (λ x. x) (λ n. issued_same (s.session_at n)) refl refl (λ x. x) (λ n m. inl m) o.within k)
 
-pub enter_steps : (s : Server) (x : Entry) → EnterMay s x → LockSteps s (entered s x)
-enter_steps s (Epoch number) may = absurd may
-enter_steps s (Closed session) may = absurd may
-enter_steps s (OpenedEntry session app) may = entry_steps s (entered s (OpenedEntry session app)) (OpenedEntry session app) refl
-enter_steps s (Update session w job txn op) may = entry_steps s (entered s (Update session w job txn op)) (Update session w job txn op) refl
-enter_steps s (Commit session w job txn) may = entry_steps s (entered s (Commit session w job txn)) (Commit session w job txn) refl
-enter_steps s (Rollback session w job txn) may = entry_steps s (entered s (Rollback session w job txn)) (Rollback session w job txn) refl
+pub enter_steps : (l : Layout) (clock : ℕ) (s : Server) (x : Entry) → EnterMay l clock s x → LockSteps s (entered s x)
+enter_steps l clock s (Epoch number) may = absurd may
+enter_steps l clock s (Closed session) may = absurd may
+enter_steps l clock s (OpenedEntry session app) may = entry_steps s (entered s (OpenedEntry session app)) (OpenedEntry session app) refl
+enter_steps l clock s (Update session w job txn op) may = entry_steps s (entered s (Update session w job txn op)) (Update session w job txn op) refl
+enter_steps l clock s (Commit session w job txn) may = entry_steps s (entered s (Commit session w job txn)) (Commit session w job txn) refl
+enter_steps l clock s (Rollback session w job txn) may = entry_steps s (entered s (Rollback session w job txn)) (Rollback session w job txn) refl
 
 pub saved_steps : (s : Server) (n : ℕ) → SyncedMay s n → LockSteps s (saved s n)
 saved_steps s n may o k = grown (locks s) (locks (saved s n)) [] (sym (append-nil s.order)) may.no_less (λ x. x) (λ m. issued_same (s.session_at m)) refl refl (λ x. x) (λ m e. inl e) o.within k

@@ -135,13 +135,13 @@ open_met s session app place within low k = record {
     lost n a (inl p) false e low = inl p
     lost n a (inr h) false e low = inr (subst (λ (b : Bool). lost_of (if b then Some fresh else s.entered_at n) ≡ true) (sym e) h)
 
-pub enter_met : (s : Server) (x : Entry) → EnterMay s x → s.synced ≤ length s.order → MetLow s → MetSteps s (entered s x)
-enter_met s (Epoch number) may within low = absurd may
-enter_met s (Closed session) may within low = absurd may
-enter_met s (OpenedEntry session app) may within low = open_met s session app may.place within low
-enter_met s (Update session w job txn op) may within low = push_met s (entered s (Update session w job txn op)) (Update session w job txn op) refl (λ n a e. absurd (cc (e)))
-enter_met s (Commit session w job txn) may within low = push_met s (entered s (Commit session w job txn)) (Commit session w job txn) refl (λ n a e. absurd (cc (e)))
-enter_met s (Rollback session w job txn) may within low = push_met s (entered s (Rollback session w job txn)) (Rollback session w job txn) refl (λ n a e. absurd (cc (e)))
+pub enter_met : (l : Layout) (clock : ℕ) (s : Server) (x : Entry) → EnterMay l clock s x → s.synced ≤ length s.order → MetLow s → MetSteps s (entered s x)
+enter_met l clock s (Epoch number) may within low = absurd may
+enter_met l clock s (Closed session) may within low = absurd may
+enter_met l clock s (OpenedEntry session app) may within low = open_met s session app may.place within low
+enter_met l clock s (Update session w job txn op) may within low = push_met s (entered s (Update session w job txn op)) (Update session w job txn op) refl (λ n a e. absurd (cc (e)))
+enter_met l clock s (Commit session w job txn) may within low = push_met s (entered s (Commit session w job txn)) (Commit session w job txn) refl (λ n a e. absurd (cc (e)))
+enter_met l clock s (Rollback session w job txn) may within low = push_met s (entered s (Rollback session w job txn)) (Rollback session w job txn) refl (λ n a e. absurd (cc (e)))
 
 pub shut_met : (s : Server) (session : ℕ) → MetSteps s (shut s session)
 shut_met s session = push_met s (shut s session) (Closed session) refl (λ n a e. absurd (cc (e)))

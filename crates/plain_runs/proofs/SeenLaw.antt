@@ -233,7 +233,7 @@ refused_row l p j (Network d state reason) e = at_server l p d _ (known_row l (p
 
 pub told_rows : (l : Layout) (p : Plain) (a : Act) → MayCome l p a → ((d : ℕ) → OrdersKept (facet (p.server_at d))) → ((d : ℕ) → IssuedKept (view (p.server_at d))) → (e : ℕ) → Steps l (p.server_at e) ((after l p a).server_at e)
 told_rows l p (Opened d entries) may os is e = at_server l p d _ (opened_row l p.clock l.times.round (p.server_at d) entries ((os d).fresh may.fresh).0 (os d).within) e
-told_rows l p (Enter d x) may os is e = at_server l p d _ (enter_row l (p.server_at d) x may (os d).within) e
+told_rows l p (Enter d x) may os is e = at_server l p d _ (enter_row l p.clock (p.server_at d) x may (os d).within) e
 told_rows l p (Synced d n) may os is e = at_server l p d _ (λ k. grow l (sight (p.server_at d)) (record (sight (p.server_at d)) { synced = n }) refl (λ i. omega arith) (omega arith) may.no_less k.up k.sent k) e
 told_rows l p (Shut d session cause) may os is e = at_server l p d _ (shut_row l (p.server_at d) (shut (p.server_at d) session) session refl) e
 told_rows l p (Release d session) may os is e = at_server l p d _ (release_row l (p.server_at d) session) e

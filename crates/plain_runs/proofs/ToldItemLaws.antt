@@ -68,7 +68,7 @@ refused_stands p j (Network d state reason) e = at_put StandSteps p.server_at d 
 
 row_stands : (l : Layout) (p : Plain) (a : Act) → MayCome l p a → ((d : ℕ) → OrdersKept (facet (p.server_at d))) → ((d : ℕ) → IssuedKept (view (p.server_at d))) → (e : ℕ) → StandSteps (p.server_at e) ((after l p a).server_at e)
 row_stands l p (Opened d entries) may os is e = at_put StandSteps p.server_at d _ stands_same (opened_stands p.clock l.times.round (p.server_at d) entries may (os d)) e
-row_stands l p (Enter d x) may os is e = at_put StandSteps p.server_at d _ stands_same (enter_stands (p.server_at d) x may) e
+row_stands l p (Enter d x) may os is e = at_put StandSteps p.server_at d _ stands_same (enter_stands l p.clock (p.server_at d) x may) e
 row_stands l p (Synced d n) may os is e = at_put StandSteps p.server_at d _ stands_same (stands_same (p.server_at d)) e
 row_stands l p (Shut d session cause) may os is e = at_put StandSteps p.server_at d _ stands_same (shut_stands (p.server_at d) session) e
 row_stands l p (Release d session) may os is e = at_put StandSteps p.server_at d _ stands_same (stands_same (p.server_at d)) e

@@ -1,5 +1,5 @@
 -- The items of a session stand in each order from the one that it is told of.
-use Rattle.std.proofs.Common.{◌≡◌, ℕ, zero, suc, ◌+◌, ◌<◌, ◌≤◌, List, [], ◌∷◌, ◌++◌, length, take, refl, subst, sym, ap, ◌∙◌, Bool, true, false, eqb, if◌then◌else◌, arith, length-append, get_or, ◌⊎◌, inl, inr, Option, Some, None, slice_get}
+use Rattle.std.proofs.Common.{◌≡◌, ℕ, zero, suc, ◌+◌, ◌<◌, ◌≤◌, List, [], ◌∷◌, ◌++◌, length, take, refl, subst, sym, ap, ◌∙◌, Bool, true, false, eqb, if◌then◌else◌, arith, length-append, get_or, ◌⊎◌, inl, inr, Option, Some, None, slice_get, ◌&&◌, ◌==◌}
 use Rattle.std.specs.Prelude.{is_some, unwrap_or}
 use Rattle.std.specs.Option.{option_map}
 use Rattle.std.proofs.lemmas.Bool.{cases_lt, eqb-true}
@@ -10,7 +10,7 @@ use Rattle.plain_orders.specs.declared.layout.Layout.{Layout}
 use Rattle.plain_orders.specs.Entries.{last_epoch}
 use Rattle.plain_runs.specs.Plain.{Server, Session}
 use Rattle.plain_runs.specs.Items.{is_item_of}
-use Rattle.plain_runs.specs.OrderRows.{OpenedMay, EnterMay, ItemMay, entered, opened_with, crashed}
+use Rattle.plain_runs.specs.OrderRows.{OpenedMay, EnterMay, EnterItemMay, entered, opened_with, crashed}
 use Rattle.plain_runs.specs.EndRows.{MetMay, ToldMay, met_by, told_of, begun_by, entered_in, shut}
 use Rattle.plain_runs.specs.Laws.{StandsAsIssued}
 use Rattle.plain_runs.proofs.Orders.{facet, OrdersKept}
@@ -88,20 +88,20 @@ push_stands s t x same new k = subst StandsKept (sym same) (record {
         old (inl was) = ap (λ (es : List Entry). slice_get es i) (before_stays s.past s.order (s.order ++ x ∷ []) j under) ∙ k.stands n b j i e told low high was is
         old (inr its) = let top : b ≡ length s.past = new n b (subst (λ y. is_item_of n y ≡ true) (sym its) is) told in absurd (omega (arith, top, low, under))
 
-told_of_item : (s : Server) (session w : ℕ) (x : Entry) → ItemMay s session w x → (n b : ℕ) → session ≡ n → told_in (s.session_at n) ≡ Some b → b ≡ length s.past
+told_of_item : (s : Server) (session w : ℕ) (x : Entry) → EnterItemMay s session w x → (n b : ℕ) → session ≡ n → told_in (s.session_at n) ≡ Some b → b ≡ length s.past
 told_of_item s session w x may n b same told = subst (λ m. told_in (s.session_at m) ≡ Some b → b ≡ length s.past) same (go (s.session_at session) may.told) told
   where
-    go : (o : Option Session) → (unwrap_or o (record { app = 0; issued = []; told = 0 })).told ≡ length s.past → told_in o ≡ Some b → b ≡ length s.past
+    go : (o : Option Session) → (is_some o && (unwrap_or o (record { app = 0; issued = []; told = 0 })).told == length s.past) ≡ true → told_in o ≡ Some b → b ≡ length s.past
     go None e h = absurd (cc (h))
-    go (Some m) e h = let its : m.told ≡ b = cc (h) in sym its ∙ e
+    go (Some m) e h = let its : m.told ≡ b = cc (h) in sym its ∙ eqb-true m.told (length s.past) e
 
-pub enter_stands : (s : Server) (x : Entry) → EnterMay s x → StandSteps s (entered s x)
-enter_stands s (Epoch number) may = absurd may
-enter_stands s (Closed session) may = absurd may
-enter_stands s (OpenedEntry session app) may = push_stands s (entered s (OpenedEntry session app)) (OpenedEntry session app) refl (λ n b is. absurd (cc (is)))
-enter_stands s (Update session w job txn op) may = push_stands s (entered s (Update session w job txn op)) (Update session w job txn op) refl (λ n b is. told_of_item s session w _ may n b (eqb-true session n is))
-enter_stands s (Commit session w job txn) may = push_stands s (entered s (Commit session w job txn)) (Commit session w job txn) refl (λ n b is. told_of_item s session w _ may n b (eqb-true session n is))
-enter_stands s (Rollback session w job txn) may = push_stands s (entered s (Rollback session w job txn)) (Rollback session w job txn) refl (λ n b is. told_of_item s session w _ may n b (eqb-true session n is))
+pub enter_stands : (l : Layout) (clock : ℕ) (s : Server) (x : Entry) → EnterMay l clock s x → StandSteps s (entered s x)
+enter_stands l clock s (Epoch number) may = absurd may
+enter_stands l clock s (Closed session) may = absurd may
+enter_stands l clock s (OpenedEntry session app) may = push_stands s (entered s (OpenedEntry session app)) (OpenedEntry session app) refl (λ n b is. absurd (cc (is)))
+enter_stands l clock s (Update session w job txn op) may = push_stands s (entered s (Update session w job txn op)) (Update session w job txn op) refl (λ n b is. told_of_item s session w _ may n b (eqb-true session n is))
+enter_stands l clock s (Commit session w job txn) may = push_stands s (entered s (Commit session w job txn)) (Commit session w job txn) refl (λ n b is. told_of_item s session w _ may n b (eqb-true session n is))
+enter_stands l clock s (Rollback session w job txn) may = push_stands s (entered s (Rollback session w job txn)) (Rollback session w job txn) refl (λ n b is. told_of_item s session w _ may n b (eqb-true session n is))
 
 pub shut_stands : (s : Server) (session : ℕ) → StandSteps s (shut s session)
 shut_stands s session = push_stands s (shut s session) (Closed session) refl (λ n b is. absurd (cc (is)))

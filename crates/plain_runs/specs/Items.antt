@@ -110,9 +110,9 @@ is_update_of job txn i = i.job == job && i.txn == txn && is_change i.item
 abbrev pub is_end_of : ℕ → ℕ → Issued → Bool
 is_end_of job txn i = i.job == job && ends txn i.item
 
--- the same, issued at this line
-abbrev pub is_end_at : ℕ → ℕ → ℕ → Issued → Bool
-is_end_at job txn line i = is_end_of job txn i && i.line == line
+-- a Commit or Rollback of the job, for any transaction, issued at this line
+abbrev pub is_end_at : ℕ → ℕ → Issued → Bool
+is_end_at job line i = (i.job == job && i.line == line) && (is_commit i.item || is_rollback i.item)
 
 -- whether the transaction was ended behind the job's last update in it, where it was ended before or not
 abbrev pub ended_from : ℕ → ℕ → Bool → List Issued → Bool

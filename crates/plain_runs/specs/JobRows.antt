@@ -54,7 +54,7 @@ txn_of x (Commit n) = n
 txn_of x (Rollback n) = n
 
 -- a transaction that the job may end: it has an update in it, and didn't end it behind the last of these
-pub record EndMay (job txn : ℕ) (issued : List Issued) : Type 0 where
+pub record IssueEndMay (job txn : ℕ) (issued : List Issued) : Type 0 where
   pub positive : 0 < txn
   pub used : list_any (is_update_of job txn) issued ≡ true
   pub unended : ended_from job txn false issued ≡ false
@@ -62,8 +62,8 @@ pub record EndMay (job txn : ℕ) (issued : List Issued) : Type 0 where
 -- what is asked of the item itself
 abbrev pub ItemIs : ℕ → List Issued → Item → Type 0
 ItemIs job issued (Op op) = OpMay 0 op
-ItemIs job issued (Commit txn) = EndMay job txn issued
-ItemIs job issued (Rollback txn) = EndMay job txn issued
+ItemIs job issued (Commit txn) = IssueEndMay job txn issued
+ItemIs job issued (Rollback txn) = IssueEndMay job txn issued
 
 -- an item is issued, with the next running number of the session
 pub record IssueMay (s : Server) (app job w : ℕ) (item : Item) : Type 0 where
@@ -169,13 +169,13 @@ pub record ReachedMay (s : Server) (app job at : ℕ) : Type 0 where
 abbrev pub is_near : ℕ → ℕ → Bool
 is_near old level = (level == old + 1 || level + 1 == old) || level == 0
 
--- a session with updates of the job's open transaction has an end of it, issued at this line
+-- in a session with updates of the job's open transaction a Commit or Rollback of the job was issued at this line
 abbrev pub is_ended : Server → ℕ → ℕ → Job → ℕ → Bool
 is_ended s app job x line =
     (not (has_session s app) || not (nat_lt 0 x.level && list_any (is_update_of job x.txn) (pair_issued s app)))
-    || list_any (is_end_at job x.txn line) (pair_issued s app)
+    || list_any (is_end_at job line) (pair_issued s app)
 
--- a level comes behind its neighbour; 0 comes once the open transaction is ended in each living session
+-- a level comes after its neighbour; 0 comes once each living session with updates of the open transaction has such an end
 pub record LevelMay (p : Plain) (app job line level : ℕ) : Type 0 where
   pub near : is_near (p.job_at job).level level ≡ true
   pub ended : level ≡ 0 → (d : ℕ) → is_ended (p.server_at d) app job (p.job_at job) line ≡ true

@@ -4,6 +4,7 @@ use Rattle.std.specs.List.{list_any, list_all}
 use Rattle.std.specs.Option.{option_map}
 use Rattle.plain_orders.specs.declared.entry.Entry.{Entry}
 use Rattle.plain_orders.specs.declared.entry.Entry.TheVariants.{Epoch, Opened, Closed, Update, Commit, Rollback}
+use Rattle.plain_orders.specs.declared.layout.Layout.{Layout}
 use Rattle.plain_orders.specs.Entries.{count, live, last_epoch, live_session}
 use Rattle.plain_orders.specs.Ordered.{IsOrdered}
 use Rattle.plain_runs.specs.Plain.{Server, Hold, put, current, until, issued_in, session_in}
@@ -60,28 +61,32 @@ pub record OpenedMay (s : Server) (entries : List Entry) : Type 0 where
   pub ordered : IsOrdered entries
   pub low : last_epoch entries ≤ 2 ^ 31
 
--- an Open at the end
-pub record OpenMay (s : Server) (session app : ℕ) : Type 0 where
+-- the session was met, and is told of the current order
+abbrev pub is_told : Server → ℕ → Bool
+is_told s n = is_some (s.session_at n) && (session_in s n).told == current s
+
+-- an Open at the end; an Open that says more is judged by the layout and the clock too
+pub record EnterOpenMay (layout : Layout) (clock : ℕ) (s : Server) (session app : ℕ) : Type 0 where
   pub opened : s.opened ≡ true
   pub place : session ≡ length s.order + 1
   pub alone : live_session s.order app ≡ None
   pub up : s.due ≡ None
 
 -- an item of a session at the end
-pub record ItemMay (s : Server) (session w : ℕ) (e : Entry) : Type 0 where
+pub record EnterItemMay (s : Server) (session w : ℕ) (e : Entry) : Type 0 where
   pub is_live : live s.order session ≡ true
-  pub told : (session_in s session).told ≡ current s
+  pub told : is_told s session ≡ true
   pub next : w ≡ count s.order session + 1
   pub issued : option_map (entry_of session w) (slice_get (issued_in s session) (w - 1)) ≡ Some e
 
 -- an Open or an item enters
-abbrev pub EnterMay : Server → Entry → Type 0
-EnterMay s (Epoch number) = ⊥
-EnterMay s (Opened session app) = OpenMay s session app
-EnterMay s (Closed session) = ⊥
-EnterMay s (Update session w job txn op) = ItemMay s session w (Update session w job txn op)
-EnterMay s (Commit session w job txn) = ItemMay s session w (Commit session w job txn)
-EnterMay s (Rollback session w job txn) = ItemMay s session w (Rollback session w job txn)
+abbrev pub EnterMay : Layout → ℕ → Server → Entry → Type 0
+EnterMay layout clock s (Epoch number) = ⊥
+EnterMay layout clock s (Opened session app) = EnterOpenMay layout clock s session app
+EnterMay layout clock s (Closed session) = ⊥
+EnterMay layout clock s (Update session w job txn op) = EnterItemMay s session w (Update session w job txn op)
+EnterMay layout clock s (Commit session w job txn) = EnterItemMay s session w (Commit session w job txn)
+EnterMay layout clock s (Rollback session w job txn) = EnterItemMay s session w (Rollback session w job txn)
 
 -- more of the order is synced
 pub record SyncedMay (s : Server) (n : ℕ) : Type 0 where
@@ -95,10 +100,6 @@ pub record CrashMay (s : Server) (kept : ℕ) : Type 0 where
   pub no_less : s.synced ≤ kept
   pub within : kept ≤ length s.order
   pub low : last_epoch (take kept s.order) ≤ 2 ^ 31
-
--- the session was met, and is told of the current order
-abbrev pub is_told : Server → ℕ → Bool
-is_told s n = is_some (s.session_at n) && (session_in s n).told == current s
 
 -- all that was issued in the session has entered
 abbrev pub is_counted : Server → ℕ → Bool
