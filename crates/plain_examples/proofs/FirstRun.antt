@@ -1,7 +1,5 @@
 -- The trail of the worked first run.
-use Rattle.std.proofs.Common.{◌≡◌, ℕ, List, [], ◌∷◌, ◌++◌, refl, arith}
-use Rattle.subscript_keys.specs.Key.{IsKey, key_of}
-use Rattle.plain_orders.specs.Ordered.{KeyMay}
+use Rattle.std.proofs.Common.{refl, arith}
 use Rattle.plain_runs.specs.Run.{IsRun}
 use Rattle.plain_examples.proofs.Keys.{x_may}
 use Rattle.plain_examples.specs.FirstRun.{first_layout, first_run}

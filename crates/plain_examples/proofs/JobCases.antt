@@ -13,11 +13,11 @@ use Rattle.plain_runs.specs.Plain.{Plain, start}
 use Rattle.plain_runs.specs.Step.{after}
 use Rattle.plain_runs.specs.Run.{RunFrom}
 use Rattle.plain_examples.specs.Leads.{small, nothing, met, issued, kept}
-use Rattle.plain_examples.specs.JobLeads.{levels, level_two, updated_in, updated_more, commit_issued, updated_lost, barred, connect_failed}
+use Rattle.plain_examples.specs.JobLeads.{updated_next, levels, level_two, updated_in, updated_more, commit_issued, updated_lost, barred, connect_failed}
 use Rattle.plain_examples.proofs.LeadRuns.{open_saved_runs, met_runs, issued_runs, kept_runs, app_broke_runs, met_dead_runs, nothing_runs}
 use Rattle.plain_examples.specs.LockLeads.{quitted}
 use Rattle.plain_examples.proofs.LockLeadRuns.{quitted_runs, quitted_dead_runs}
-use Rattle.plain_examples.proofs.JobLeadRuns.{back_to_0, level_one_runs, level_two_runs, updated_runs, updated_in_runs, updated_more_runs, updated_next_runs, updated_other_runs, updated_again_runs, commit_issued_runs, rollback_issued_runs, updated_lost_runs, updated_dead_runs, barred_runs, used_no_way_runs, connect_failed_runs, no_way_dead_runs}
+use Rattle.plain_examples.proofs.JobLeadRuns.{back_to_0, level_one_runs, level_two_runs, updated_runs, updated_in_runs, updated_more_runs, updated_next_runs, updated_other_runs, updated_both_runs, updated_again_runs, commit_issued_runs, rollback_issued_runs, updated_lost_runs, updated_dead_runs, barred_runs, used_no_way_runs, connect_failed_runs, no_way_dead_runs}
 use Rattle.plain_runs.proofs.RunLemmas.{run_more}
 use Rattle.plain_examples.proofs.Keys.{x_may, x_key, no_empty_key, long_key_is_key, near_key_is_key, x_long_is_key}
 use Rattle.plain_examples.specs.JobExamples.{IssueExamples, ReadExamples, LevelExamples, DoneExamples, RefusedExamples, TooDeepExamples}
@@ -108,14 +108,16 @@ level_examples = (
   run_more small start level_two (Level 0 6 1) level_two_runs ((record { known = omega arith; alive = refl }, record { near = refl; ended = λ e. absurd (omega arith) })),
   run_more small start level_two (Level 0 6 0) level_two_runs ((record { known = omega arith; alive = refl }, record { near = refl; ended = λ e. elim [ zero ↦ refl | suc d ↦ let none : eqb (suc d) 0 ≡ false = ne_eqb (suc d) 0 (λ e. omega arith) in rw none refl ] })),
   run_more small start updated_lost (Level 0 6 0) updated_lost_runs ((record { known = omega arith; alive = refl }, record { near = refl; ended = λ e. elim [ zero ↦ refl | suc d ↦ let none : eqb (suc d) 0 ≡ false = ne_eqb (suc d) 0 (λ e. omega arith) in rw none refl ] })),
+  run_more small start updated_next (Level 0 6 0) updated_next_runs ((record { known = omega arith; alive = refl }, record { near = refl; ended = λ e. elim [ zero ↦ refl | suc d ↦ let none : eqb (suc d) 0 ≡ false = ne_eqb (suc d) 0 (λ e. omega arith) in rw none refl ] })),
   (nothing_runs, search rules),
   (met_dead_runs, search rules),
   (nothing_runs, search rules),
   (level_one_runs, search rules),
   (updated_runs, (omega arith, (refl, (refl, ((λ e. absurd (cc (e refl 0))), tt))))),
   (commit_issued_runs, (omega arith, (refl, (refl, ((λ e. absurd (cc (e refl 0))), tt))))),
-  (updated_next_runs, (omega arith, (refl, (refl, ((λ e. absurd (cc (e refl 0))), tt))))),
+  (updated_runs, (omega arith, (refl, (refl, ((λ e. absurd (cc (e refl 0))), tt))))),
   (updated_other_runs, (omega arith, (refl, (refl, ((λ e. absurd (cc (e refl 0))), tt))))),
+  (updated_both_runs, (omega arith, (refl, (refl, ((λ e. absurd (cc (e refl 0))), tt))))),
 )
 
 pub done_examples : DoneExamples

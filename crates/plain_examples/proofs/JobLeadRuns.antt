@@ -1,7 +1,7 @@
 -- The trails on items, transactions and losses are runs.
 use Rattle.std.proofs.Common.{ℕ, zero, suc, false, eqb, ◌≡◌, List, [], ◌∷◌, ◌≤◌, refl, arith}
 use Rattle.std.specs.Prelude.{pos}
-use Rattle.plain_orders.specs.declared.act.Act.TheVariants.{Enter, Synced, Shut, Met, Told, Crash, Issue, Grant, Level, Refused as RefusedAct, Broke, Tick, Lose, Died}
+use Rattle.plain_orders.specs.declared.act.Act.TheVariants.{Opened, Enter, Synced, Shut, Met, Told, Crash, Issue, Grant, Level, Refused as RefusedAct, Broke, Tick, Lose, Died}
 use Rattle.plain_orders.specs.declared.op.Op.TheVariants.{Set, Kill, Add}
 use Rattle.plain_orders.specs.declared.item.Item.TheVariants.{Op, Commit as CommitItem, Rollback as RollbackItem}
 use Rattle.plain_orders.specs.declared.entry.Entry.TheVariants.{Opened as OpenEntry, Update, Commit, Rollback}
@@ -16,7 +16,7 @@ use Rattle.plain_runs.specs.Plain.{start}
 use Rattle.plain_runs.specs.Step.{MayCome}
 use Rattle.plain_runs.specs.Run.{IsRun, state_after}
 use Rattle.plain_examples.specs.Leads.{small, nines_text, open_saved, met, issued}
-use Rattle.plain_examples.specs.JobLeads.{both_saved, both_met, overtaken, added, added_in, added_kept, added_dead, killed, level_two, updated_more, updated_next, updated_other, updated_again, letter, letter_in, letter_added, letter_added_in, letter_kept, letter_dead, nines, nines_in, nines_added, nines_added_in, nines_kept, nines_dead, level_one, updated, updated_in, commit_issued, commit_closed, commit_untold, commit_early, commit_in, commit_kept, commit_dead, commit_cut, commit_cut_saved, rollback_issued, rollback_closed, rollback_untold, rollback_early, rollback_in, rollback_kept, rollback_dead, rollback_cut, rollback_cut_saved, updated_broke, updated_late, updated_lost, updated_dead, used_closed, used_saved, used_lost, used_again, used_again_saved, barred, barred_granted, used_no_way, connect_failed, no_way_dead, added_twice}
+use Rattle.plain_examples.specs.JobLeads.{both_saved, both_met, overtaken, added, added_in, added_kept, added_dead, killed, level_two, updated_more, updated_next, updated_other, updated_both, updated_again, letter, letter_in, letter_added, letter_added_in, letter_kept, letter_dead, nines, nines_in, nines_added, nines_added_in, nines_kept, nines_dead, level_one, updated, updated_in, commit_issued, commit_closed, commit_untold, commit_early, commit_in, commit_kept, commit_dead, commit_cut, commit_cut_saved, rollback_issued, rollback_closed, rollback_untold, rollback_early, rollback_in, rollback_kept, rollback_dead, rollback_cut, rollback_cut_saved, updated_broke, updated_late, updated_lost, updated_dead, used_closed, used_saved, used_lost, used_again, used_again_saved, barred, barred_granted, used_no_way, connect_failed, no_way_dead, added_twice}
 use Rattle.plain_examples.proofs.LeadRuns.{open_saved_runs, met_runs, issued_runs}
 use Rattle.plain_examples.specs.LockLeads.{both}
 use Rattle.plain_examples.proofs.LockLeadRuns.{both_runs}
@@ -242,6 +242,9 @@ updated_next_runs = run_joined small start commit_issued (Level 0 6 0 ∷ Level 
 
 pub updated_other_runs : IsRun small updated_other
 updated_other_runs = run_joined small start updated (Level 2 5 1 ∷ Issue 2 5 0 2 (Op (Set (121 ∷ 0 ∷ []) (53 ∷ []))) ∷ Issue 2 6 0 3 (CommitItem 1) ∷ []) updated_runs ((record { known = omega arith; alive = refl }, record { near = refl; ended = λ e. absurd (omega arith) }), ((record { known = omega arith; alive = refl; free = refl }, record { there = refl; unbroken = refl; next = refl; its = record { key_may = y_may; within = omega arith } }), ((record { known = omega arith; alive = refl; free = refl }, record { there = refl; unbroken = refl; next = refl; its = record { positive = omega arith; used = refl; unended = refl } }), tt)))
+
+pub updated_both_runs : IsRun small updated_both
+updated_both_runs = run_joined small start updated (Opened 1 [] ∷ Enter 1 (OpenEntry 2 0) ∷ Synced 1 2 ∷ Met 0 1 2 ∷ Issue 0 5 1 1 (Op (Set (120 ∷ 0 ∷ []) (53 ∷ []))) ∷ Issue 0 6 1 2 (CommitItem 1) ∷ []) updated_runs (record { fresh = refl; ordered = tt; low = omega arith }, (record { opened = refl; place = refl; alone = refl; up = refl }, (record { opened = refl; no_less = omega arith; within = omega arith }, ((refl, record { place = refl; synced = omega arith; entered = refl; behind = refl; fresh = refl; none = refl }), ((record { known = omega arith; alive = refl; free = refl }, record { there = refl; unbroken = refl; next = refl; its = record { key_may = x_may; within = omega arith } }), ((record { known = omega arith; alive = refl; free = refl }, record { there = refl; unbroken = refl; next = refl; its = record { positive = omega arith; used = refl; unended = refl } }), tt))))))
 
 pub updated_again_runs : IsRun small updated_again
 updated_again_runs = run_joined small start updated_in (Shut 0 2 Replaced ∷ Synced 0 4 ∷ Lose 0 0 (ByReset 4) ∷ Enter 0 (OpenEntry 5 0) ∷ Synced 0 5 ∷ Met 0 0 5 ∷ RefusedAct 0 7 (Network 0 Recovery Reset) ∷ []) updated_in_runs (record { is_live = refl }, (record { opened = refl; no_less = omega arith; within = omega arith }, ((refl, record { there = refl; synced = omega arith; closed = refl }), (record { opened = refl; place = refl; alone = refl; up = refl }, (record { opened = refl; no_less = omega arith; within = omega arith }, ((refl, record { place = refl; synced = omega arith; entered = refl; behind = refl; fresh = refl; none = refl }), ((record { known = omega arith; alive = refl }, record { news = refl; bar = refl; its_state = refl }), tt)))))))

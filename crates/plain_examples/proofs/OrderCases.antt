@@ -37,6 +37,7 @@ enter_examples = (
   run_more small start added (Enter 0 (Update 2 1 0 0 (Add (120 ∷ 0 ∷ []) (pos 1)))) added_runs (record { is_live = refl; told = refl; next = refl; issued = refl }),
   (issued_closed_runs, search rules),
   (issued_cut_runs, search rules),
+  (found_runs, λ may. absurd (cc (may.told))),
   (issued_more_runs, search rules),
   (met_runs, search rules),
   (issued_runs, search rules),

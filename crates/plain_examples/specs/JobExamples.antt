@@ -10,7 +10,7 @@ use Rattle.plain_orders.specs.declared.refused.ReasonName.TheVariants.{Reset, Ex
 use Rattle.plain_orders.specs.declared.refused.LinkName.TheVariants.{NotConnected, Normal, Trouble, Recovery}
 use Rattle.subscript_keys.specs.declared.sub.Sub.TheVariants.{Text}
 use Rattle.plain_examples.specs.Leads.{Accepted, MayNotCome, FailsAt, long_key, long_text, near_key, long_value, nothing, open_saved, met, issued, kept, app_broke, met_dead}
-use Rattle.plain_examples.specs.JobLeads.{levels, level_one, level_two, updated, updated_in, updated_more, updated_next, updated_other, updated_again, commit_issued, rollback_issued, updated_lost, updated_dead, barred, used_no_way, connect_failed, no_way_dead}
+use Rattle.plain_examples.specs.JobLeads.{levels, level_one, level_two, updated, updated_in, updated_more, updated_next, updated_other, updated_both, updated_again, commit_issued, rollback_issued, updated_lost, updated_dead, barred, used_no_way, connect_failed, no_way_dead}
 use Rattle.plain_examples.specs.LockLeads.{quitted, quitted_dead}
 
 -- issue
@@ -155,6 +155,8 @@ LevelExamples =
     × Accepted level_two (Level 0 6 0)
     -- a session that is lost asks no end
     × Accepted updated_lost (Level 0 6 0)
+    -- an end of another transaction at the line is enough
+    × Accepted updated_next (Level 0 6 0)
     -- known
     × FailsAt 0 nothing (Level 3 4 1)
     -- alive
@@ -167,10 +169,12 @@ LevelExamples =
     × FailsAt 3 updated (Level 0 6 0)
     -- ended: it was issued at another line
     × FailsAt 3 commit_issued (Level 0 7 0)
-    -- ended: it is that of another transaction
-    × FailsAt 3 updated_next (Level 0 6 0)
+    -- ended: what was issued at the line is an update
+    × FailsAt 3 updated (Level 0 5 0)
     -- ended: it is that of another job
     × FailsAt 3 updated_other (Level 0 6 0)
+    -- ended: it is in another session
+    × FailsAt 3 updated_both (Level 0 6 0)
 
 -- done
 abbrev pub DoneExamples : Type 0

@@ -1,7 +1,7 @@
 -- Short trails that the examples begin with: items, transactions and losses.
 use Rattle.std.specs.Prelude.{ℕ, zero, suc, pos, List, ◌+◌, ◌++◌, [], ◌∷◌}
 use Rattle.plain_orders.specs.declared.act.Act.{Act}
-use Rattle.plain_orders.specs.declared.act.Act.TheVariants.{Enter, Synced, Shut, Met, Told, Crash, Issue, Grant, Level, Refused as RefusedAct, Broke, Tick, Lose, Died}
+use Rattle.plain_orders.specs.declared.act.Act.TheVariants.{Opened, Enter, Synced, Shut, Met, Told, Crash, Issue, Grant, Level, Refused as RefusedAct, Broke, Tick, Lose, Died}
 use Rattle.plain_orders.specs.declared.op.Op.TheVariants.{Set, Kill, Add}
 use Rattle.plain_orders.specs.declared.item.Item.TheVariants.{Op, Commit as CommitItem, Rollback as RollbackItem}
 use Rattle.plain_orders.specs.declared.entry.Entry.TheVariants.{Opened as OpenEntry, Update, Commit, Rollback}
@@ -266,6 +266,13 @@ updated_next = commit_issued ++ Level 0 6 0 ∷ Level 0 7 1 ∷ Issue 0 7 0 3 (O
 -- another job has a transaction with the same number, and a Commit of it is issued
 abbrev pub updated_other : List Act
 updated_other = updated ++ Level 2 5 1 ∷ Issue 2 5 0 2 (Op (Set (121 ∷ 0 ∷ []) (53 ∷ []))) ∷ Issue 2 6 0 3 (CommitItem 1) ∷ []
+
+-- a transaction has updates at both data servers, and its Commit is issued at the second one
+abbrev pub updated_both : List Act
+updated_both =
+    updated
+    ++ Opened 1 [] ∷ Enter 1 (OpenEntry 2 0) ∷ Synced 1 2 ∷ Met 0 1 2 ∷ Issue 0 5 1 1 (Op (Set (120 ∷ 0 ∷ []) (53 ∷ [])))
+    ∷ Issue 0 6 1 2 (CommitItem 1) ∷ []
 
 -- the session of a transaction is lost, another one is met, and the job is told
 abbrev pub updated_again : List Act

@@ -14,9 +14,9 @@ use Rattle.plain_runs.specs.Step.{MayCome}
 use Rattle.plain_runs.specs.Run.{IsRun, state_after}
 use Rattle.plain_runs.specs.Conditions.{JustFails, conditions}
 
--- two application servers; the jobs 0 and 2 run on the first, job 1 on the second
+-- two data servers and two application servers; the jobs 0 and 2 run on the first, job 1 on the second
 abbrev pub small : Layout
-small = record { servers = 1; apps = 2; job_apps = 0 ∷ 1 ∷ 0 ∷ []; times = record { retry = 5; trouble = 60; recover = 100; round = 60 } }
+small = record { servers = 2; apps = 2; job_apps = 0 ∷ 1 ∷ 0 ∷ []; times = record { retry = 5; trouble = 60; recover = 100; round = 60 } }
 
 -- behind this trail the act is accepted
 abbrev pub Accepted : List Act → Act → Type 0

@@ -3,7 +3,7 @@ use Rattle.std.specs.Prelude.{ℕ, pos, ◌+◌, [], ◌∷◌, ◌≡◌, ◌<�
 use Rattle.plain_orders.specs.declared.act.Act.TheVariants.{Opened, Enter, Synced, Back, Crash}
 use Rattle.plain_orders.specs.declared.op.Op.TheVariants.{Set, Kill, Add}
 use Rattle.plain_orders.specs.declared.entry.Entry.TheVariants.{Epoch, Opened as OpenEntry, Closed, Update, Commit, Rollback}
-use Rattle.plain_examples.specs.Leads.{Accepted, FailsAt, nothing, epochs, opened, open_entered, open_saved, met, issued, kept, server_crashed, crash_told, crash_told_closed, issued_more, issued_closed, issued_cut, issued_told, found, many_opened}
+use Rattle.plain_examples.specs.Leads.{Accepted, MayNotCome, FailsAt, nothing, epochs, opened, open_entered, open_saved, met, issued, kept, server_crashed, crash_told, crash_told_closed, issued_more, issued_closed, issued_cut, issued_told, found, many_opened}
 use Rattle.plain_examples.specs.JobLeads.{added, killed, updated_in, commit_issued, commit_closed, commit_untold, commit_early, rollback_issued, rollback_closed, rollback_untold, rollback_early}
 
 -- opened
@@ -42,6 +42,8 @@ EnterExamples =
     × FailsAt 0 issued_closed (Enter 0 (Update 2 1 0 0 (Set (120 ∷ 0 ∷ []) (53 ∷ []))))
     -- told
     × FailsAt 1 issued_cut (Enter 0 (Update 2 1 0 0 (Set (120 ∷ 0 ∷ []) (53 ∷ []))))
+    -- told: the session was not met, and with it issued
+    × MayNotCome found (Enter 0 (Update 2 1 0 0 (Set (120 ∷ 0 ∷ []) (53 ∷ []))))
     -- next
     × FailsAt 2 issued_more (Enter 0 (Update 2 2 0 0 (Set (120 ∷ 0 ∷ []) (53 ∷ []))))
     -- issued: nothing is

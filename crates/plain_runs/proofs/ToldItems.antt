@@ -10,7 +10,7 @@ use Rattle.plain_orders.specs.declared.layout.Layout.{Layout}
 use Rattle.plain_orders.specs.Entries.{last_epoch}
 use Rattle.plain_runs.specs.Plain.{Server, Session}
 use Rattle.plain_runs.specs.Items.{is_item_of}
-use Rattle.plain_runs.specs.OrderRows.{OpenedMay, EnterMay, EnterItemMay, entered, opened_with, crashed}
+use Rattle.plain_runs.specs.OrderRows.{OpenedMay, EnterMay, ItemMay, entered, opened_with, crashed}
 use Rattle.plain_runs.specs.EndRows.{MetMay, ToldMay, met_by, told_of, begun_by, entered_in, shut}
 use Rattle.plain_runs.specs.Laws.{StandsAsIssued}
 use Rattle.plain_runs.proofs.Orders.{facet, OrdersKept}
@@ -88,7 +88,7 @@ push_stands s t x same new k = subst StandsKept (sym same) (record {
         old (inl was) = ap (λ (es : List Entry). slice_get es i) (before_stays s.past s.order (s.order ++ x ∷ []) j under) ∙ k.stands n b j i e told low high was is
         old (inr its) = let top : b ≡ length s.past = new n b (subst (λ y. is_item_of n y ≡ true) (sym its) is) told in absurd (omega (arith, top, low, under))
 
-told_of_item : (s : Server) (session w : ℕ) (x : Entry) → EnterItemMay s session w x → (n b : ℕ) → session ≡ n → told_in (s.session_at n) ≡ Some b → b ≡ length s.past
+told_of_item : (s : Server) (session w : ℕ) (x : Entry) → ItemMay s session w x → (n b : ℕ) → session ≡ n → told_in (s.session_at n) ≡ Some b → b ≡ length s.past
 told_of_item s session w x may n b same told = subst (λ m. told_in (s.session_at m) ≡ Some b → b ≡ length s.past) same (go (s.session_at session) may.told) told
   where
     go : (o : Option Session) → (is_some o && (unwrap_or o (record { app = 0; issued = []; told = 0 })).told == length s.past) ≡ true → told_in o ≡ Some b → b ≡ length s.past

@@ -15,7 +15,7 @@ use Rattle.plain_orders.specs.declared.sum.Sum.{Sum}
 use Rattle.plain_orders.specs.declared.refused.Refused.TheVariants.{NoTransaction, TooDeep, RollbackOnly, LockTimeout, Network}
 use Rattle.plain_orders.specs.Ordered.{MayFollow}
 use Rattle.plain_runs.specs.Plain.{Plain, Server}
-use Rattle.plain_runs.specs.OrderRows.{EnterItemMay}
+use Rattle.plain_runs.specs.OrderRows.{ItemMay}
 use Rattle.plain_runs.specs.JobRows.{JobMay, JobAtMay, SumMay}
 use Rattle.plain_runs.specs.Step.{MayCome}
 
@@ -37,7 +37,7 @@ abbrev pub at_server : {l : Layout} {p : Plain} {job d : ℕ} {row : Type 0} →
 at_server more = field (λ m. m.0.known) ∷ field (λ m. m.0.alive) ∷ field (λ m. m.0.free) ∷ more
 
 -- those of an item that enters
-abbrev pub of_item : {s : Server} {session w : ℕ} {e : Entry} → List (Condition (EnterItemMay s session w e))
+abbrev pub of_item : {s : Server} {session w : ℕ} {e : Entry} → List (Condition (ItemMay s session w e))
 of_item = field (λ m. m.is_live) ∷ field (λ m. m.told) ∷ field (λ m. m.next) ∷ field (λ m. m.issued) ∷ []
 
 -- those of an increment's answer

@@ -54,7 +54,7 @@ txn_of x (Commit n) = n
 txn_of x (Rollback n) = n
 
 -- a transaction that the job may end: it has an update in it, and didn't end it behind the last of these
-pub record IssueEndMay (job txn : ℕ) (issued : List Issued) : Type 0 where
+pub record EndMay (job txn : ℕ) (issued : List Issued) : Type 0 where
   pub positive : 0 < txn
   pub used : list_any (is_update_of job txn) issued ≡ true
   pub unended : ended_from job txn false issued ≡ false
@@ -62,8 +62,8 @@ pub record IssueEndMay (job txn : ℕ) (issued : List Issued) : Type 0 where
 -- what is asked of the item itself
 abbrev pub ItemIs : ℕ → List Issued → Item → Type 0
 ItemIs job issued (Op op) = OpMay 0 op
-ItemIs job issued (Commit txn) = IssueEndMay job txn issued
-ItemIs job issued (Rollback txn) = IssueEndMay job txn issued
+ItemIs job issued (Commit txn) = EndMay job txn issued
+ItemIs job issued (Rollback txn) = EndMay job txn issued
 
 -- an item is issued, with the next running number of the session
 pub record IssueMay (s : Server) (app job w : ℕ) (item : Item) : Type 0 where

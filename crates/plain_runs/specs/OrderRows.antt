@@ -66,14 +66,14 @@ abbrev pub is_told : Server → ℕ → Bool
 is_told s n = is_some (s.session_at n) && (session_in s n).told == current s
 
 -- an Open at the end; an Open that says more is judged by the layout and the clock too
-pub record EnterOpenMay (layout : Layout) (clock : ℕ) (s : Server) (session app : ℕ) : Type 0 where
+pub record OpenMay (layout : Layout) (clock : ℕ) (s : Server) (session app : ℕ) : Type 0 where
   pub opened : s.opened ≡ true
   pub place : session ≡ length s.order + 1
   pub alone : live_session s.order app ≡ None
   pub up : s.due ≡ None
 
 -- an item of a session at the end
-pub record EnterItemMay (s : Server) (session w : ℕ) (e : Entry) : Type 0 where
+pub record ItemMay (s : Server) (session w : ℕ) (e : Entry) : Type 0 where
   pub is_live : live s.order session ≡ true
   pub told : is_told s session ≡ true
   pub next : w ≡ count s.order session + 1
@@ -82,11 +82,11 @@ pub record EnterItemMay (s : Server) (session w : ℕ) (e : Entry) : Type 0 wher
 -- an Open or an item enters
 abbrev pub EnterMay : Layout → ℕ → Server → Entry → Type 0
 EnterMay layout clock s (Epoch number) = ⊥
-EnterMay layout clock s (Opened session app) = EnterOpenMay layout clock s session app
+EnterMay layout clock s (Opened session app) = OpenMay layout clock s session app
 EnterMay layout clock s (Closed session) = ⊥
-EnterMay layout clock s (Update session w job txn op) = EnterItemMay s session w (Update session w job txn op)
-EnterMay layout clock s (Commit session w job txn) = EnterItemMay s session w (Commit session w job txn)
-EnterMay layout clock s (Rollback session w job txn) = EnterItemMay s session w (Rollback session w job txn)
+EnterMay layout clock s (Update session w job txn op) = ItemMay s session w (Update session w job txn op)
+EnterMay layout clock s (Commit session w job txn) = ItemMay s session w (Commit session w job txn)
+EnterMay layout clock s (Rollback session w job txn) = ItemMay s session w (Rollback session w job txn)
 
 -- more of the order is synced
 pub record SyncedMay (s : Server) (n : ℕ) : Type 0 where
