@@ -1,4 +1,6 @@
 pub mod Entries
+pub mod Sessions
+pub mod ItemEntries
 pub mod PairMap
 pub mod Numbers
 pub mod Fold
