@@ -7,9 +7,10 @@ use Rattle.plain_orders.specs.declared.entry.Entry.TheVariants.{Epoch, Opened as
 use Rattle.plain_orders.specs.declared.layout.Layout.{Layout}
 use Rattle.plain_orders.specs.Entries.{live, live_from, live_after}
 use Rattle.plain_runs.specs.Plain.{Server, Session, Entered, Hold, app_of}
-use Rattle.plain_runs.specs.OrderRows.{EnterMay, entered, is_sent}
+use Rattle.plain_runs.specs.OrderRows.{EnterMay, entered}
 use Rattle.plain_runs.proofs.Orders.{Each}
 use Rattle.plain_runs.proofs.LockRows.{each_weaker}
+use Rattle.plain_runs.specs.Holds.{is_sent}
 
 abbrev pub told_in : Option Session → Option ℕ
 told_in None = None

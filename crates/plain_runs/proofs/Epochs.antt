@@ -10,9 +10,10 @@ use Rattle.plain_orders.specs.Entries.{epoch_after, epoch_from, last_epoch}
 use Rattle.plain_orders.specs.Ordered.{MayFollow, OrderedFrom}
 use Rattle.plain_runs.specs.Plain.{Server}
 use Rattle.plain_runs.specs.OrderRows.{CrashMay, EnterMay, OpenedMay, SyncedMay, crashed, entered, opened_with}
-use Rattle.plain_runs.specs.EndRows.{place_of_epoch, shut}
+use Rattle.plain_runs.specs.EndRows.{shut}
 use Rattle.plain_runs.proofs.Orders.{Facet, OrdersKept, facet}
 use Rattle.plain_runs.proofs.ToldItems.{before_stays, here_or_before, last_nth, nth}
+use Rattle.plain_orders.specs.Sessions.{place_of_epoch}
 
 -- an Epoch is no lower than this number
 abbrev RiseAt : ℕ → Entry → Type 0

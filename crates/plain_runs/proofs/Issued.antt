@@ -20,7 +20,7 @@ use Rattle.plain_orders.specs.declared.causes.PairEnd.{PairEnd}
 use Rattle.plain_orders.specs.declared.causes.PairEnd.TheVariants.{App as AppEnd, Server as ServerEnd}
 use Rattle.plain_orders.specs.declared.layout.Layout.{Layout}
 use Rattle.plain_runs.specs.Plain.{Plain, Server, Session, Entered, start, app_of, with_session, pair_session}
-use Rattle.plain_runs.specs.Items.{entry_of, is_item_of, w_of}
+use Rattle.plain_runs.specs.Items.{entry_of}
 use Rattle.plain_runs.specs.OrderRows.{OpenedMay, EnterMay, CrashMay, entered, opened_with, crashed}
 use Rattle.plain_runs.specs.EndRows.{MetMay, broke, lost, shut, met_by, told_of, begun_by, new_session, since_loss, without_session}
 use Rattle.plain_runs.specs.JobRows.{refused, issues, txn_of}
@@ -33,6 +33,7 @@ use Rattle.plain_runs.proofs.OrderLaws.{shut_live}
 use Rattle.plain_runs.proofs.Lists.{both_ways, opens, is_open, live_opens}
 use Rattle.plain_runs.proofs.HoldRows.{issued_of}
 use Rattle.plain_runs.proofs.LockRows.{each_at}
+use Rattle.plain_orders.specs.ItemEntries.{is_item_of, w_of}
 
 -- where an entry may stand, counted from 0: a session's items behind its Open, which stands at its number; no Close is of session 0
 abbrev pub PlacedAt : ℕ → Entry → Type 0

@@ -14,13 +14,14 @@ use Rattle.plain_orders.specs.declared.entry.Entry.TheVariants.{Epoch, Opened as
 use Rattle.plain_orders.specs.declared.layout.Layout.{Layout}
 use Rattle.plain_orders.specs.Entries.{live, count, last_epoch}
 use Rattle.plain_runs.specs.Plain.{Server, Session, Hold, Given, Quitted, with_session, pair_session, issued_in}
-use Rattle.plain_runs.specs.OrderRows.{OpenedMay, EnterMay, SyncedMay, CrashMay, BackMay, entered, opened_with, crashed, came_back, saved, due_of, is_sent, hold_after_crash, hold_after_back}
+use Rattle.plain_runs.specs.OrderRows.{OpenedMay, EnterMay, SyncedMay, CrashMay, BackMay, entered, opened_with, crashed, came_back, saved, due_of}
 use Rattle.plain_runs.specs.EndRows.{MetMay, met_by, new_session}
-use Rattle.plain_runs.specs.LockRows.{GrantMay, ReleaseMay, FreeMay, is_quit, is_kept, is_asked, is_of, is_lock, is_sent_at, first_quit, drop_quit, change_first, change_last, new_hold, given_now, answered_hold, released_hold, given_up, freed_hold, first_given, grants, granted, releases, gives_up, quits, frees}
+use Rattle.plain_runs.specs.LockRows.{GrantMay, ReleaseMay, FreeMay, is_quit, first_quit, drop_quit, change_first, change_last, given_now, first_given, grants, granted, releases, gives_up, quits, frees}
 use Rattle.plain_runs.proofs.RunLemmas.{at_put}
 use Rattle.plain_runs.proofs.Orders.{Each, facet, OrdersKept, order_in_order}
 use Rattle.plain_runs.proofs.Lists.{both_ways, any_take, any_wider, opens, is_open, live_opens, live_has, none_live}
 use Rattle.plain_runs.proofs.HoldRows.{HoldKept, IssuedGrows, issued_of, grow_hold, sent_facts, of_facts, answer_hold, give_hold, free_hold, back_hold, release_hold, crash_hold}
+use Rattle.plain_runs.specs.Holds.{is_sent, hold_after_crash, hold_after_back, is_kept, is_asked, is_of, is_lock, is_sent_at, new_hold, answered_hold, released_hold, given_up, freed_hold}
 
 -- lists of holds, changed one by one
 pub each_map : (P Q : Hold → Type 0) (f : Hold → Hold) → ((h : Hold) → P h → Q (f h)) → (hs : List Hold) → Each P hs → Each Q (map f hs)

@@ -23,10 +23,9 @@ use Rattle.plain_orders.specs.declared.layout.Layout.{Layout}
 use Rattle.plain_orders.specs.Entries.{entry_at}
 use Rattle.plain_runs.specs.Plain.{Plain, Server, Session, Entered, Pair, Hold, Given, Quitted, Known, put, start, app_of, runs_on, pair_session, session_in, told_order}
 use Rattle.plain_runs.specs.Items.{entry_of}
-use Rattle.plain_runs.specs.OrderRows.{is_sent}
 use Rattle.plain_runs.specs.EndRows.{broke, mended, lost, shut, since_loss, without_session, knows_loss, knows_noway}
 use Rattle.plain_runs.specs.JobRows.{AnswerMay, refused, told_loss, issues, txn_of, acts, sees, sees_up, item_at, is_answered_item, w_at}
-use Rattle.plain_runs.specs.LockRows.{GrantMay, GrantedMay, is_of, is_quit, is_kept, is_asked, is_sent_at, first_quit, change_first, change_last, new_hold, given_now, given_up, answered_hold, released_hold, freed_hold, first_given, grants, granted, gives_up, quits, releases, frees}
+use Rattle.plain_runs.specs.LockRows.{GrantMay, GrantedMay, is_quit, first_quit, change_first, change_last, given_now, first_given, grants, granted, gives_up, quits, releases, frees}
 use Rattle.plain_runs.specs.Step.{MayCome, after}
 use Rattle.plain_runs.specs.Run.{IsRun, RunFrom, after_all}
 use Rattle.plain_runs.specs.Laws.{SeenIsTold, server_after}
@@ -38,6 +37,7 @@ use Rattle.plain_runs.proofs.LockRows.{each_map, each_push, each_first, each_las
 use Rattle.plain_runs.proofs.Issued.{IssuedKept, view, live_low, row_steps as issued_rows}
 use Rattle.plain_runs.proofs.Bases.{SentKept, ToldKept, sight, base, len, told_in, owner_in, place_in, or_else, quiet, grow, get_last, enter_row, shut_row}
 use Rattle.plain_runs.proofs.SeenTold.{less_gone, opened_row, crash_row, back_row, told_row, met_row}
+use Rattle.plain_runs.specs.Holds.{is_sent, is_of, is_kept, is_asked, is_sent_at, new_hold, given_up, answered_hold, released_hold, freed_hold}
 
 abbrev Steps : Layout → Server → Server → Type 0
 Steps l s t = ToldKept l (sight s) → ToldKept l (sight t)

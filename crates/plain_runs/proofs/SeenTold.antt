@@ -9,13 +9,15 @@ use Rattle.plain_orders.specs.declared.entry.Entry.TheVariants.{Epoch, Opened as
 use Rattle.plain_orders.specs.declared.layout.Layout.{Layout}
 use Rattle.plain_orders.specs.Entries.{live, last_epoch}
 use Rattle.plain_runs.specs.Plain.{Server, Session, Entered, Hold, app_of, runs_on, current, orders, order_at, session_in}
-use Rattle.plain_runs.specs.OrderRows.{CrashMay, BackMay, opened_with, crashed, came_back, due_of, is_sent, is_told, hold_after_crash, hold_after_back}
-use Rattle.plain_runs.specs.EndRows.{MetMay, ToldMay, met_by, told_of, begun_from, begun_by, place_of_epoch, entered_in}
+use Rattle.plain_runs.specs.OrderRows.{CrashMay, BackMay, opened_with, crashed, came_back, due_of, is_told}
+use Rattle.plain_runs.specs.EndRows.{MetMay, ToldMay, met_by, told_of, begun_from, begun_by, entered_in}
 use Rattle.plain_runs.proofs.RunLemmas.{at_put}
 use Rattle.plain_runs.proofs.Lists.{both_ways, none_live, live_has}
 use Rattle.plain_runs.proofs.HoldRows.{sent_facts}
 use Rattle.plain_runs.proofs.LockRows.{each_weaker, each_map}
 use Rattle.plain_runs.proofs.Bases.{Sight, SentKept, ToldKept, sight, base, len, told_in, owner_in, place_in, or_else, grow, long_last, long_more, live_push, get_last}
+use Rattle.plain_runs.specs.Holds.{is_sent, hold_after_crash, hold_after_back}
+use Rattle.plain_orders.specs.Sessions.{place_of_epoch}
 
 -- a hold that is sent though some holds go was sent
 pub less_gone : (a g n c : Bool) → (not a && (not g && not (n || c))) ≡ true → (not a && (not g && not n)) ≡ true

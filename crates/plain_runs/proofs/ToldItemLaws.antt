@@ -20,7 +20,7 @@ use Rattle.plain_orders.specs.declared.layout.Layout.{Layout}
 use Rattle.plain_orders.specs.Entries.{entry_at}
 use Rattle.plain_orders.specs.Own.{Issued}
 use Rattle.plain_runs.specs.Plain.{Plain, Server, Session, start, app_of, pair_session, told_order}
-use Rattle.plain_runs.specs.Items.{entry_of, entry_of_item, is_item_at, is_item_of}
+use Rattle.plain_runs.specs.Items.{entry_of, entry_of_item}
 use Rattle.plain_runs.specs.EndRows.{broke, lost}
 use Rattle.plain_runs.specs.JobRows.{has_session, is_answered_item, issues, item_at, pair_issued, refused, txn_of, w_at}
 use Rattle.plain_runs.specs.Step.{MayCome, after}
@@ -36,6 +36,7 @@ use Rattle.plain_runs.proofs.Bases.{ToldKept, sight, or_else, owner_in, place_in
 use Rattle.plain_runs.proofs.SeenLaw.{told_is, told_kept}
 use Rattle.plain_runs.proofs.NoSession.{none_without_session}
 use Rattle.plain_runs.proofs.ToldItems.{StandsKept, StandSteps, standing, nth, later_told, enter_stands, shut_stands, opened_stands, crash_stands, met_stands, told_stands}
+use Rattle.plain_orders.specs.ItemEntries.{is_item_at, is_item_of}
 
 stands_same : (s : Server) → StandSteps s s
 stands_same s k = k

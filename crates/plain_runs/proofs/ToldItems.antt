@@ -9,7 +9,6 @@ use Rattle.plain_orders.specs.declared.entry.Entry.TheVariants.{Epoch, Opened as
 use Rattle.plain_orders.specs.declared.layout.Layout.{Layout}
 use Rattle.plain_orders.specs.Entries.{last_epoch}
 use Rattle.plain_runs.specs.Plain.{Server, Session}
-use Rattle.plain_runs.specs.Items.{is_item_of}
 use Rattle.plain_runs.specs.OrderRows.{OpenedMay, EnterMay, ItemMay, entered, opened_with, crashed}
 use Rattle.plain_runs.specs.EndRows.{MetMay, ToldMay, met_by, told_of, begun_by, entered_in, shut}
 use Rattle.plain_runs.specs.Laws.{StandsAsIssued}
@@ -18,6 +17,7 @@ use Rattle.plain_runs.proofs.Bases.{told_in}
 use Rattle.plain_runs.proofs.HoldRows.{issued_of}
 use Rattle.plain_runs.proofs.LockRows.{each_at}
 use Rattle.plain_runs.proofs.Issued.{AsIssued, IssuedKept, view}
+use Rattle.plain_orders.specs.ItemEntries.{is_item_of}
 
 -- what this sees of a server
 pub record Standing : Type 0 where

@@ -26,7 +26,8 @@ use Rattle.plain_orders.specs.Answers.{data_on, IsNextOn, sum_at}
 use Rattle.plain_orders.specs.Own.{Issued, own, value_over, touches_own}
 use Rattle.plain_orders.specs.Ordered.{KeyMay, OpMay}
 use Rattle.plain_runs.specs.Plain.{Plain, Server, Known, Job, with_server, with_known, with_session, app_of, issued_in, pair_session, told_order}
-use Rattle.plain_runs.specs.Items.{entry_of, all_stand, w_of, is_change, is_add, is_update_of, is_end_at, ended_from}
+use Rattle.plain_runs.specs.Items.{entry_of, all_stand, is_change, is_add, is_update_of, is_end_at, ended_from}
+use Rattle.plain_orders.specs.ItemEntries.{w_of}
 
 -- the job is there, and its application server lives
 pub record JobMay (layout : Layout) (p : Plain) (job : ℕ) : Type 0 where

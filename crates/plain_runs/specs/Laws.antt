@@ -1,5 +1,5 @@
 -- Laws over every run of the plain machine.
-use Rattle.std.specs.Prelude.{◌≡◌, ◌≢◌, ℕ, zero, suc, Bool, true, false, ◌+◌, ◌<◌, ◌≤◌, List, [], ◌∷◌, ◌++◌, length, take, Option, Some, None, slice_get, is_some, ◌||◌, ◌⊎◌, IsSomeAnd, ◌-◌}
+use Rattle.std.specs.Prelude.{◌≡◌, ◌≢◌, ℕ, zero, suc, Bool, true, false, ◌+◌, ◌<◌, ◌≤◌, List, [], ◌∷◌, ◌++◌, length, take, Option, Some, None, slice_get, is_some, ◌⊎◌, IsSomeAnd, ◌-◌}
 use Rattle.plain_orders.specs.declared.act.Act.{Act}
 use Rattle.plain_orders.specs.declared.act.Act.TheVariants.{Opened, Enter, Synced, Shut, Release, Met, Told, Back, Crash, Issue, Read, Grant, Granted, GiveUp, Quit, Free, Counted, NotWhole, Range, Committed, RolledBack, Reached, Level, Done, Refused, Broke, Mended, Tick, Lose, Died}
 use Rattle.plain_orders.specs.declared.refused.Refused.{Refused as Refusal}
@@ -11,13 +11,14 @@ use Rattle.plain_orders.specs.Entries.{last_epoch}
 use Rattle.plain_orders.specs.Entries.{closed_by}
 use Rattle.plain_orders.specs.Conflict.{is_conflict}
 use Rattle.plain_runs.specs.Plain.{Plain, Server, Hold, Given, current, order_at, issued_in, app_of, told_order}
-use Rattle.plain_runs.specs.Items.{numbers, all_stand, entry_of, w_of, is_item_of}
+use Rattle.plain_runs.specs.Items.{all_stand, entry_of}
 use Rattle.plain_orders.specs.Own.{Issued}
 use Rattle.std.specs.Option.{option_map}
-use Rattle.plain_runs.specs.OrderRows.{binds}
 use Rattle.plain_runs.specs.JobRows.{has_session}
 use Rattle.plain_runs.specs.Step.{MayCome, after}
 use Rattle.plain_runs.specs.Run.{IsRun, state_after}
+use Rattle.plain_orders.specs.ItemEntries.{numbers, w_of, is_item_of}
+use Rattle.plain_runs.specs.Holds.{binds, touched}
 
 -- A run goes on with an act that may come, and then the state is what the act makes of it.
 abbrev pub Extended : Type 0
@@ -156,10 +157,6 @@ NoConflict =
     → IsHold (server_after layout acts d) i h → IsHold (server_after layout acts d) j k → i ≢ j
     → binds h ≡ true → binds k ≡ true → ((h.session ≡ k.session) × (h.job ≡ k.job) → ⊥)
     → is_conflict h.mode h.key k.mode k.key ≡ false
-
--- answered or given up
-abbrev pub touched : Hold → Bool
-touched h = h.answered || is_some h.given
 
 -- A Close of the hold's session stands in the order, or it was given up and all that its job issued in its session before stands there.
 abbrev pub IsHandedOver : Server → Hold → Type 0

@@ -1,5 +1,6 @@
 pub mod Plain
 pub mod Items
+pub mod Holds
 pub mod OrderRows
 pub mod EndRows
 pub mod JobRows

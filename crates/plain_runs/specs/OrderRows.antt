@@ -1,5 +1,5 @@
 -- The rows on the order of a data server.
-use Rattle.std.specs.Prelude.{◌≡◌, ℕ, Bool, true, false, ◌==◌, ◌&&◌, ◌||◌, ◌+◌, ◌-◌, ◌≤◌, ◌^◌, if◌then◌else◌, List, [], ◌∷◌, ◌++◌, length, take, drop, Option, Some, None, slice_get, map, filter, not, nat_lt, is_some}
+use Rattle.std.specs.Prelude.{◌≡◌, ℕ, Bool, true, false, ◌==◌, ◌&&◌, ◌+◌, ◌-◌, ◌≤◌, ◌^◌, if◌then◌else◌, List, [], ◌∷◌, ◌++◌, length, take, drop, Option, Some, None, slice_get, map, is_some}
 use Rattle.std.specs.List.{list_any, list_all}
 use Rattle.std.specs.Option.{option_map}
 use Rattle.plain_orders.specs.declared.entry.Entry.{Entry}
@@ -7,53 +7,14 @@ use Rattle.plain_orders.specs.declared.entry.Entry.TheVariants.{Epoch, Opened, C
 use Rattle.plain_orders.specs.declared.layout.Layout.{Layout}
 use Rattle.plain_orders.specs.Entries.{count, live, last_epoch, live_session}
 use Rattle.plain_orders.specs.Ordered.{IsOrdered}
-use Rattle.plain_runs.specs.Plain.{Server, Hold, put, current, until, issued_in, session_in}
+use Rattle.plain_runs.specs.Plain.{Server, put, current, until, issued_in, session_in}
 use Rattle.plain_runs.specs.Items.{entry_of}
-
--- the sessions that were opened in a list, in its order
-abbrev pub opened_sessions : List Entry → List ℕ
-opened_sessions [] = []
-opened_sessions (Epoch number ∷ es) = opened_sessions es
-opened_sessions (Opened session app ∷ es) = session ∷ opened_sessions es
-opened_sessions (Closed session ∷ es) = opened_sessions es
-opened_sessions (Update session w job txn op ∷ es) = opened_sessions es
-opened_sessions (Commit session w job txn ∷ es) = opened_sessions es
-opened_sessions (Rollback session w job txn ∷ es) = opened_sessions es
-
--- those of them that are live
-abbrev pub live_sessions : List Entry → List ℕ
-live_sessions es = filter (live es) (opened_sessions es)
+use Rattle.plain_orders.specs.Sessions.{live_sessions, app_in, is_close}
+use Rattle.plain_runs.specs.Holds.{hold_after_crash, hold_after_back}
 
 -- a recovery round is due where a session is live
 abbrev pub due_of : List Entry → ℕ → ℕ → Option ℕ
 due_of es clock round = if length (live_sessions es) == 0 then None else Some (until clock round)
-
--- the application server of the session's Open, where it was this before
-abbrev pub app_after : Option ℕ → Entry → ℕ → Option ℕ
-app_after o (Epoch number) s = o
-app_after o (Opened session app) s = if session == s then Some app else o
-app_after o (Closed session) s = o
-app_after o (Update session w job txn op) s = o
-app_after o (Commit session w job txn) s = o
-app_after o (Rollback session w job txn) s = o
-
--- the same behind several
-abbrev pub app_from : Option ℕ → List Entry → ℕ → Option ℕ
-app_from o [] s = o
-app_from o (e ∷ es) s = app_from (app_after o e s) es s
-
--- the application server of a session, by its Open
-abbrev pub app_in : List Entry → ℕ → Option ℕ
-app_in es s = app_from None es s
-
--- the entry is a Close
-abbrev pub is_close : Entry → Bool
-is_close (Epoch number) = false
-is_close (Opened session app) = false
-is_close (Closed session) = true
-is_close (Update session w job txn op) = false
-is_close (Commit session w job txn) = false
-is_close (Rollback session w job txn) = false
 
 -- what the journal held
 pub record OpenedMay (s : Server) (entries : List Entry) : Type 0 where
@@ -157,22 +118,6 @@ entered s (Rollback session w job txn) = entered_of s session (Rollback session 
 abbrev pub saved : Server → ℕ → Server
 saved s n = record s { synced = n }
 
--- neither answered nor given up, and there
-abbrev pub is_sent : Hold → Bool
-is_sent h = not h.answered && (not (is_some h.given) && not h.gone)
-
--- in force, and there
-abbrev pub binds : Hold → Bool
-binds h = h.in_force && not h.gone
-
--- What was sent above the cut goes. A hold of a session that isn't live is no longer in force.
-abbrev pub hold_after_crash : List Entry → ℕ → Hold → Hold
-hold_after_crash es kept h =
-    record h {
-      in_force = if live es h.session then h.in_force else false;
-      gone = h.gone || (is_sent h && nat_lt kept h.at);
-    }
-
 -- a new order: the entries kept and the next Epoch
 abbrev pub crashed : ℕ → ℕ → Server → ℕ → Server
 crashed clock round s kept =
@@ -185,10 +130,6 @@ crashed clock round s kept =
       holds = map (hold_after_crash (take kept s.order) kept) s.holds;
       due = due_of (take kept s.order) clock round;
     }
-
--- of a live session what is in force and not answered, or given up, goes
-abbrev pub hold_after_back : List Entry → Hold → Hold
-hold_after_back es h = record h { gone = h.gone || (live es h.session && (binds h && (not h.answered || is_some h.given))) }
 
 -- no round is due any more, and what was not claimed goes
 abbrev pub came_back : Server → Server
