@@ -48,14 +48,14 @@ abbrev pub PlacedFrom : ℕ → List Entry → Type 0
 PlacedFrom k [] = Unit {0}
 PlacedFrom k (e ∷ es) = PlacedAt k e × PlacedFrom (k + 1) es
 
-placed-append : (k : ℕ) (xs ys : List Entry) → PlacedFrom k xs → PlacedFrom (k + length xs) ys → PlacedFrom k (xs ++ ys)
+pub placed-append : (k : ℕ) (xs ys : List Entry) → PlacedFrom k xs → PlacedFrom (k + length xs) ys → PlacedFrom k (xs ++ ys)
 placed-append k [] ys p q = subst (λ n. PlacedFrom n ys) (omega arith) q
 placed-append k (x ∷ xs) ys p q = (p.0, placed-append (k + 1) xs ys p.1 (subst (λ n. PlacedFrom n ys) (omega arith) q))
 
-placed_push : (es : List Entry) (e : Entry) → PlacedFrom 0 es → PlacedAt (length es) e → PlacedFrom 0 (es ++ e ∷ [])
+pub placed_push : (es : List Entry) (e : Entry) → PlacedFrom 0 es → PlacedAt (length es) e → PlacedFrom 0 (es ++ e ∷ [])
 placed_push es e p q = placed-append 0 es (e ∷ []) p (subst (λ n. PlacedAt n e) (omega arith) q, tt)
 
-placed-take : (k n : ℕ) (xs : List Entry) → PlacedFrom k xs → PlacedFrom k (take n xs)
+pub placed-take : (k n : ℕ) (xs : List Entry) → PlacedFrom k xs → PlacedFrom k (take n xs)
 placed-take k zero xs p = tt
 placed-take k (suc n) [] p = tt
 placed-take k (suc n) (x ∷ xs) p = (p.0, placed-take (k + 1) n xs p.1)
@@ -68,7 +68,7 @@ open_here k (Update session w job txn op) s p o = absurd (cc (o))
 open_here k (Commit session w job txn) s p o = absurd (cc (o))
 open_here k (Rollback session w job txn) s p o = absurd (cc (o))
 
-opens_low : (k : ℕ) (es : List Entry) (s : ℕ) → PlacedFrom k es → opens es s ≡ true → s ≤ k + length es
+pub opens_low : (k : ℕ) (es : List Entry) (s : ℕ) → PlacedFrom k es → opens es s ≡ true → s ≤ k + length es
 opens_low k [] s p o = absurd (cc (o))
 opens_low k (x ∷ es) s p o = go (is_open s x) refl (opens_low (k + 1) es s p.1) o
   where
@@ -84,13 +84,13 @@ opens_high k (x ∷ es) s p o = go (is_open s x) refl (opens_high (k + 1) es s p
     go true e f h = omega (arith, open_here k x s p.0 e)
     go false e f h = omega (arith, f h)
 
-live_high : (es : List Entry) (s : ℕ) → PlacedFrom 0 es → live es s ≡ true → 0 < s
+pub live_high : (es : List Entry) (s : ℕ) → PlacedFrom 0 es → live es s ≡ true → 0 < s
 live_high es s p l = opens_high 0 es s p (live_opens es s l)
 
 pub live_low : (es : List Entry) (s : ℕ) → PlacedFrom 0 es → live es s ≡ true → s ≤ length es
 live_low es s p l = omega (arith, opens_low 0 es s p (live_opens es s l))
 
-item_here : (k : ℕ) (e : Entry) (n : ℕ) → PlacedAt k e → is_item_of n e ≡ true → n ≤ k
+pub item_here : (k : ℕ) (e : Entry) (n : ℕ) → PlacedAt k e → is_item_of n e ≡ true → n ≤ k
 item_here k (Epoch number) n p i = absurd (cc (i))
 item_here k (OpenedEntry session app) n p i = absurd (cc (i))
 item_here k (Closed session) n p i = absurd (cc (i))
@@ -110,7 +110,7 @@ placed_next before (Update session w job txn op) p m = live_low before session p
 placed_next before (Commit session w job txn) p m = live_low before session p m.is_live
 placed_next before (Rollback session w job txn) p m = live_low before session p m.is_live
 
-placed_from : (before es : List Entry) → PlacedFrom 0 before → OrderedFrom before es → PlacedFrom 0 (before ++ es)
+pub placed_from : (before es : List Entry) → PlacedFrom 0 before → OrderedFrom before es → PlacedFrom 0 (before ++ es)
 placed_from before [] p o = subst (PlacedFrom 0) (sym (append-nil before)) p
 placed_from before (e ∷ es) p o = subst (PlacedFrom 0) (append_assoc before (e ∷ []) es) (placed_from (before ++ e ∷ []) es (placed_push before e p (placed_next before e p o.0)) o.1)
 
@@ -122,7 +122,7 @@ each_both : {X : Type 0} (P Q R : X → Type 0) → ((x : X) → P x → Q x →
 each_both P Q R f [] p q = tt
 each_both P Q R f (x ∷ xs) p q = (f x p.0 q.0, each_both P Q R f xs p.1 q.1)
 
-each_map : {X : Type 0} (P R : X → Type 0) → ((x : X) → P x → R x) → (xs : List X) → Each P xs → Each R xs
+pub each_map : {X : Type 0} (P R : X → Type 0) → ((x : X) → P x → R x) → (xs : List X) → Each P xs → Each R xs
 each_map P R f [] p = tt
 each_map P R f (x ∷ xs) p = (f x p.0, each_map P R f xs p.1)
 

@@ -25,3 +25,5 @@ mod EpochLaws
 pub mod MetOnce
 mod MetLaws
 mod OpenTransactions
+pub mod BegunItems
+pub mod Ordered

@@ -21,7 +21,7 @@ max_from : ℕ → List ℕ → ℕ
 max_from n [] = n
 max_from n (w ∷ ws) = max_from (max n w) ws
 
-w_is : (s : ℕ) (e : Entry) → w_in s e ≡ (if is_item_of s e then w_of e else 0)
+pub w_is : (s : ℕ) (e : Entry) → w_in s e ≡ (if is_item_of s e then w_of e else 0)
 w_is s (Epoch number) = refl
 w_is s (Opened session app) = refl
 w_is s (Closed session) = refl

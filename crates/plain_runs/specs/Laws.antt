@@ -7,9 +7,9 @@ use Rattle.plain_orders.specs.declared.refused.Refused.TheVariants.{NoTransactio
 use Rattle.plain_orders.specs.declared.layout.Layout.{Layout}
 use Rattle.plain_orders.specs.declared.entry.Entry.{Entry}
 use Rattle.plain_orders.specs.declared.entry.Entry.TheVariants.{Epoch}
-use Rattle.plain_orders.specs.Entries.{last_epoch}
-use Rattle.plain_orders.specs.Entries.{closed_by}
+use Rattle.plain_orders.specs.Entries.{closed_by, last_epoch}
 use Rattle.plain_orders.specs.Conflict.{is_conflict}
+use Rattle.plain_orders.specs.Ordered.{IsOrdered}
 use Rattle.plain_runs.specs.Plain.{Plain, Server, Hold, Given, current, order_at, issued_in, app_of, told_order}
 use Rattle.plain_runs.specs.Items.{all_stand, entry_of}
 use Rattle.plain_orders.specs.Own.{Issued}
@@ -126,6 +126,10 @@ abbrev pub NeighboursAgree : Type 0
 NeighboursAgree =
     (layout : Layout) (acts : List Act) (d k : ℕ) → IsRun layout acts → k < current (server_after layout acts d)
     → IsNextOrder (order_at (server_after layout acts d) k) (order_at (server_after layout acts d) (k + 1))
+
+-- Each order is an ordered list.
+abbrev pub EachIsOrdered : Type 0
+EachIsOrdered = (layout : Layout) (acts : List Act) (d k : ℕ) → IsRun layout acts → IsOrdered (order_at (server_after layout acts d) k)
 
 -- What was synced stands at its position in each order from then on.
 abbrev pub SyncedStays : Type 0

@@ -1,6 +1,6 @@
 ghost use Rattle.plain_runs.specs.Conditions.{FailureRefuses, FailureRefusesBehind, NoneIsLeftOut, NoneIsLeftOutBehind};
 ghost use Rattle.plain_runs.specs.Together.{AllInOrderAreTold, AnsweredIsTold, BarredDidNothing, MetOnce, NoLaterEpoch, NoneWithoutSession, OnlyAddsSum, OpenIsLive, StrangersAreToldNothing, StrangersDidNothing};
-ghost use Rattle.plain_runs.specs.Laws.{Extended, Framed, ItemsInOrder, ItemsWereIssued, NeighboursAgree, NoConflict, SeenIsTold, SeenNeverFalls, Settled, SyncedStays};
+ghost use Rattle.plain_runs.specs.Laws.{EachIsOrdered, Extended, Framed, ItemsInOrder, ItemsWereIssued, NeighboursAgree, NoConflict, SeenIsTold, SeenNeverFalls, Settled, SyncedStays};
 
 /// A run goes on with an act that may come.
 pub fn a_run_goes_on()
@@ -20,6 +20,11 @@ pub fn what_is_seen_never_falls()
 /// Each order but the first keeps a front of the one before.
 pub fn neighbouring_orders_agree()
     ensures { NeighboursAgree }
+{}
+
+/// Each order is an ordered list.
+pub fn each_order_is_ordered()
+    ensures { EachIsOrdered }
 {}
 
 /// What was synced stands at its position in each order from then on.
