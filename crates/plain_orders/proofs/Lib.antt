@@ -1,4 +1,5 @@
 pub mod EntryLemmas
+pub mod Places
 pub mod FoldLemmas
 pub mod OrderLemmas
 pub mod RisingLemmas
@@ -6,3 +7,6 @@ pub mod BegunLemmas
 pub mod NodeKeys
 pub mod OrderKeys
 pub mod PastLemmas
+pub mod FrontLemmas
+pub mod Locality
+pub mod Values
