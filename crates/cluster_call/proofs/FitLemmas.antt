@@ -9,7 +9,7 @@ use Rattle.plain_orders.specs.declared.act.Act.TheVariants.{Issue, Read}
 use Rattle.plain_orders.specs.declared.item.Item.TheVariants.{Op as OpItem}
 use Rattle.plain_orders.specs.declared.layout.Layout.{Layout}
 use Rattle.plain_orders.specs.declared.op.Op.TheVariants.{Set as SetOp, Kill as KillOp}
-use Rattle.plain_orders.specs.declared.question.Question.TheVariants.{Get as GetQuestion, Data as DataQuestion, Next as NextQuestion}
+use Rattle.plain_orders.specs.declared.question.Question.TheVariants.{Get as GetQuestion, Shape as ShapeQuestion, Next as NextQuestion}
 use Rattle.app_job.specs.declared.command.Command.{Command}
 use Rattle.app_job.specs.declared.command.Command.TheVariants.{Set, Kill, Get, Shape, Next}
 use Rattle.job_script.specs.declared.script.Script.{Script}
@@ -34,7 +34,7 @@ acts_of_command : (j line : ℕ) (command : Command) (acts : List Act) → DoesC
 acts_of_command j line (Set at value) acts does = one_act j (Issue 0 line at.server does.0 (OpItem (SetOp at.key value))) acts does.1 (λ k. refl)
 acts_of_command j line (Kill at) acts does = one_act j (Issue 0 line at.server does.0 (OpItem (KillOp at.key))) acts does.1 (λ k. refl)
 acts_of_command j line (Get at) acts does = one_act j (Read 0 line at.server does.0 does.1 (GetQuestion at.key does.2)) acts does.3 (λ k. refl)
-acts_of_command j line (Shape at) acts does = one_act j (Read 0 line at.server does.0 does.1 (DataQuestion at.key does.2)) acts does.3 (λ k. refl)
+acts_of_command j line (Shape at) acts does = one_act j (Read 0 line at.server does.0 does.1 (ShapeQuestion at.key does.2)) acts does.3 (λ k. refl)
 acts_of_command j line (Next parent sub) acts does = one_act j (Read 0 line parent.server does.0 does.1 (NextQuestion parent.key sub does.2)) acts does.3 (λ k. refl)
 acts_of_command j line _ acts does = absurd does
 

@@ -8,7 +8,7 @@ use Rattle.plain_orders.specs.declared.item.Item.{Item}
 use Rattle.plain_orders.specs.declared.item.Item.TheVariants.{Op as OpItem}
 use Rattle.plain_orders.specs.declared.op.Op.TheVariants.{Set as SetOp, Kill as KillOp}
 use Rattle.plain_orders.specs.declared.question.Question.{Question}
-use Rattle.plain_orders.specs.declared.question.Question.TheVariants.{Get as GetQuestion, Data as DataQuestion, Next as NextQuestion}
+use Rattle.plain_orders.specs.declared.question.Question.TheVariants.{Get as GetQuestion, Shape as ShapeQuestion, Next as NextQuestion}
 use Rattle.plain_orders.specs.declared.via.Via.{Via}
 use Rattle.subscript_keys.specs.declared.sub.Sub.{Sub}
 use Rattle.app_job.specs.declared.answer.Answer.TheVariants.{Queued, Value, Shape as ShapeAnswer, Next as NextAnswer}
@@ -78,7 +78,7 @@ abbrev pub DoesCommand : ℕ → ℕ → Command → List Act → Type 0
 DoesCommand job line (Set at value) acts = (w : ℕ) × (acts ≡ Issue job line at.server w (OpItem (SetOp at.key value)) ∷ [])
 DoesCommand job line (Kill at) acts = (w : ℕ) × (acts ≡ Issue job line at.server w (OpItem (KillOp at.key)) ∷ [])
 DoesCommand job line (Get at) acts = (n : ℕ) × (via : Via) × (value : Option (List ℕ)) × (acts ≡ Read job line at.server n via (GetQuestion at.key value) ∷ [])
-DoesCommand job line (Shape at) acts = (n : ℕ) × (via : Via) × (code : ℕ) × (acts ≡ Read job line at.server n via (DataQuestion at.key code) ∷ [])
+DoesCommand job line (Shape at) acts = (n : ℕ) × (via : Via) × (code : ℕ) × (acts ≡ Read job line at.server n via (ShapeQuestion at.key code) ∷ [])
 DoesCommand job line (Next parent sub) acts = (n : ℕ) × (via : Via) × (found : Option Sub) × (acts ≡ Read job line parent.server n via (NextQuestion parent.key sub found) ∷ [])
 DoesCommand job line command acts = ⊥
 
@@ -103,7 +103,7 @@ item_answer job line d w item = []
 -- the answer that a read gives
 abbrev pub read_answer : ℕ → ℕ → ℕ → Via → Question → List AnswerLine
 read_answer job line at via (GetQuestion key value) = record { job = job; line = line; answer = Value value at via } ∷ []
-read_answer job line at via (DataQuestion key code) = record { job = job; line = line; answer = ShapeAnswer code at via } ∷ []
+read_answer job line at via (ShapeQuestion key code) = record { job = job; line = line; answer = ShapeAnswer code at via } ∷ []
 read_answer job line at via (NextQuestion parent sub found) = record { job = job; line = line; answer = NextAnswer found at via } ∷ []
 
 -- the answer of a command that this act ends

@@ -272,7 +272,7 @@ impl ScriptRun {
         ensures did { IfOk result (λ answer. (made : List Act) × DidCommand line (Command.Shape at.now) self.old.recorder.acts self.new.recorder.acts made answer) }
     {
         let code = self.store.shape(at.key());
-        let question = Question::Data {
+        let question = Question::Shape {
             key: at.key().clone()?,
             code,
         };

@@ -1,12 +1,13 @@
 -- Whether a transaction is open behind an entry.
-use Rattle.std.proofs.Common.{◌≡◌, ℕ, List, [], ◌∷◌, refl, ap, ap₂, sym, ◌∙◌, Bool, true, false, cond, if◌then◌else◌, not, nat_eq, ◌&&◌, ◌||◌, Some}
+use Rattle.std.proofs.Common.{◌≡◌, ℕ, List, [], ◌∷◌, ◌++◌, refl, ap, ap₂, sym, ◌∙◌, Bool, true, false, cond, if◌then◌else◌, not, nat_eq, ◌&&◌, ◌||◌, Some}
 use Rattle.std.specs.List.{list_any, filter}
 use Rattle.std.proofs.lemmas.Bool.{eqb-true, eq-eqb, and_parts}
 use Rattle.plain_orders.specs.declared.op.Op.TheVariants.{Set, Kill, Add}
 use Rattle.plain_orders.specs.declared.entry.Entry.{Entry}
 use Rattle.plain_orders.specs.declared.entry.Entry.TheVariants.{Epoch, Opened, Closed, Update, Commit, Rollback}
-use Rattle.plain_orders.specs.Fold.{Undo, Transaction, Folded, is_it, is_begun, with_undo, undo_added, noted, is_other, ended, is_elsewhere, fold_step, fold_from}
+use Rattle.plain_orders.specs.Fold.{Undo, Transaction, Folded, is_it, is_begun, with_undo, undo_added, noted, is_other, ended, is_elsewhere, fold_step, fold}
 use Rattle.plain_orders.specs.Begun.{is_named, begun_after}
+use Rattle.plain_orders.proofs.FoldLemmas.{fold-push}
 
 module _ {X : Type 0} (p q : X → Bool) where
   -- a filter that keeps all that pass leaves whether one passes
@@ -114,11 +115,6 @@ module _ (s j t : ℕ) where
   begun-step f (Commit a w b c) = begun-ended a b c f.begun
   begun-step f (Rollback a w b c) = begun-ended a b c f.begun
 
-  -- and behind several
-  abbrev pub begun_from : Bool → List Entry → Bool
-  begun_from b [] = b
-  begun_from b (e ∷ es) = begun_from (begun_after b e s j t) es
-
-  pub begun-from : (f : Folded) (es : List Entry) → begun_from (is_begun s j t f.begun) es ≡ is_begun s j t (fold_from f es).begun
-  begun-from f [] = refl
-  begun-from f (e ∷ es) = ap (λ b. begun_from b es) (sym (begun-step f e)) ∙ begun-from (fold_step f e) es
+-- whether a transaction is open after one entry more
+pub begun-push : (es : List Entry) (e : Entry) (s j t : ℕ) → is_begun s j t (fold (es ++ e ∷ [])).begun ≡ begun_after (is_begun s j t (fold es).begun) e s j t
+begun-push es e s j t = ap (λ (f : Folded). is_begun s j t f.begun) (fold-push es e) ∙ begun-step s j t (fold es) e

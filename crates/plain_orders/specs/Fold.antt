@@ -7,7 +7,7 @@ use Rattle.plain_orders.specs.declared.entry.Entry.{Entry}
 use Rattle.plain_orders.specs.declared.entry.Entry.TheVariants.{Epoch, Opened, Closed, Update, Commit, Rollback}
 use Rattle.plain_orders.specs.declared.sum.Sum.{Sum}
 use Rattle.plain_orders.specs.declared.sum.Sum.TheVariants.{Nothing, Whole, NotWhole, Range}
-use Rattle.plain_orders.specs.Numbers.{is_short, decimal_text, whole_of}
+use Rattle.plain_orders.specs.Numbers.{is_short, integer_text, whole_of}
 use Rattle.plain_orders.specs.PairMap.{Map, value_at, put, remove, remove_under, pairs_under, put_all}
 
 -- what one update of a transaction leaves to be put back
@@ -53,7 +53,7 @@ op_sum m (Add key amount) = sum_with (value_at m key) amount
 -- only a sum that is a whole number of at most 18 digits is written
 abbrev pub with_sum : Map → List ℕ → Sum → Map
 with_sum m key Nothing = m
-with_sum m key (Whole n) = put m key (decimal_text n)
+with_sum m key (Whole n) = put m key (integer_text n)
 with_sum m key NotWhole = m
 with_sum m key Range = m
 

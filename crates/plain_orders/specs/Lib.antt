@@ -10,4 +10,5 @@ pub mod Answers
 pub mod Own
 pub mod Conflict
 pub mod Spans
+pub mod Keys
 pub mod Laws

@@ -17,9 +17,9 @@ abbrev pub natural_text : ℕ → List ℕ
 natural_text n = digits_before (suc n) n []
 
 -- a whole number's decimal text
-abbrev pub decimal_text : ℤ → List ℕ
-decimal_text (pos n) = natural_text n
-decimal_text (negsuc n) = 45 ∷ natural_text (suc n)
+abbrev pub integer_text : ℤ → List ℕ
+integer_text (pos n) = natural_text n
+integer_text (negsuc n) = 45 ∷ natural_text (suc n)
 
 -- a byte is a digit
 abbrev pub is_digit : ℕ → Bool

@@ -14,7 +14,7 @@ pub record EpochMay (before : List Entry) (number : ℕ) : Type 0 where
   pub in_range : number < 2 ^ 32
 
 -- an Open: not in front of the first Epoch, and its session is its position
-pub record OpenMay (before : List Entry) (session app : ℕ) : Type 0 where
+pub record OpenFollows (before : List Entry) (session app : ℕ) : Type 0 where
   pub is_started : last_epoch before ≢ 0
   pub is_position : session ≡ length before + 1
   pub is_free : live_session before app ≡ None
@@ -52,7 +52,7 @@ pub record UpdateMay (before : List Entry) (session w txn : ℕ) (op : Op) : Typ
   pub within : OpMay txn op
 
 -- a Commit or Rollback
-pub record EndMay (before : List Entry) (session w job txn : ℕ) : Type 0 where
+pub record EndFollows (before : List Entry) (session w job txn : ℕ) : Type 0 where
   pub is_live : live before session ≡ true
   pub is_next : w ≡ count before session + 1
   pub is_begun : is_begun session job txn (fold before).begun ≡ true
@@ -60,11 +60,11 @@ pub record EndMay (before : List Entry) (session w job txn : ℕ) : Type 0 where
 -- an entry may follow an ordered list
 abbrev pub MayFollow : List Entry → Entry → Type 0
 MayFollow before (Epoch number) = EpochMay before number
-MayFollow before (Opened session app) = OpenMay before session app
+MayFollow before (Opened session app) = OpenFollows before session app
 MayFollow before (Closed session) = CloseMay before session
 MayFollow before (Update session w job txn op) = UpdateMay before session w txn op
-MayFollow before (Commit session w job txn) = EndMay before session w job txn
-MayFollow before (Rollback session w job txn) = EndMay before session w job txn
+MayFollow before (Commit session w job txn) = EndFollows before session w job txn
+MayFollow before (Rollback session w job txn) = EndFollows before session w job txn
 
 -- entries may follow, one after the other
 abbrev pub OrderedFrom : List Entry → List Entry → Type 0

@@ -8,7 +8,7 @@ pub enum Question {
         value: Option<ValueBytes>,
     },
     /// `code` is 0, 1, 10 or 11.
-    Data {
+    Shape {
         key: KeyBytes,
         code: u8,
     },

@@ -1,5 +1,5 @@
 ghost use Rattle.std.specs.Prelude.{◌≡◌, ◌+◌, ◌↔◌, ◌++◌, ◌∷◌, [], IsTrue, IfOk, OnErr, if◌then◌else◌};
-ghost use Rattle.plain_orders.specs.Ordered.{EpochMay, OpenMay, CloseMay, EndMay, UpdateMay, MayFollow, IsOrdered};
+ghost use Rattle.plain_orders.specs.Ordered.{EpochMay, OpenFollows, CloseMay, EndFollows, UpdateMay, MayFollow, IsOrdered};
 
 use crate::limits::op_may;
 use crate::order_index::OrderIndex;
@@ -104,7 +104,7 @@ impl OrderCheck {
 
     /// Whether an Open may follow.
     fn open_may(&self, session: u64, app: u8) -> bool
-        ensures { IsTrue result ↔ OpenMay self.now session app }
+        ensures { IsTrue result ↔ OpenFollows self.now session app }
     {
         self.index.last_epoch() != 0
             && session > 0
@@ -138,7 +138,7 @@ impl OrderCheck {
 
     /// Whether a Commit or Rollback may follow.
     fn end_may(&self, session: u64, w: u64, name: TransactionName) -> bool
-        ensures { IsTrue result ↔ EndMay self.now session w name.job name.txn }
+        ensures { IsTrue result ↔ EndFollows self.now session w name.job name.txn }
     {
         match self.index.session(session) {
             Some(live) => live.is_next(w) && live.is_open(name),

@@ -6,7 +6,7 @@ ghost use Rattle.plain_orders.specs.PairMap.{value_at, put, remove_under, is_und
 ghost use Rattle.plain_orders.specs.Fold.{nothing_folded, sum_of, sum_with, with_sum, op_sum, op_after, fold_step};
 ghost use Rattle.plain_orders.specs.Answers.{entry_sum, data_at, data_code, is_descendant, next_key, IsSubIn};
 ghost use Rattle.plain_orders.specs.Spans.{entry_spans, IsAlone};
-ghost use Rattle.plain_programs.specs.Keys.{HasKeys};
+ghost use Rattle.plain_orders.specs.Keys.{HasKeys};
 ghost use Rattle.plain_programs.specs.Search.{descendant_behind};
 
 use crate::child_keys::{end_of_child, sub_behind};

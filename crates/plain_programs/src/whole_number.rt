@@ -1,6 +1,6 @@
 ghost use Rattle.std.specs.Prelude.{◌≡◌, ◌<◌, ◌≤◌, ◌^◌, IsTrue, IfOk, length, pos, if◌then◌else◌};
 ghost use Rattle.std.specs.List.{list_all};
-ghost use Rattle.plain_orders.specs.Numbers.{is_digit, is_natural, number_from, whole_of, decimal_text};
+ghost use Rattle.plain_orders.specs.Numbers.{is_digit, is_natural, number_from, whole_of, integer_text};
 
 use std::alloc::{AllocError, Global};
 use subscript_keys::ValueBytes;
@@ -67,7 +67,7 @@ pub fn whole_of(bytes: &[u8]) -> Option<i64>
 
 /// The decimal text of a number as a value.
 pub fn decimal_value(alloc: Global, number: i64) -> Result<ValueBytes, AllocError>
-    ensures { IfOk result (λ value. value ≡ decimal_text number) }
+    ensures { IfOk result (λ value. value ≡ integer_text number) }
 {
     let text = format!(in alloc; "{number}")?;
     Ok(ValueBytes::from_vec(text.into_bytes()))
