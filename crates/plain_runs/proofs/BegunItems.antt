@@ -10,7 +10,7 @@ use Rattle.plain_orders.specs.declared.op.Op.TheVariants.{Set, Kill, Add}
 use Rattle.plain_orders.specs.declared.item.Item.{Item}
 use Rattle.plain_orders.specs.declared.item.Item.TheVariants.{Op, Commit as CommitItem, Rollback as RollbackItem}
 use Rattle.plain_orders.specs.Begun.{begun_after}
-use Rattle.plain_orders.specs.Entries.{count, count_from, live, live_after, w_in}
+use Rattle.plain_orders.specs.Entries.{count, live, live_after, w_in}
 use Rattle.plain_orders.specs.Fold.{fold, is_begun}
 use Rattle.plain_orders.specs.ItemEntries.{is_item_of, w_of}
 use Rattle.plain_orders.specs.Ordered.{IsOrdered, MayFollow}
@@ -19,11 +19,9 @@ use Rattle.plain_orders.proofs.BegunLemmas.{begun-step}
 use Rattle.plain_orders.proofs.EntryLemmas.{count-push, live-push}
 use Rattle.plain_orders.proofs.FoldLemmas.{fold-push}
 use Rattle.plain_orders.proofs.OrderLemmas.{ordered_induction}
+use Rattle.plain_orders.proofs.PastLemmas.{ordered_past}
 use Rattle.plain_runs.specs.Items.{ended_from, ends, entry_of, entry_of_item, is_change, is_end_of, is_update_of}
 use Rattle.plain_runs.specs.Laws.{StandsAsIssued}
-use Rattle.plain_runs.proofs.Issued.{PlacedFrom, item_here, live_low, placed_from}
-use Rattle.plain_runs.proofs.Numbers.{w_is}
-use Rattle.plain_runs.proofs.OpenTransactions.{open_is_live}
 use Rattle.plain_runs.proofs.Orders.{Each, each_front}
 
 -- whether a job's transaction is open after an item more of its session
@@ -112,15 +110,6 @@ each_last : {X : Type 0} (P : X → Type 0) (xs : List X) (x : X) → Each P (xs
 each_last P [] x p = p.0
 each_last P (y ∷ xs) x p = each_last P xs x p.1
 
--- no item of a session stands in front of its Open
-pub none_counted : (k c n : ℕ) (es : List Entry) → PlacedFrom k es → k + length es < n → count_from c es n ≡ c
-none_counted k c n [] p high = refl
-none_counted k c n (e ∷ es) p high = ap (λ m. count_from m es n) (omega (arith, no_item (is_item_of n e) refl)) ∙ none_counted (k + 1) c n es p.1 (omega (arith, high))
-  where
-    no_item : (b : Bool) → is_item_of n e ≡ b → w_in n e ≡ 0
-    no_item true is = absurd (omega (arith, item_here k e n p.0 is, high))
-    no_item false is = w_is n e ∙ ap (λ b. if b then w_of e else 0) is
-
 module _ (n j t : ℕ) (positive : 0 < t) (is : List Issued) where
   -- where the entry is an item of the session, it stands as it was issued
   abbrev pub Stand : Entry → Type 0
@@ -163,22 +152,15 @@ module _ (n j t : ℕ) (positive : 0 < t) (is : List Issued) where
   opens : (es : List Entry) (app : ℕ) (s : ℕ) → IsOrdered es → s ≡ length es + 1 → Facts es → Facts (es ++ OpenedEntry s app ∷ [])
   opens es app s o place f = go (eqb s n) refl
     where
-      placed : PlacedFrom 0 es
-      placed = placed_from [] es tt o
-
       none : n ≡ length es + 1 → count es n ≡ 0
-      none high = none_counted 0 0 n es placed (omega (arith, high))
-
-      unbegun : n ≡ length es + 1 → (b : Bool) → is_begun n j t (fold es).begun ≡ b → is_begun n j t (fold es).begun ≡ false
-      unbegun high true e = absurd (omega (arith, live_low es n placed (open_is_live es n j t o e), high))
-      unbegun high false e = e
+      none high = (ordered_past es o).counts_none n (omega (arith, high))
 
       go : (b : Bool) → eqb s n ≡ b → Facts (es ++ OpenedEntry s app ∷ [])
       go false e = other es (OpenedEntry s app) refl (λ l. (subst (λ b. (if b then true else live es n) ≡ true) e l, λ b. refl)) f
       go true e =
           let high : n ≡ length es + 1 = sym (eqb-true s n e) ∙ place in
           let zero_count : count (es ++ OpenedEntry s app ∷ []) n ≡ 0 = omega (arith, count-push es (OpenedEntry s app) n, none high) in
-          (omega (arith, zero_count), λ l. fold_begun es (OpenedEntry s app) ∙ unbegun high _ refl ∙ ap (λ k. items_begun j t false (take k is)) (sym zero_count))
+          (omega (arith, zero_count), λ l. fold_begun es (OpenedEntry s app) ∙ (ordered_past es o).begins_none n j t (omega (arith, high)) ∙ ap (λ k. items_begun j t false (take k is)) (sym zero_count))
 
   closes : (es : List Entry) (s : ℕ) → Facts es → Facts (es ++ Closed s ∷ [])
   closes es s f = go (eqb s n) refl

@@ -34,6 +34,7 @@ use Rattle.plain_runs.proofs.Lists.{both_ways, opens, is_open, live_opens}
 use Rattle.plain_runs.proofs.HoldRows.{issued_of}
 use Rattle.plain_runs.proofs.LockRows.{each_at}
 use Rattle.plain_orders.specs.ItemEntries.{is_item_of, w_of}
+use Rattle.plain_orders.proofs.Places.{get_append}
 
 -- where an entry may stand, counted from 0: a session's items behind its Open, which stands at its number; no Close is of session 0
 abbrev pub PlacedAt : ℕ → Entry → Type 0
@@ -210,17 +211,12 @@ crash_steps clock round s kept may k = record {
   as_issued = each-append (AsIssued s.session_at s.entered_at) (take kept s.order) _ (each-take (AsIssued s.session_at s.entered_at) kept s.order k.as_issued) ((λ n ent i. absurd (cc (i))), tt);
 }
 
-get_more : (xs ys : List Issued) (i : ℕ) (x : Issued) → slice_get xs i ≡ Some x → slice_get (xs ++ ys) i ≡ Some x
-get_more [] ys i x e = absurd (cc (e))
-get_more (y ∷ xs) ys zero x e = e
-get_more (y ∷ xs) ys (suc i) x e = get_more xs ys i x e
-
 as_more : (xs ys : List Issued) (n : ℕ) (e : Entry) → StandsAsIssued xs n e → StandsAsIssued (xs ++ ys) n e
 as_more xs ys n e h = go (slice_get xs (w_of e - 1)) refl h
   where
     go : (o : Option Issued) → slice_get xs (w_of e - 1) ≡ o → option_map (entry_of n (w_of e)) o ≡ Some e → option_map (entry_of n (w_of e)) (slice_get (xs ++ ys) (w_of e - 1)) ≡ Some e
     go None is h = absurd (cc (h))
-    go (Some x) is h = ap (option_map (entry_of n (w_of e))) (get_more xs ys (w_of e - 1) x is) ∙ h
+    go (Some x) is h = ap (option_map (entry_of n (w_of e))) (get_append xs ys x (w_of e - 1) is) ∙ h
 
 abbrev Grown : Option Session → Option Session → Type 0
 Grown o r = (more : List Issued) × (issued_of r ≡ issued_of o ++ more)

@@ -22,7 +22,7 @@ use Rattle.plain_orders.specs.declared.op.Op.TheVariants.{Set, Kill, Add}
 use Rattle.plain_orders.specs.declared.layout.Layout.{Layout}
 use Rattle.plain_orders.specs.Entries.{count, last_epoch, live}
 use Rattle.plain_orders.specs.Fold.{fold, is_begun}
-use Rattle.plain_orders.specs.Ordered.{IsOrdered, MayFollow, OpMay as OpMayBe}
+use Rattle.plain_orders.specs.Ordered.{IsOrdered, MayFollow, OpMay}
 use Rattle.plain_orders.specs.Own.{Issued}
 use Rattle.plain_orders.proofs.EntryLemmas.{last_epoch-push}
 use Rattle.plain_orders.proofs.OrderLemmas.{ordered-front, ordered-push}
@@ -43,7 +43,7 @@ use Rattle.plain_runs.proofs.BegunItems.{Stand, begun_is, may_end}
 
 -- an item was issued as it may be, after those before it
 abbrev ItemWas : ℕ → ℕ → List Issued → Item → Type 0
-ItemWas job txn before (Op op) = OpMayBe txn op
+ItemWas job txn before (Op op) = OpMay txn op
 ItemWas job txn before (CommitItem n) = EndMay job n before
 ItemWas job txn before (RollbackItem n) = EndMay job n before
 
@@ -138,15 +138,15 @@ item_begun s session w job txn e may is k end =
     stands : Each (Stand session job txn end.positive (issued_in s session)) s.order
     stands = each_map (AsIssued s.session_at s.entered_at) (Stand session job txn end.positive (issued_in s session)) (λ x a. a session (is.met session met)) s.order is.as_issued
 
-update_follows : (s : Server) (session w job txn : ℕ) (op : Operation) → ItemMay s session w (Update session w job txn op) → OrderedKept (written s) → OpMayBe txn op
+update_follows : (s : Server) (session w job txn : ℕ) (op : Operation) → ItemMay s session w (Update session w job txn op) → OrderedKept (written s) → OpMay txn op
 update_follows s session w job txn op may k = go (item_was s session w (Update session w job txn op) may k)
   where
-    by : (j t : ℕ) (before : List Issued) (x : Item) → entry_of_item session w j t x ≡ Update session w job txn op → ItemWas j t before x → OpMayBe txn op
-    by j t before (Op o) e h = let one : t ≡ txn = cc (e) in let two : o ≡ op = cc (e) in subst (λ y. OpMayBe txn y) two (subst (λ n. OpMayBe n o) one h)
+    by : (j t : ℕ) (before : List Issued) (x : Item) → entry_of_item session w j t x ≡ Update session w job txn op → ItemWas j t before x → OpMay txn op
+    by j t before (Op o) e h = let one : t ≡ txn = cc (e) in let two : o ≡ op = cc (e) in subst (λ y. OpMay txn y) two (subst (λ n. OpMay n o) one h)
     by j t before (CommitItem n) e h = absurd (cc (e))
     by j t before (RollbackItem n) e h = absurd (cc (e))
 
-    go : (i : Issued) × ((entry_of session w i ≡ Update session w job txn op) × Was (take (count s.order session) (issued_in s session)) i) → OpMayBe txn op
+    go : (i : Issued) × ((entry_of session w i ≡ Update session w job txn op) × Was (take (count s.order session) (issued_in s session)) i) → OpMay txn op
     go h = by h.0.job h.0.txn _ h.0.item h.1.0 h.1.1
 
 commit_follows : (s : Server) (session w job txn : ℕ) → ItemMay s session w (Commit session w job txn) → OrderedKept (written s) → EndMay job txn (take (count s.order session) (issued_in s session))
