@@ -50,7 +50,7 @@ pub granted_back_runs : IsRun small granted_back
 granted_back_runs = run_more small start granted_told (Back 0) granted_told_runs (record { recovering = refl; told = refl; counted = refl; closes = refl })
 
 pub no_way_met_runs : IsRun small no_way_met
-no_way_met_runs = run_more small start connect_failed (Met 0 0 2) connect_failed_runs (refl, record { place = refl; synced = omega arith; entered = refl; behind = refl; fresh = refl; none = refl })
+no_way_met_runs = run_more small start connect_failed (Met 0 0 2) connect_failed_runs (refl, record { place = refl; synced = omega arith; entered = refl; not_lost = refl; fresh = refl; none = refl })
 
 pub no_way_issued_runs : IsRun small no_way_issued
 no_way_issued_runs = run_more small start no_way_met (Issue 0 5 0 1 (Op (Set (120 ∷ 0 ∷ []) (53 ∷ [])))) no_way_met_runs (record { known = omega arith; alive = refl; free = refl }, record { there = refl; unbroken = refl; next = refl; its = record { key_may = x_may; within = omega arith } })

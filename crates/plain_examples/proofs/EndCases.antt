@@ -1,4 +1,4 @@
--- Examples of acts that are accepted, and of acts that are refused since one condition fails: the condition is named in front of each.
+-- Examples of acts that are accepted, and of acts that are refused since one condition fails: the condition is named above each.
 use Rattle.std.proofs.Common.{refl, arith, rules}
 use Rattle.plain_orders.specs.declared.act.Act.TheVariants.{Shut, Met, Told, Broke, Mended, Tick, Lose, Died}
 use Rattle.plain_orders.specs.declared.causes.ShutCause.TheVariants.{Trouble as ByTrouble, Replaced, Round as ByRound}
@@ -28,7 +28,7 @@ shut_examples = (
 
 pub met_examples : MetExamples
 met_examples = (
-  run_more small start open_saved (Met 0 0 2) open_saved_runs ((refl, record { place = refl; synced = omega arith; entered = refl; behind = refl; fresh = refl; none = refl })),
+  run_more small start open_saved (Met 0 0 2) open_saved_runs ((refl, record { place = refl; synced = omega arith; entered = refl; not_lost = refl; fresh = refl; none = refl })),
   (saved_dead_runs, search rules),
   (open_saved_runs, search rules),
   (open_cut_saved_runs, search rules),

@@ -1,4 +1,4 @@
--- Examples of entries of which just one condition fails behind an ordered list.
+-- Examples of entries of which just one condition fails after an ordered list.
 use Rattle.std.proofs.Common.{◌≡◌, ℕ, [], ◌+◌, ◌^◌, refl, arith, rules}
 use Rattle.plain_orders.specs.declared.entry.Entry.TheVariants.{Epoch}
 use Rattle.plain_orders.specs.Ordered.{IsOrdered}

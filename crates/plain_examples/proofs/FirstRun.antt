@@ -12,7 +12,7 @@ first_run_is_run = (
     (
       record { opened = refl; no_less = omega arith; within = omega arith },
       (
-        (refl, record { place = refl; synced = omega arith; entered = refl; behind = refl; fresh = refl; none = refl }),
+        (refl, record { place = refl; synced = omega arith; entered = refl; not_lost = refl; fresh = refl; none = refl }),
         (
           (record { known = omega arith; alive = refl; free = refl }, record { there = refl; unbroken = refl; next = refl; its = record { key_may = x_may; within = omega arith } }),
           (

@@ -1,4 +1,4 @@
--- Examples of acts that are accepted, and of acts that are refused since one condition fails: the condition is named in front of each.
+-- Examples of acts that are accepted, and of acts that are refused since one condition fails: the condition is named above each.
 use Rattle.std.specs.Prelude.{pos}
 use Rattle.std.proofs.Common.{ℕ, zero, suc, Some, None, ◌+◌, [], ◌∷◌, ◌≡◌, refl, arith, rules}
 use Rattle.plain_orders.specs.declared.act.Act.TheVariants.{Issue, Read, Level, Done, Refused as RefusedAct, Died}

@@ -164,7 +164,7 @@ pub used_again_saved_runs : IsRun small used_again_saved
 used_again_saved_runs = run_more small start used_again (Synced 0 4) used_again_runs (record { opened = refl; no_less = omega arith; within = omega arith })
 
 pub barred_runs : IsRun small barred
-barred_runs = run_more small start used_again_saved (Met 0 0 4) used_again_saved_runs ((refl, record { place = refl; synced = omega arith; entered = refl; behind = refl; fresh = refl; none = refl }))
+barred_runs = run_more small start used_again_saved (Met 0 0 4) used_again_saved_runs ((refl, record { place = refl; synced = omega arith; entered = refl; not_lost = refl; fresh = refl; none = refl }))
 
 pub barred_granted_runs : IsRun small barred_granted
 barred_granted_runs = run_more small start barred (Grant 0 4 0 Exclusive (120 ∷ 0 ∷ []) 4) barred_runs (record { is_live = refl; up = refl; here = refl; free = refl; node = x_may })
@@ -182,7 +182,7 @@ pub both_saved_runs : IsRun small both_saved
 both_saved_runs = run_more small start both (Synced 0 3) both_runs (record { opened = refl; no_less = omega arith; within = omega arith })
 
 pub both_met_runs : IsRun small both_met
-both_met_runs = run_more small start both_saved (Met 1 0 3) both_saved_runs (refl, record { place = refl; synced = omega arith; entered = refl; behind = refl; fresh = refl; none = refl })
+both_met_runs = run_more small start both_saved (Met 1 0 3) both_saved_runs (refl, record { place = refl; synced = omega arith; entered = refl; not_lost = refl; fresh = refl; none = refl })
 
 pub added_twice_runs : (v : List ℕ) → length v ≤ 3000 → IsRun small (added_twice v)
 added_twice_runs v short =
@@ -233,7 +233,7 @@ level_two_runs = run_more small start level_one (Level 0 5 2) level_one_runs ((r
 pub updated_more_runs : IsRun small updated_more
 updated_more_runs = run_more small start commit_issued (Issue 0 7 0 3 (Op (Set (120 ∷ 0 ∷ []) (53 ∷ [])))) commit_issued_runs ((record { known = omega arith; alive = refl; free = refl }, record { there = refl; unbroken = refl; next = refl; its = record { key_may = x_may; within = omega arith } }))
 
--- behind a Commit the level may come back to 0
+-- after a Commit the level may come back to 0
 pub back_to_0 : MayCome small (state_after small commit_issued) (Level 0 6 0)
 back_to_0 = (record { known = omega arith; alive = refl }, record { near = refl; ended = λ e. elim [ zero ↦ refl | suc d ↦ let none : eqb (suc d) 0 ≡ false = ne_eqb (suc d) 0 (λ e. omega arith) in rw none refl ] })
 
@@ -244,7 +244,7 @@ pub updated_other_runs : IsRun small updated_other
 updated_other_runs = run_joined small start updated (Level 2 5 1 ∷ Issue 2 5 0 2 (Op (Set (121 ∷ 0 ∷ []) (53 ∷ []))) ∷ Issue 2 6 0 3 (CommitItem 1) ∷ []) updated_runs ((record { known = omega arith; alive = refl }, record { near = refl; ended = λ e. absurd (omega arith) }), ((record { known = omega arith; alive = refl; free = refl }, record { there = refl; unbroken = refl; next = refl; its = record { key_may = y_may; within = omega arith } }), ((record { known = omega arith; alive = refl; free = refl }, record { there = refl; unbroken = refl; next = refl; its = record { positive = omega arith; used = refl; unended = refl } }), tt)))
 
 pub updated_both_runs : IsRun small updated_both
-updated_both_runs = run_joined small start updated (Opened 1 [] ∷ Enter 1 (OpenEntry 2 0) ∷ Synced 1 2 ∷ Met 0 1 2 ∷ Issue 0 5 1 1 (Op (Set (120 ∷ 0 ∷ []) (53 ∷ []))) ∷ Issue 0 6 1 2 (CommitItem 1) ∷ []) updated_runs (record { fresh = refl; ordered = tt; low = omega arith }, (record { opened = refl; place = refl; alone = refl; up = refl }, (record { opened = refl; no_less = omega arith; within = omega arith }, ((refl, record { place = refl; synced = omega arith; entered = refl; behind = refl; fresh = refl; none = refl }), ((record { known = omega arith; alive = refl; free = refl }, record { there = refl; unbroken = refl; next = refl; its = record { key_may = x_may; within = omega arith } }), ((record { known = omega arith; alive = refl; free = refl }, record { there = refl; unbroken = refl; next = refl; its = record { positive = omega arith; used = refl; unended = refl } }), tt))))))
+updated_both_runs = run_joined small start updated (Opened 1 [] ∷ Enter 1 (OpenEntry 2 0) ∷ Synced 1 2 ∷ Met 0 1 2 ∷ Issue 0 5 1 1 (Op (Set (120 ∷ 0 ∷ []) (53 ∷ []))) ∷ Issue 0 6 1 2 (CommitItem 1) ∷ []) updated_runs (record { fresh = refl; ordered = tt; low = omega arith }, (record { opened = refl; place = refl; alone = refl; up = refl }, (record { opened = refl; no_less = omega arith; within = omega arith }, ((refl, record { place = refl; synced = omega arith; entered = refl; not_lost = refl; fresh = refl; none = refl }), ((record { known = omega arith; alive = refl; free = refl }, record { there = refl; unbroken = refl; next = refl; its = record { key_may = x_may; within = omega arith } }), ((record { known = omega arith; alive = refl; free = refl }, record { there = refl; unbroken = refl; next = refl; its = record { positive = omega arith; used = refl; unended = refl } }), tt))))))
 
 pub updated_again_runs : IsRun small updated_again
-updated_again_runs = run_joined small start updated_in (Shut 0 2 Replaced ∷ Synced 0 4 ∷ Lose 0 0 (ByReset 4) ∷ Enter 0 (OpenEntry 5 0) ∷ Synced 0 5 ∷ Met 0 0 5 ∷ RefusedAct 0 7 (Network 0 Recovery Reset) ∷ []) updated_in_runs (record { is_live = refl }, (record { opened = refl; no_less = omega arith; within = omega arith }, ((refl, record { there = refl; synced = omega arith; closed = refl }), (record { opened = refl; place = refl; alone = refl; up = refl }, (record { opened = refl; no_less = omega arith; within = omega arith }, ((refl, record { place = refl; synced = omega arith; entered = refl; behind = refl; fresh = refl; none = refl }), ((record { known = omega arith; alive = refl }, record { news = refl; bar = refl; its_state = refl }), tt)))))))
+updated_again_runs = run_joined small start updated_in (Shut 0 2 Replaced ∷ Synced 0 4 ∷ Lose 0 0 (ByReset 4) ∷ Enter 0 (OpenEntry 5 0) ∷ Synced 0 5 ∷ Met 0 0 5 ∷ RefusedAct 0 7 (Network 0 Recovery Reset) ∷ []) updated_in_runs (record { is_live = refl }, (record { opened = refl; no_less = omega arith; within = omega arith }, ((refl, record { there = refl; synced = omega arith; closed = refl }), (record { opened = refl; place = refl; alone = refl; up = refl }, (record { opened = refl; no_less = omega arith; within = omega arith }, ((refl, record { place = refl; synced = omega arith; entered = refl; not_lost = refl; fresh = refl; none = refl }), ((record { known = omega arith; alive = refl }, record { news = refl; bar = refl; its_state = refl }), tt)))))))

@@ -30,7 +30,7 @@ pub open_saved_runs : IsRun small open_saved
 open_saved_runs = run_more small start open_entered (Synced 0 2) open_entered_runs (record { opened = refl; no_less = omega arith; within = omega arith })
 
 pub met_runs : IsRun small met
-met_runs = run_more small start open_saved (Met 0 0 2) open_saved_runs ((refl, record { place = refl; synced = omega arith; entered = refl; behind = refl; fresh = refl; none = refl }))
+met_runs = run_more small start open_saved (Met 0 0 2) open_saved_runs ((refl, record { place = refl; synced = omega arith; entered = refl; not_lost = refl; fresh = refl; none = refl }))
 
 pub issued_runs : IsRun small issued
 issued_runs = run_more small start met (Issue 0 5 0 1 (Op (Set (120 ∷ 0 ∷ []) (53 ∷ [])))) met_runs ((record { known = omega arith; alive = refl; free = refl }, record { there = refl; unbroken = refl; next = refl; its = record { key_may = x_may; within = omega arith } }))

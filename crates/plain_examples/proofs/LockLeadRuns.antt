@@ -76,7 +76,7 @@ pub answered_released_runs : IsRun small answered_released
 answered_released_runs = run_joined small start answered (Shut 0 2 Replaced ∷ Synced 0 3 ∷ Release 0 2 ∷ []) answered_runs (record { is_live = refl }, (record { opened = refl; no_less = omega arith; within = omega arith }, (record { closed = refl }, tt)))
 
 pub answered_again_runs : IsRun small answered_again
-answered_again_runs = run_joined small start answered (Shut 0 2 Replaced ∷ Synced 0 3 ∷ Lose 0 0 (ByReset 3) ∷ Enter 0 (OpenEntry 4 0) ∷ Synced 0 4 ∷ Met 0 0 4 ∷ RefusedAct 0 7 (Network 0 Recovery Reset) ∷ []) answered_runs (record { is_live = refl }, (record { opened = refl; no_less = omega arith; within = omega arith }, ((refl, record { there = refl; synced = omega arith; closed = refl }), (record { opened = refl; place = refl; alone = refl; up = refl }, (record { opened = refl; no_less = omega arith; within = omega arith }, ((refl, record { place = refl; synced = omega arith; entered = refl; behind = refl; fresh = refl; none = refl }), ((record { known = omega arith; alive = refl }, record { news = refl; bar = refl; its_state = refl }), tt)))))))
+answered_again_runs = run_joined small start answered (Shut 0 2 Replaced ∷ Synced 0 3 ∷ Lose 0 0 (ByReset 3) ∷ Enter 0 (OpenEntry 4 0) ∷ Synced 0 4 ∷ Met 0 0 4 ∷ RefusedAct 0 7 (Network 0 Recovery Reset) ∷ []) answered_runs (record { is_live = refl }, (record { opened = refl; no_less = omega arith; within = omega arith }, ((refl, record { there = refl; synced = omega arith; closed = refl }), (record { opened = refl; place = refl; alone = refl; up = refl }, (record { opened = refl; no_less = omega arith; within = omega arith }, ((refl, record { place = refl; synced = omega arith; entered = refl; not_lost = refl; fresh = refl; none = refl }), ((record { known = omega arith; alive = refl }, record { news = refl; bar = refl; its_state = refl }), tt)))))))
 
 pub answered_issued_runs : IsRun small answered_issued
 answered_issued_runs = run_more small start answered (Issue 0 6 0 1 (Op (Set (120 ∷ 0 ∷ []) (53 ∷ [])))) answered_runs ((record { known = omega arith; alive = refl; free = refl }, record { there = refl; unbroken = refl; next = refl; its = record { key_may = x_may; within = omega arith } }))

@@ -1,4 +1,4 @@
--- Examples of acts that are accepted, and of acts that are refused since one condition fails: the condition is named in front of each.
+-- Examples of acts that are accepted, and of acts that are refused since one condition fails: the condition is named above each.
 use Rattle.std.proofs.Common.{ℕ, ◌+◌, ◌++◌, [], ◌∷◌, ◌≡◌, ◌^◌, refl, arith, rules}
 use Rattle.std.specs.Prelude.{pos, take}
 use Rattle.plain_orders.specs.declared.act.Act.TheVariants.{Opened, Enter, Synced, Back, Crash}

@@ -1,4 +1,4 @@
--- Examples of acts that are accepted, and of acts that are refused since one condition fails: the condition is named in front of each.
+-- Examples of acts that are accepted, and of acts that are refused since one condition fails: the condition is named above each.
 use Rattle.std.specs.Prelude.{pos, [], ◌∷◌}
 use Rattle.plain_orders.specs.declared.act.Act.TheVariants.{Counted, NotWhole, Range, Committed, RolledBack, Reached}
 use Rattle.plain_examples.specs.Leads.{Accepted, MayNotCome, FailsAt, nines_text, open_saved, met, applied, kept, cut_saved, met_cut_saved, met_dead}

@@ -1,4 +1,4 @@
--- Examples of what an act changes: what is accepted behind it and was refused before, or the other way.
+-- Examples of what an act changes: what is accepted after it and was refused before, or the other way.
 use Rattle.std.specs.Prelude.{Some, [], ◌∷◌}
 use Rattle.plain_orders.specs.declared.act.Act.TheVariants.{Read, Grant, Granted, Refused as RefusedAct}
 use Rattle.plain_orders.specs.declared.mode.Mode.TheVariants.{Exclusive}

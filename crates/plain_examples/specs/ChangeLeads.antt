@@ -40,7 +40,7 @@ held_given = held_answered ++ GiveUp 0 6 0 Exclusive (120 ∷ 0 ∷ []) ∷ []
 abbrev pub freed : List Act
 freed = held_given ++ Free 0 2 0 Exclusive (120 ∷ 0 ∷ []) ∷ []
 
--- the server crashes behind a grant
+-- the server crashes after a grant
 abbrev pub granted_cut : List Act
 granted_cut = lock_granted ++ Crash 0 2 ∷ []
 
@@ -52,7 +52,7 @@ granted_told = granted_cut ++ Told 0 0 2 2 2 ∷ []
 abbrev pub granted_back : List Act
 granted_back = granted_told ++ Back 0 ∷ []
 
--- a session is met behind a failed connect
+-- a session is met after a failed connect
 abbrev pub no_way_met : List Act
 no_way_met = connect_failed ++ Met 0 0 2 ∷ []
 

@@ -1,4 +1,4 @@
--- Examples of acts that are accepted, and of acts that are refused since one condition fails: the condition is named in front of each.
+-- Examples of acts that are accepted, and of acts that are refused since one condition fails: the condition is named above each.
 use Rattle.plain_orders.specs.declared.act.Act.TheVariants.{Shut, Met, Told, Broke, Mended, Tick, Lose, Died}
 use Rattle.plain_orders.specs.declared.causes.ShutCause.TheVariants.{Trouble as ByTrouble, Replaced, Round as ByRound}
 use Rattle.plain_orders.specs.declared.causes.PairEnd.TheVariants.{App as AppEnd, Server as ServerEnd}
@@ -44,13 +44,13 @@ MetExamples =
     × FailsAt 2 open_entered (Met 0 0 2)
     -- entered
     × FailsAt 3 found (Met 0 0 2)
-    -- behind: a loss by reset
+    -- not_lost: a loss by reset
     × FailsAt 4 replaced_lost (Met 0 0 4)
-    -- behind: a loss by expiry
+    -- not_lost: a loss by expiry
     × FailsAt 4 replaced_expired (Met 0 0 4)
     -- fresh, and with it none
     × MayNotCome met (Met 0 0 2)
-    -- fresh, and with it behind
+    -- fresh, and with it not_lost
     × MayNotCome closed_lost (Met 0 0 2)
     -- none
     × FailsAt 6 replaced_saved (Met 0 0 4)

@@ -1,4 +1,4 @@
--- Examples of entries of which just one condition fails behind an ordered list, so that no server opens with them: the condition is named in front.
+-- Examples of entries of which just one condition fails after an ordered list, so that no server opens with them: the condition is named above each.
 use Rattle.std.specs.Prelude.{ℕ, pos, List, ◌+◌, [], ◌∷◌, ◌≡◌, ◌^◌}
 use Rattle.plain_orders.specs.declared.entry.Entry.{Entry}
 use Rattle.plain_orders.specs.declared.entry.Entry.TheVariants.{Epoch, Opened as OpenEntry, Closed, Update, Commit, Rollback}
@@ -31,7 +31,7 @@ two_opens = Epoch 1 ∷ OpenEntry 2 0 ∷ Update 2 1 0 1 (Set (120 ∷ 0 ∷ [])
 abbrev pub one_close : List Entry
 one_close = Epoch 1 ∷ OpenEntry 2 0 ∷ Closed 2 ∷ []
 
--- the list is ordered, and of the conditions of the entry behind it just the one at this place, from 0, fails
+-- the list is ordered, and of the conditions of the entry after it just the one at this place, from 0, fails
 abbrev pub FailsBehind : ℕ → List Entry → Entry → Type 0
 FailsBehind k before e = IsOrdered before × JustFails k (conditions_behind before e)
 

@@ -236,7 +236,7 @@ both_saved = both ++ Synced 0 3 ∷ []
 abbrev pub both_met : List Act
 both_met = both_saved ++ Met 1 0 3 ∷ []
 
--- a value is set, and two increments enter behind it
+-- a value is set, and two increments enter after it
 abbrev pub added_twice : List ℕ → List Act
 added_twice v =
     both_met
@@ -255,11 +255,11 @@ overtaken v =
 abbrev pub level_two : List Act
 level_two = level_one ++ Level 0 5 2 ∷ []
 
--- behind its Commit the transaction has an update more
+-- after its Commit the transaction has an update more
 abbrev pub updated_more : List Act
 updated_more = commit_issued ++ Issue 0 7 0 3 (Op (Set (120 ∷ 0 ∷ []) (53 ∷ []))) ∷ []
 
--- behind its Commit another transaction has an update
+-- after its Commit another transaction has an update
 abbrev pub updated_next : List Act
 updated_next = commit_issued ++ Level 0 6 0 ∷ Level 0 7 1 ∷ Issue 0 7 0 3 (Op (Set (120 ∷ 0 ∷ []) (53 ∷ []))) ∷ []
 

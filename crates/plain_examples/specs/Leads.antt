@@ -18,15 +18,15 @@ use Rattle.plain_runs.specs.Conditions.{JustFails, conditions}
 abbrev pub small : Layout
 small = record { servers = 2; apps = 2; job_apps = 0 ∷ 1 ∷ 0 ∷ []; times = record { retry = 5; trouble = 60; recover = 100; round = 60 } }
 
--- behind this trail the act is accepted
+-- after this trail the act is accepted
 abbrev pub Accepted : List Act → Act → Type 0
 Accepted lead a = IsRun small (lead ++ a ∷ [])
 
--- the trail is a run, and behind it the act is refused
+-- the trail is a run, and after it the act is refused
 abbrev pub MayNotCome : List Act → Act → Type 0
 MayNotCome lead a = IsRun small lead × (MayCome small (state_after small lead) a → ⊥)
 
--- the trail is a run, and behind it just one condition of the act fails: the one at this place of its conditions, from 0
+-- the trail is a run, and after it just one condition of the act fails: the one at this place of its conditions, from 0
 abbrev pub FailsAt : ℕ → List Act → Act → Type 0
 FailsAt k lead a = IsRun small lead × JustFails k (conditions small (state_after small lead) a)
 
@@ -130,7 +130,7 @@ cut = applied ++ Crash 0 2 ∷ []
 abbrev pub cut_saved : List Act
 cut_saved = cut ++ Synced 0 3 ∷ []
 
--- the server crashes behind a meeting
+-- the server crashes after a meeting
 abbrev pub met_cut : List Act
 met_cut = met ++ Crash 0 2 ∷ []
 
@@ -218,23 +218,23 @@ app_early = app_broke ++ Tick 99 ∷ []
 abbrev pub saved_dead : List Act
 saved_dead = open_saved ++ Died 0 ∷ []
 
--- or behind that
+-- or after that
 abbrev pub met_dead : List Act
 met_dead = met ++ Died 0 ∷ []
 
--- or behind a crash
+-- or after a crash
 abbrev pub crashed_dead : List Act
 crashed_dead = server_crashed ++ Died 0 ∷ []
 
--- or behind a break
+-- or after a break
 abbrev pub broke_dead : List Act
 broke_dead = app_broke ++ Died 0 ∷ []
 
--- or behind a Close
+-- or after a Close
 abbrev pub closed_dead : List Act
 closed_dead = closed_saved ++ Died 0 ∷ []
 
--- or behind a break for the recover time
+-- or after a break for the recover time
 abbrev pub late_dead : List Act
 late_dead = app_late ++ Died 0 ∷ []
 

@@ -1,4 +1,4 @@
--- Examples of acts that are accepted, and of acts that are refused since one condition fails: the condition is named in front of each.
+-- Examples of acts that are accepted, and of acts that are refused since one condition fails: the condition is named above each.
 use Rattle.std.specs.Prelude.{[], ◌∷◌}
 use Rattle.plain_orders.specs.declared.act.Act.TheVariants.{Release, Grant, Granted, GiveUp, Quit, Free}
 use Rattle.plain_orders.specs.declared.mode.Mode.TheVariants.{Exclusive, Shared}
@@ -149,7 +149,7 @@ FreeExamples =
     × FailsAt 0 quitted (Free 0 3 0 Exclusive (120 ∷ 0 ∷ []))
     -- given: it is no longer in force
     × FailsAt 0 given_released (Free 0 2 0 Exclusive (120 ∷ 0 ∷ []))
-    -- entered: behind a request
+    -- entered: after a request
     × FailsAt 1 issued_quit (Free 0 2 0 Exclusive (120 ∷ 0 ∷ []))
-    -- entered: behind a hold
+    -- entered: after a hold
     × FailsAt 1 issued_given (Free 0 2 0 Exclusive (120 ∷ 0 ∷ []))

@@ -29,7 +29,7 @@ given = answered ++ GiveUp 0 6 0 Exclusive (120 ∷ 0 ∷ []) ∷ []
 abbrev pub quitted : List Act
 quitted = met ++ Quit 0 5 0 Exclusive (120 ∷ 0 ∷ []) ∷ []
 
--- a request is given up behind an issue
+-- a request is given up after an issue
 abbrev pub issued_quit : List Act
 issued_quit = issued ++ Quit 0 6 0 Exclusive (120 ∷ 0 ∷ []) ∷ []
 
@@ -45,15 +45,15 @@ both_held = both ++ Grant 0 2 0 Exclusive (120 ∷ 0 ∷ []) 3 ∷ []
 abbrev pub stranger_granted : List Act
 stranger_granted = met ++ Grant 0 2 3 Exclusive (120 ∷ 0 ∷ []) 2 ∷ []
 
--- an application server dies behind a grant
+-- an application server dies after a grant
 abbrev pub granted_dead : List Act
 granted_dead = lock_granted ++ Died 0 ∷ []
 
--- or behind its answer
+-- or after its answer
 abbrev pub answered_dead : List Act
 answered_dead = answered ++ Died 0 ∷ []
 
--- or behind a request that was given up
+-- or after a request that was given up
 abbrev pub quitted_dead : List Act
 quitted_dead = quitted ++ Died 0 ∷ []
 
@@ -104,6 +104,6 @@ answered_issued = answered ++ Issue 0 6 0 1 (Op (Set (120 ∷ 0 ∷ []) (53 ∷ 
 abbrev pub issued_given : List Act
 issued_given = answered_issued ++ GiveUp 0 6 0 Exclusive (120 ∷ 0 ∷ []) ∷ []
 
--- a set is issued behind a lock that was given up
+-- a set is issued after a lock that was given up
 abbrev pub given_issued : List Act
 given_issued = given ++ Issue 0 7 0 1 (Op (Set (120 ∷ 0 ∷ []) (53 ∷ []))) ∷ []

@@ -172,7 +172,7 @@ pub fn room_examples()
     ensures { RoomExamples }
 {}
 
-/// Examples of a grant that was not answered, before and behind the end of a recovery round.
+/// Examples of a grant that was not answered, before and after the end of a recovery round.
 pub fn unclaimed_examples()
     ensures { UnclaimedExamples }
 {}
@@ -182,7 +182,7 @@ pub fn news_examples()
     ensures { NewsExamples }
 {}
 
-/// Examples of a read below what was seen, before and behind the news of an epoch.
+/// Examples of a read below what was seen, before and after the news of an epoch.
 pub fn seen_examples()
     ensures { SeenExamples }
 {}

@@ -36,7 +36,7 @@ use Rattle.plain_runs.proofs.LockRows.{each_at}
 use Rattle.plain_orders.specs.ItemEntries.{is_item_of, w_of}
 use Rattle.plain_orders.proofs.Places.{get_append}
 
--- where an entry may stand, counted from 0: a session's items behind its Open, which stands at its number; no Close is of session 0
+-- where an entry may stand, counted from 0: a session's items after its Open, which stands at its number; no Close is of session 0
 abbrev pub PlacedAt : ℕ → Entry → Type 0
 PlacedAt k (Epoch number) = Unit {0}
 PlacedAt k (OpenedEntry session app) = session ≡ k + 1

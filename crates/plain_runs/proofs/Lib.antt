@@ -27,3 +27,4 @@ mod MetLaws
 mod OpenTransactions
 pub mod BegunItems
 pub mod Ordered
+pub mod PairReads

@@ -1,4 +1,4 @@
--- A session is met once: while its pair has it, or behind the loss of its pair.
+-- A session is met once: while its pair has it, or after the loss of its pair.
 use Rattle.std.proofs.Common.{◌≡◌, ℕ, zero, suc, ◌+◌, ◌≤◌, List, [], ◌∷◌, ◌++◌, length, take, refl, subst, sym, ap, ◌∙◌, Bool, true, false, eqb, ◌==◌, ◌||◌, if◌then◌else◌, arith, ◌⊎◌, inl, inr, Option, Some, None}
 use Rattle.std.specs.Prelude.{is_some}
 use Rattle.std.specs.Option.{option_map}
@@ -29,7 +29,7 @@ pub record Meetings : Type 0 where
 abbrev pub meetings : Server → Meetings
 meetings s = record { order = s.order; owner = λ n. owner_in (s.session_at n); ent = s.entered_at; pair = λ a. (s.pair_at a).session }
 
--- an Open is behind a loss of its pair
+-- an Open is after a loss of its pair
 abbrev pub lost_of : Option Entered → Bool
 lost_of None = false
 lost_of (Some e) = e.lost_since

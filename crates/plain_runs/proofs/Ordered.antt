@@ -128,8 +128,8 @@ item_was s session w e may k = go (slice_get (issued_in s session) (w - 1)) refl
         (i, (same_Some (entry_of session w i) e h, subst (λ n. Was (take n (issued_in s session)) i) place (was_at [] (issued_in s session) (w - 1) i (k.were session) g)))
 
 -- the job's transaction that its item ends is open
-item_begun : (s : Server) (session w job txn : ℕ) (e : Entry) → ItemMay s session w e → IssuedKept (view s) → OrderedKept (written s) → EndMay job txn (take (count s.order session) (issued_in s session)) → is_begun session job txn (fold s.order).begun ≡ true
-item_begun s session w job txn e may is k end =
+end_is_begun : (s : Server) (session w job txn : ℕ) (e : Entry) → ItemMay s session w e → IssuedKept (view s) → OrderedKept (written s) → EndMay job txn (take (count s.order session) (issued_in s session)) → is_begun session job txn (fold s.order).begun ≡ true
+end_is_begun s session w job txn e may is k end =
     begun_is session job txn end.positive (issued_in s session) s.order k.now stands may.is_live ∙ may_end job txn (take (count s.order session) (issued_in s session)) end.used end.unended
   where
     met : is_some (s.session_at session) ≡ true
@@ -176,8 +176,8 @@ enter_ordered l clock s (Epoch number) may is = absurd may
 enter_ordered l clock s (Closed session) may is = absurd may
 enter_ordered l clock s (OpenedEntry session app) may is = push s (entered s (OpenedEntry session app)) (OpenedEntry session app) refl (λ z e. z (sym (last_epoch-push s.order (OpenedEntry session app)) ∙ e)) (λ k. record { is_started = k.begun may.opened; is_position = may.place; is_free = may.alone })
 enter_ordered l clock s (Update session w job txn op) may is = push s (entered s (Update session w job txn op)) (Update session w job txn op) refl (λ z e. z (sym (last_epoch-push s.order (Update session w job txn op)) ∙ e)) (λ k. record { is_live = may.is_live; is_next = may.next; within = update_follows s session w job txn op may k })
-enter_ordered l clock s (Commit session w job txn) may is = push s (entered s (Commit session w job txn)) (Commit session w job txn) refl (λ z e. z (sym (last_epoch-push s.order (Commit session w job txn)) ∙ e)) (λ k. record { is_live = may.is_live; is_next = may.next; is_begun = item_begun s session w job txn _ may is k (commit_follows s session w job txn may k) })
-enter_ordered l clock s (Rollback session w job txn) may is = push s (entered s (Rollback session w job txn)) (Rollback session w job txn) refl (λ z e. z (sym (last_epoch-push s.order (Rollback session w job txn)) ∙ e)) (λ k. record { is_live = may.is_live; is_next = may.next; is_begun = item_begun s session w job txn _ may is k (rollback_follows s session w job txn may k) })
+enter_ordered l clock s (Commit session w job txn) may is = push s (entered s (Commit session w job txn)) (Commit session w job txn) refl (λ z e. z (sym (last_epoch-push s.order (Commit session w job txn)) ∙ e)) (λ k. record { is_live = may.is_live; is_next = may.next; is_begun = end_is_begun s session w job txn _ may is k (commit_follows s session w job txn may k) })
+enter_ordered l clock s (Rollback session w job txn) may is = push s (entered s (Rollback session w job txn)) (Rollback session w job txn) refl (λ z e. z (sym (last_epoch-push s.order (Rollback session w job txn)) ∙ e)) (λ k. record { is_live = may.is_live; is_next = may.next; is_begun = end_is_begun s session w job txn _ may is k (rollback_follows s session w job txn may k) })
 
 -- sessions change, each with items that were issued as they may be
 sessions : (s t : Server) → written t ≡ record (written s) { ses = t.session_at } → ((n : ℕ) → WereFrom [] (issued_of (s.session_at n)) → WereFrom [] (issued_of (t.session_at n))) → OrderedSteps s t

@@ -43,8 +43,8 @@ abbrev Steps : Layout → Server → Server → Type 0
 Steps l s t = ToldKept l (sight s) → ToldKept l (sight t)
 
 -- what holds of the pair's session
-pub told_is : (s : Server) (app n b : ℕ) → (s.pair_at app).session ≡ Some n → told_in (s.session_at n) ≡ Some b → (session_in s (pair_session s app)).told ≡ b
-told_is s app n b p t = ap (λ (o : Option ℕ). (session_in s (unwrap_or o 0)).told) p ∙ go (s.session_at n) t
+pub told_place_is : (s : Server) (app n b : ℕ) → (s.pair_at app).session ≡ Some n → told_in (s.session_at n) ≡ Some b → (session_in s (pair_session s app)).told ≡ b
+told_place_is s app n b p t = ap (λ (o : Option ℕ). (session_in s (unwrap_or o 0)).told) p ∙ go (s.session_at n) t
   where
     go : (o : Option Session) → told_in o ≡ Some b → (unwrap_or o (record { app = 0; issued = []; told = 0 })).told ≡ b
     go None e = absurd (cc (e))
@@ -68,10 +68,10 @@ known_row l s t job x holds same hs here k =
     (λ e. here k n b (subst (λ i. (s.pair_at (app_of l i)).session ≡ Some n) e p) t (subst (λ i. (s.known_at i).seen ≤ len s.past s.order b) e y)) y) k)
 
 up_row : (l : Layout) (s : Server) (job at : ℕ) → at ≤ length (told_order s (app_of l job)) → Steps l s (sees_up s job at)
-up_row l s job at within = known_row l s (sees_up s job at) job _ s.holds refl (λ k. k.sent) (λ k n b p t y. omega (arith, y, subst (λ i. at ≤ len s.past s.order i) (told_is s (app_of l job) n b p t) within))
+up_row l s job at within = known_row l s (sees_up s job at) job _ s.holds refl (λ k. k.sent) (λ k n b p t y. omega (arith, y, subst (λ i. at ≤ len s.past s.order i) (told_place_is s (app_of l job) n b p t) within))
 
 read_row : (l : Layout) (s : Server) (job at : ℕ) → at ≤ length (told_order s (app_of l job)) → Steps l s (sees s job at)
-read_row l s job at within = known_row l s (sees s job at) job _ s.holds refl (λ k. k.sent) (λ k n b p t y. subst (λ i. at ≤ len s.past s.order i) (told_is s (app_of l job) n b p t) within)
+read_row l s job at within = known_row l s (sees s job at) job _ s.holds refl (λ k. k.sent) (λ k n b p t y. subst (λ i. at ≤ len s.past s.order i) (told_place_is s (app_of l job) n b p t) within)
 
 entry_low : (es : List Entry) (at : ℕ) (e : Entry) → entry_at es at ≡ Some e → at ≤ length es
 entry_low es zero e h = omega arith
@@ -300,4 +300,4 @@ seen_is_told l acts d j run there has = go (s.pair_at (app_of l j)).session refl
     go None e h = absurd (cc (h))
     go (Some n) e h =
         let b = told_of (s.session_at n) (kept.its (app_of l j) n e) in
-        subst (λ i. (s.known_at j).seen ≤ len s.past s.order i) (sym (told_is s (app_of l j) n b.0 e b.1)) (kept.seen j n b.0 there e b.1)
+        subst (λ i. (s.known_at j).seen ≤ len s.past s.order i) (sym (told_place_is s (app_of l j) n b.0 e b.1)) (kept.seen j n b.0 there e b.1)

@@ -33,7 +33,7 @@ use Rattle.plain_runs.proofs.OrderLaws.{row_steps, start_kept}
 use Rattle.plain_runs.proofs.Lists.{both_ways, stand_more}
 use Rattle.plain_runs.proofs.Issued.{IssuedKept, view, row_steps as issued_rows}
 use Rattle.plain_runs.proofs.Bases.{ToldKept, sight, or_else, owner_in, place_in, told_in}
-use Rattle.plain_runs.proofs.SeenLaw.{told_is, told_kept}
+use Rattle.plain_runs.proofs.SeenLaw.{told_place_is, told_kept}
 use Rattle.plain_runs.proofs.NoSession.{none_without_session}
 use Rattle.plain_runs.proofs.ToldItems.{StandsKept, StandSteps, standing, nth, later_told, enter_stands, shut_stands, opened_stands, crash_stands, met_stands, told_stands}
 use Rattle.plain_orders.specs.ItemEntries.{is_item_at, is_item_of}
@@ -131,7 +131,7 @@ stands_told l acts d app run has i e at is = go (s.pair_at app).session refl has
         let b : (b : ℕ) × (told_in (s.session_at n) ≡ Some b) = told (s.session_at n) (kept.its app n p) in
         let its : pair_session s app ≡ n = ap (λ (o : Option ℕ). unwrap_or o 0) p in
         let low : b.0 ≤ length s.past = kept.low n b.0 (ap (λ o. or_else o (place_in (s.entered_at n))) b.1) in
-        ap (λ k. slice_get (nth s.past s.order k) i) (told_is s app n b.0 p b.1)
+        ap (λ k. slice_get (nth s.past s.order k) i) (told_place_is s app n b.0 p b.1)
         ∙ (stands_kept l acts d run).stands n b.0 b.0 i e b.1 (omega arith) low at (subst (λ m. is_item_of m e ≡ true) its is)
 
 of_session : (session w job txn : ℕ) (x : Item) → is_item_of session (entry_of_item session w job txn x) ≡ true

@@ -21,13 +21,13 @@ use Rattle.plain_runs.specs.OrderRows.{with_entry}
 use Rattle.plain_orders.specs.Sessions.{app_in, place_of_epoch}
 
 -- when the data end of a session broke
-abbrev pub end_of : Server → Option ℕ → Option ℕ
-end_of s None = None
-end_of s (Some app) = s.end_at app
+abbrev pub end_of_app : Server → Option ℕ → Option ℕ
+end_of_app s None = None
+end_of_app s (Some app) = s.end_at app
 
 -- when the data end of a session's application server broke
 abbrev pub end_in : Server → ℕ → Option ℕ
-end_in s session = end_of s (app_in s.order session)
+end_in s session = end_of_app s (app_in s.order session)
 
 -- a Close at the end, since the data end was broke for too long
 pub record ShutTroubleMay (p : Plain) (s : Server) (session time trouble : ℕ) : Type 0 where
@@ -62,7 +62,7 @@ pub record MetMay (s : Server) (app session : ℕ) : Type 0 where
   pub place : entry_at s.order session ≡ Some (Opened session app)
   pub synced : session ≤ s.synced
   pub entered : is_some (s.entered_at session) ≡ true
-  pub behind : (entered_in s session).lost_since ≡ false
+  pub not_lost : (entered_in s session).lost_since ≡ false
   pub fresh : is_some (s.session_at session) ≡ false
   pub none : is_some (s.pair_at app).session ≡ false
 

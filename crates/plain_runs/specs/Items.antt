@@ -19,7 +19,7 @@ entry_of_item session w job txn (RollbackItem n) = Rollback session w job n
 abbrev pub entry_of : ℕ → ℕ → Issued → Entry
 entry_of session w i = entry_of_item session w i.job i.txn i.item
 
--- all that a job issued in a session stands in the list, its items being those behind the first k
+-- all that a job issued in a session stands in the list, its items being those after the first k
 abbrev pub all_stand : List Entry → ℕ → ℕ → ℕ → List Issued → Bool
 all_stand es s job k [] = true
 all_stand es s job k (i ∷ is) = (not (i.job == job) || has_item es s (k + 1)) && all_stand es s job (k + 1) is
@@ -78,7 +78,7 @@ is_end_of job txn i = i.job == job && ends txn i.item
 abbrev pub is_end_at : ℕ → ℕ → Issued → Bool
 is_end_at job line i = (i.job == job && i.line == line) && (is_commit i.item || is_rollback i.item)
 
--- whether the transaction was ended behind the job's last update in it, where it was ended before or not
+-- whether the transaction was ended after the job's last update in it, where it was ended before or not
 abbrev pub ended_from : ℕ → ℕ → Bool → List Issued → Bool
 ended_from job txn b [] = b
 ended_from job txn b (i ∷ is) = ended_from job txn (if is_update_of job txn i then false else (b || is_end_of job txn i)) is

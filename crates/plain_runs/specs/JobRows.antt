@@ -54,7 +54,7 @@ txn_of x (Op op) = if is_change (Op op) then (if x.level == 0 then 0 else x.txn)
 txn_of x (Commit n) = n
 txn_of x (Rollback n) = n
 
--- a transaction that the job may end: it has an update in it, and didn't end it behind the last of these
+-- a transaction that the job may end: it has an update in it, and didn't end it after the last of these
 pub record EndMay (job txn : ℕ) (issued : List Issued) : Type 0 where
   pub positive : 0 < txn
   pub used : list_any (is_update_of job txn) issued ≡ true
@@ -79,7 +79,7 @@ is_own Own = true
 is_own Cached = false
 is_own Fetched = false
 
--- the job's own updates behind the first n entries of the order that its pair is told of
+-- the job's own updates after the first n entries of the order that its pair is told of
 abbrev pub own_behind : Server → ℕ → ℕ → ℕ → List Operation
 own_behind s app job n = own (pair_issued s app) job (count (take n (told_order s app)) (pair_session s app))
 

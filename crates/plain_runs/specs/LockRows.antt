@@ -109,7 +109,7 @@ granted s app job at = sees_up (record s { holds = change_first (is_sent_at (pai
 abbrev pub releases : Server → ℕ → Server
 releases s session = record s { holds = map (released_hold session) s.holds; quits = filter (λ (q : Quitted). not (q.session == session)) s.quits }
 
--- given up at this turn, behind what was issued in the session so far
+-- given up at this turn, after what was issued in the session so far
 abbrev pub given_now : Server → ℕ → Given
 given_now s session = record { turn = s.turns; before = length (issued_in s session) }
 

@@ -1,4 +1,4 @@
--- Conditions that never fail alone: where one fails, another one of the act fails too, behind every run.
+-- Conditions that never fail alone: where one fails, another one of the act fails too, after every run.
 use Rattle.std.specs.Prelude.{◌≡◌, ◌≢◌, ◌⊎◌, ℕ, Bool, true, false, ◌≤◌, ◌<◌, List, length, take, Some, None, is_some}
 use Rattle.std.specs.List.{list_any}
 use Rattle.plain_orders.specs.declared.act.Act.{Act}

@@ -57,7 +57,7 @@ pub fn what_is_seen_was_told()
     ensures { SeenIsTold }
 {}
 
-/// An act may come where all its conditions hold, and not where just one fails. The same of an entry behind a list.
+/// An act may come where all its conditions hold, and not where just one fails. The same of an entry after a list.
 pub fn no_condition_is_left_out()
     ensures acts { NoneIsLeftOut }
     ensures entries { NoneIsLeftOutBehind }
