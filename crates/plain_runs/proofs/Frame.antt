@@ -79,9 +79,6 @@ record Rises (s t : Server) : Type 0 where
 rises_same : (s : Server) → Rises s s
 rises_same s = record { low = λ j. omega arith }
 
-NoLess : Known → Known → Type 0
-NoLess k l = k.seen ≤ l.seen
-
 known_rises : (f : ℕ → Known) (j : ℕ) (k : Known) → (f j).seen ≤ k.seen → (i : ℕ) → (f i).seen ≤ (put f j k i).seen
 known_rises f j k low i = go (eqb i j) refl
   where

@@ -264,10 +264,6 @@ grant_steps s session job mode key at may o =
     its : (q : Quitted) → is_quit session job mode key q ≡ true → q.session ≡ session
     its q p = eqb-true q.session session (and_parts (q.session == session) (q.job == job) (and_parts (q.session == session && q.job == job) _ p).0).0
 
-    before_of : Option Given → ℕ
-    before_of None = 0
-    before_of (Some g) = g.before
-
     new : LocksKept (locks s) → (o : Option Quitted) → first_quit (is_quit session job mode key) s.quits ≡ o → HoldOf (locks s) (new_hold session job mode key at o)
     new k None e = record {
       met = λ t. absurd (cc (t));
