@@ -1,4 +1,4 @@
--- Whether a transaction is open behind an entry.
+-- Whether a transaction is open after an entry.
 use Rattle.std.proofs.Common.{◌≡◌, ℕ, List, [], ◌∷◌, ◌++◌, refl, ap, ap₂, sym, ◌∙◌, Bool, true, false, cond, if◌then◌else◌, not, nat_eq, ◌&&◌, ◌||◌, Some}
 use Rattle.std.specs.List.{list_any, filter}
 use Rattle.std.proofs.lemmas.Bool.{eqb-true, eq-eqb, and_parts}
@@ -58,7 +58,7 @@ module _ (s j t : ℕ) where
       let i = it_is x h in
       ap₂ (λ u v. u && v) (ap₂ (λ u v. u && v) (ap (λ n. nat_eq n a) i.0 ∙ eq_turned s a) (ap (λ n. nat_eq n b) i.1 ∙ eq_turned j b)) (ap (λ n. nat_eq n c) i.2 ∙ eq_turned t c)
 
-  -- behind a Close
+  -- after a Close
   begun-closed : (session : ℕ) (ts : List Transaction) → is_begun s j t (filter (is_elsewhere session) ts) ≡ (if nat_eq session s then false else is_begun s j t ts)
   begun-closed session ts = go (nat_eq session s) refl
     where
@@ -66,7 +66,7 @@ module _ (s j t : ℕ) where
       go true e = rw e (any_dropped (is_it s j t) (is_elsewhere session) (λ x h. ap not (eq-eqb x.session session ((it_is x h).0 ∙ sym (eqb-true session s e)))) ts)
       go false e = rw e (any_kept (is_it s j t) (is_elsewhere session) (λ x h. ap not (ap (λ n. nat_eq n session) (it_is x h).0 ∙ eq_turned s session ∙ e)) ts)
 
-  -- behind a Commit or Rollback
+  -- after a Commit or Rollback
   begun-ended : (a b c : ℕ) (ts : List Transaction) → is_begun s j t (ended a b c ts) ≡ (if is_named s j t a b c then false else is_begun s j t ts)
   begun-ended a b c ts = go (is_named s j t a b c) refl
     where
@@ -87,7 +87,7 @@ module _ (s j t : ℕ) where
   begun_named : (a b c : ℕ) (ts : List Transaction) → is_named s j t a b c ≡ true → is_begun a b c ts ≡ is_begun s j t ts
   begun_named a b c ts h = let n = named_is a b c h in ap (λ r. is_begun r b c ts) n.0 ∙ (ap (λ r. is_begun s r c ts) n.1 ∙ ap (λ r. is_begun s j r ts) n.2)
 
-  -- behind an item that is noted
+  -- after an item that is noted
   begun-noted : (a b c : ℕ) (u : Undo) (ts : List Transaction) → is_begun s j t (noted a b c (Some u) ts) ≡ (if is_named s j t a b c && (not (nat_eq c 0) && true) then true else is_begun s j t ts)
   begun-noted a b c u ts = go (nat_eq c 0) (is_named s j t a b c) (is_begun a b c ts) refl refl refl
     where
@@ -104,7 +104,7 @@ module _ (s j t : ℕ) where
   not_both true false x = refl
   not_both false b x = refl
 
-  -- behind any entry
+  -- after any entry
   pub begun-step : (f : Folded) (e : Entry) → is_begun s j t (fold_step f e).begun ≡ begun_after (is_begun s j t f.begun) e s j t
   begun-step f (Epoch number) = refl
   begun-step f (Opened session app) = refl

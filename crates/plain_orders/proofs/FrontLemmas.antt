@@ -21,7 +21,7 @@ ordered_from-take before (e ∷ es) (suc n) o = (o.0, ordered_from-take (before 
 pub ordered-take : (es : List Entry) (n : ℕ) → IsOrdered es → IsOrdered (take n es)
 ordered-take es n o = ordered_from-take [] es n o
 
--- so of a session whose Open is yet to come behind it nothing stands in it
+-- so of a session whose Open is yet to come after it nothing stands in it
 pub front_past : (es : List Entry) (n : ℕ) → IsOrdered es → Past (take n es)
 front_past es n o = ordered_past (take n es) (ordered-take es n o)
 
@@ -62,7 +62,7 @@ module _ (n : ℕ) where
   abbrev ServesInFront : List Entry → Type 0
   ServesInFront es = (a s : ℕ) → s ≤ n → n ≤ length es → live_session es a ≡ Some s → live_session (take n es) a ≡ Some s
 
-  -- a front with one entry more behind it is the whole, or a front of what was before
+  -- a front with one entry more after it is the whole, or a front of what was before
   by_length : (P : List Entry → Type 0) (es : List Entry) (e : Entry) → n ≤ length (es ++ e ∷ []) → P (es ++ e ∷ []) → (n ≤ length es → P (take n es)) → P (take n (es ++ e ∷ []))
   by_length P es e low whole old = go (nat_eq n (length (es ++ e ∷ []))) refl
     where
@@ -92,6 +92,6 @@ front_lives es n s o low within h = ordered_induction (LivesInFront n) (λ s low
 pub front_open : (es : List Entry) (n a s : ℕ) → IsOrdered es → s ≤ n → n ≤ length es → live_session es a ≡ Some s → live_session (take n es) a ≡ Some s
 front_open es n a s o low within h = ordered_induction (ServesInFront n) (λ a s low within h. absurd (cc (h))) (serves-push n) es o a s low within h
 
--- a session whose Open is yet to come behind a front has no item in it
+-- a session whose Open is yet to come after a front has no item in it
 pub front_new : (es : List Entry) (n s : ℕ) → IsOrdered es → length (take n es) < s → count (take n es) s ≡ 0
 front_new es n s o late = (front_past es n o).counts_none s late

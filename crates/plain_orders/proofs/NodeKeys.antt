@@ -28,7 +28,7 @@ pub under_front : (n u : List ℕ) → is_under n (n ++ u) ≡ true
 under_front [] u = refl
 under_front (x ∷ n) u = rw (eq-eqb x x refl) (under_front n u)
 
--- the subscripts that stand behind a node's key in another node's
+-- the subscripts that stand after a node's key in another node's
 pub record Behind (a b : Node) (u : List ℕ) : Type 0 where
   pub more : List Sub
   pub name : b.name ≡ a.name
@@ -68,7 +68,7 @@ all_subs-append : (ss ts : List Sub) → AllByRecursion IsSub ss → AllByRecurs
 all_subs-append [] ts p q = q
 all_subs-append (s ∷ ss) ts p q = (p.0, all_subs-append ss ts p.1 q)
 
--- a node's key with a subscript behind it is the key of its child
+-- a node's key with a subscript after it is the key of its child
 pub child_key : (key : List ℕ) (s : Sub) → IsKey key → IsSub s → IsKey (key ++ sub_bytes s)
 child_key key s (a, p, e) q =
     let child : Node = record { name = a.name; subs = a.subs ++ s ∷ [] } in

@@ -27,7 +27,7 @@ pub record Past (es : List Entry) : Type 0 where
   pub is_past : (a s : ℕ) → live_session es a ≡ Some s → s ≤ length es
   pub has_one : (a b s : ℕ) → live_session es a ≡ Some s → live_session es b ≡ Some s → a ≡ b
 
--- a session that is there behind a Close was there before
+-- a session that is there after a Close was there before
 pub kept_open : (session s : ℕ) (o : Option ℕ) → unless_closed session o ≡ Some s → o ≡ Some s
 kept_open session s None h = absurd cc
 kept_open session s (Some x) h = go (nat_eq x session) h
@@ -67,7 +67,7 @@ module _ (es : List Entry) (p : Past es) where
   unbegun (Commit session w job txn) may s j t late = rw (apart_late session s may.is_live late) refl
   unbegun (Rollback session w job txn) may s j t late = rw (apart_late session s may.is_live late) refl
 
-  -- behind an Open an application server has this session or the one that it had
+  -- after an Open an application server has this session or the one that it had
   opened : (session app a s : ℕ) (o : Option ℕ) → (if nat_eq app a then Some session else o) ≡ Some s → ((app ≡ a) × (session ≡ s)) ⊎ (o ≡ Some s)
   opened session app a s o h = go (nat_eq app a) refl h
     where

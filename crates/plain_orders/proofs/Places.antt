@@ -1,4 +1,4 @@
--- Entries at their positions, in a list with more behind it and in a front of it.
+-- Entries at their positions, in a list with more after it and in a front of it.
 use Rattle.std.proofs.Common.{◌≡◌, ◌⊎◌, inl, inr, ℕ, zero, suc, ◌+◌, ◌≤◌, ◌<◌, Bool, true, false, List, [], ◌∷◌, ◌++◌, length, take, max, Some, slice_get, refl, subst, arith, if◌then◌else◌}
 use Rattle.std.specs.Prelude.{nat_lt}
 use Rattle.std.proofs.lemmas.Option.{same_Some}

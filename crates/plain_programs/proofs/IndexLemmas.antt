@@ -27,7 +27,7 @@ if_kept es e s (Some l) lives keeps h = keeps l h
 if_silent : (es : List Entry) (number s : ℕ) (o : Option LiveSession) → IsIndexedIf es s o → IsIndexedIf (es ++ Epoch number ∷ []) s o
 if_silent es number s o h = if_kept es (Epoch number) s o (λ b. refl) (λ l k. indexed-kept es (Epoch number) s l k refl refl refl (λ b j t. refl)) h
 
--- behind an Epoch
+-- after an Epoch
 pub index-epoch : (es : List Entry) (number : ℕ) (i : OrderIndex) → Indexes es i → Indexes (es ++ Epoch number ∷ []) (record i { epoch = number })
 index-epoch es number i h = record {
   epoch = sym (last_epoch-push es (Epoch number));
@@ -55,7 +55,7 @@ got P k q v o here there = rw (is_eq-nat_cmp k q) (go (nat_eq k q) refl)
     go false e = there e
 
 module _ (es : List Entry) (e : Entry) (session : ℕ) (i n : OrderIndex) (v : Option LiveSession) where
-  -- the index behind an entry that changes one session and nothing of the application servers
+  -- the index after an entry that changes one session and nothing of the application servers
   pub index-item : Indexes es i → n.epoch ≡ i.epoch → n.apps ≡ i.apps → ((q : ℕ) → get nat_cmp n.sessions q ≡ cond (is_at (nat_cmp session) q) v (get nat_cmp i.sessions q)) → ((m : ℕ) → epoch_after m e ≡ m) → ((o : Option ℕ) (a : ℕ) → live_session_after o e a ≡ o) → IsIndexedIf (es ++ e ∷ []) session v → ((s : ℕ) (o : Option LiveSession) → nat_eq session s ≡ false → IsIndexedIf es s o → IsIndexedIf (es ++ e ∷ []) s o) → Indexes (es ++ e ∷ []) n
   index-item h epoch apps sessions older serves here there = record {
     epoch = epoch ∙ (h.epoch ∙ sym (last_epoch-push es e ∙ older _));
@@ -63,22 +63,22 @@ module _ (es : List Entry) (e : Entry) (session : ℕ) (i n : OrderIndex) (v : O
     sessions = λ s. subst (IsIndexedIf (es ++ e ∷ []) s) (sym (sessions s)) (got (IsIndexedIf (es ++ e ∷ [])) session s v _ (λ at. subst (λ k. IsIndexedIf (es ++ e ∷ []) k v) (eqb-true session s at) here) (λ at. there s _ at (h.sessions s)));
   }
 
--- behind an Update
+-- after an Update
 pub index-update : (es : List Entry) (session w j t : ℕ) (op : Op) (i n : OrderIndex) (l : LiveSession) → Indexes es i → n.epoch ≡ i.epoch → n.apps ≡ i.apps → ((q : ℕ) → get nat_cmp n.sessions q ≡ cond (is_at (nat_cmp session) q) (Some l) (get nat_cmp i.sessions q)) → IsIndexed (es ++ Update session w j t op ∷ []) session l → Indexes (es ++ Update session w j t op ∷ []) n
 index-update es session w j t op i n l h epoch apps sessions here =
     index-item es (Update session w j t op) session i n (Some l) h epoch apps sessions (λ m. refl) (λ o a. refl) here (λ s o other. if_updated es session w j t s other op o)
 
--- behind a Commit
+-- after a Commit
 pub index-commit : (es : List Entry) (session w j t : ℕ) (i n : OrderIndex) (l : LiveSession) → Indexes es i → n.epoch ≡ i.epoch → n.apps ≡ i.apps → ((q : ℕ) → get nat_cmp n.sessions q ≡ cond (is_at (nat_cmp session) q) (Some l) (get nat_cmp i.sessions q)) → IsIndexed (es ++ Commit session w j t ∷ []) session l → Indexes (es ++ Commit session w j t ∷ []) n
 index-commit es session w j t i n l h epoch apps sessions here =
     index-item es (Commit session w j t) session i n (Some l) h epoch apps sessions (λ m. refl) (λ o a. refl) here (λ s o other. if_committed es session w j t s other o)
 
--- behind a Rollback
+-- after a Rollback
 pub index-rollback : (es : List Entry) (session w j t : ℕ) (i n : OrderIndex) (l : LiveSession) → Indexes es i → n.epoch ≡ i.epoch → n.apps ≡ i.apps → ((q : ℕ) → get nat_cmp n.sessions q ≡ cond (is_at (nat_cmp session) q) (Some l) (get nat_cmp i.sessions q)) → IsIndexed (es ++ Rollback session w j t ∷ []) session l → Indexes (es ++ Rollback session w j t ∷ []) n
 index-rollback es session w j t i n l h epoch apps sessions here =
     index-item es (Rollback session w j t) session i n (Some l) h epoch apps sessions (λ m. refl) (λ o a. refl) here (λ s o other. if_rolled es session w j t s other o)
 
--- behind an Open
+-- after an Open
 module _ (es : List Entry) (session app : ℕ) (i n : OrderIndex) (none : BTreeSet TransactionName) (t : CanTake es (Opened session app) i) where
   -- the new session, of which nothing stands yet
   indexed-entered : none.keys ≡ [] → IsIndexed (es ++ Opened session app ∷ []) session (record { app = app; count = 0; begun = none })
@@ -107,7 +107,7 @@ module _ (es : List Entry) (session app : ℕ) (i n : OrderIndex) (none : BTreeS
     sessions = λ s. subst (IsIndexedIf (es ++ Opened session app ∷ []) s) (sym (sessions s)) (got (IsIndexedIf (es ++ Opened session app ∷ [])) session s _ _ (λ at. subst (λ k. IsIndexedIf (es ++ Opened session app ∷ []) k (Some (record { app = app; count = 0; begun = none }))) (eqb-true session s at) (indexed-entered empty)) (λ at. if_entered s _ at (t.indexes.sessions s)));
   }
 
--- behind a Close
+-- after a Close
 module _ (es : List Entry) (session : ℕ) (i n : OrderIndex) (left : LiveSession) (t : CanTake es (Closed session) i) (is : get nat_cmp i.sessions session ≡ Some left) where
   left_indexed : IsIndexed es session left
   left_indexed = subst (IsIndexedIf es session) is (t.indexes.sessions session)

@@ -1,4 +1,4 @@
--- The next key behind a subscript, and the subscript that stands behind a node's key.
+-- The next key after a subscript, and the subscript that stands after a node's key.
 use Rattle.std.proofs.Common.{◌≡◌, ℕ, ◌<◌, List, [], ◌∷◌, ◌++◌, refl, ap, sym, subst, ◌∙◌, Bool, true, false, not, length, drop, nat_lt, ◌&&◌, if◌then◌else◌, append_assoc, arith, Option, Some}
 use Rattle.std.specs.declared.cmp.Ordering.TheVariants.{Less, Greater}
 use Rattle.std.specs.Ordering.{ordering_reverse, is_lt}
@@ -30,7 +30,7 @@ and_true : (a : Bool) → (a && true) ≡ a
 and_true true = refl
 and_true false = refl
 
--- a key is behind a node and all that is below it where it is behind the end of their span
+-- a key is after a node and all that is below it where it is after the end of their span
 pub behind_span : (q k : List ℕ) → IsKey q → IsKey k → (is_lt (key_cmp q k) && not (is_under q k)) ≡ is_lt (key_cmp (span_hi q) k)
 behind_span q k r s = go (is_under q k) refl
   where
@@ -44,7 +44,7 @@ behind_span q k r s = go (is_under q k) refl
         ap (λ t. is_lt (key_cmp q k) && not t) e ∙ and_true (is_lt (key_cmp q k)) ∙ sym (ap is_lt same)
 
 module _ (parent : List ℕ) (s : Sub) (q : List ℕ) (is : q ≡ parent ++ sub_bytes s) (r : IsKey q) where
-  -- so the next key behind a subscript is the first descendant behind the end of that span
+  -- so the next key after a subscript is the first descendant after the end of that span
   pub next_key-behind : (m : Map) → HasKeys m → next_key m parent (Some s) ≡ descendant_behind m parent (span_hi q)
   next_key-behind [] h = refl
   next_key-behind (p ∷ ps) h =
@@ -68,7 +68,7 @@ longer_rest [] (z ∷ k) l e = cc
 longer_rest (x ∷ n) [] l e = absurd (omega arith)
 longer_rest (x ∷ n) (z ∷ k) l e = longer_rest n k (omega arith) e
 
--- a subscript stands behind a node's key in that of a descendant
+-- a subscript stands after a node's key in that of a descendant
 pub sub_stands : (parent k : List ℕ) → IsKey parent → IsKey k → is_below parent k ≡ true → ((s : Sub) (r : List ℕ) → IsSub s → drop (length parent) k ≡ sub_bytes s ++ r → ⊥) → ⊥
 sub_stands parent k (a, p, e) (b, q, f) h none =
     let t = and_parts (is_under parent k) (nat_lt (length parent) (length k)) h in

@@ -9,8 +9,7 @@ use Rattle.plain_orders.specs.declared.op.Op.{Op}
 use Rattle.plain_orders.specs.declared.entry.Entry.{Entry}
 use Rattle.plain_orders.specs.declared.entry.Entry.TheVariants.{Update, Commit, Rollback}
 use Rattle.plain_orders.specs.Begun.{is_named, is_of_one, begun_after}
-use Rattle.plain_orders.specs.Entries.{count, w_in, live, live_after, live_session, live_session_after}
-use Rattle.plain_orders.specs.Fold.{is_begun}
+use Rattle.plain_orders.specs.Entries.{count, w_in, live_after, live_session, live_session_after}
 use Rattle.plain_orders.proofs.BegunLemmas.{begun-push}
 use Rattle.plain_orders.proofs.EntryLemmas.{count-push, live-push, live_session-push}
 use Rattle.plain_programs.specs.declared.transaction_name.TransactionName.{TransactionName}

@@ -6,8 +6,8 @@
 #![tactic(auto)]
 
 mod child_keys;
-mod limits;
 mod live_session;
+mod op_check;
 mod order_check;
 mod order_index;
 mod plain_store;

@@ -48,7 +48,7 @@ impl LiveSession {
         self.begun.contains(&name)
     }
 
-    /// Takes an Update of the session. Where memory is wanting nothing changes.
+    /// Takes an Update of the session. Out of memory, nothing changes.
     pub fn take_update(&mut self, w: u64, name: TransactionName, op: &Op) -> Result<(), AllocError>
         ensures ok { OnOk result ((es : List Entry) (s : ℕ) → IsIndexed es s self.old → w ≡ count es s + 1
             → IsIndexed (es ++ Update s w name.job name.txn op.now ∷ []) s self.new) }

@@ -1,7 +1,7 @@
 ghost use Rattle.std.specs.Prelude.{◌≡◌, ◌+◌, ◌↔◌, ◌++◌, ◌∷◌, [], IsTrue, IfOk, OnErr, if◌then◌else◌};
 ghost use Rattle.plain_orders.specs.Ordered.{EpochMay, OpenFollows, CloseMay, EndFollows, UpdateMay, MayFollow, IsOrdered};
 
-use crate::limits::op_may;
+use crate::op_check::op_may;
 use crate::order_index::OrderIndex;
 use crate::transaction_name::TransactionName;
 use plain_orders::{Entries, Entry, Op};
@@ -48,7 +48,7 @@ impl OrderCheck {
     }
 
     /// Takes the entry where the entries taken so far and this one are an ordered list, and tells
-    /// whether they are. Else, and where memory is wanting, nothing changes.
+    /// whether they are. Else, and out of memory, nothing changes.
     pub fn next(&mut self, alloc: Global, entry: &Entry) -> Result<bool, AllocError>
         ensures exact { IfOk result (λ took. IsTrue took ↔ IsOrdered (self.old ++ entry.now ∷ [])) }
         ensures taken { IfOk result (λ took. self.new ≡ (if took then self.old ++ entry.now ∷ [] else self.old)) }
@@ -60,7 +60,7 @@ impl OrderCheck {
         let taken = entry.clone()?;
         self.entries.reserve(1)?;
         self.index.take(alloc, entry)?;
-        // There is room, so nothing fails behind the index's change.
+        // There is room, so nothing fails after the index's change.
         self.entries.push(taken)?;
         Ok(true)
     }

@@ -55,7 +55,7 @@ impl OrderIndex {
         self.sessions.get(&session)
     }
 
-    /// Takes an entry that may follow. Where memory is wanting it says of the entries what it said before.
+    /// Takes an entry that may follow. Out of memory, it says of the entries what it said before.
     pub fn take(&mut self, alloc: Global, entry: &Entry) -> Result<(), AllocError>
         ensures ok { OnOk result ((es : List Entry) → CanTake es entry.now self.old
             → Indexes (es ++ entry.now ∷ []) self.new) }

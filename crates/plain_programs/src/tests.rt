@@ -122,7 +122,7 @@ fn sub(alloc: Global, bytes: &[u8]) -> Result<Option<Sub>, AllocError> {
     }
 }
 
-/// The subscript behind the one that these bytes are, or the first.
+/// The subscript after the one that these bytes are, or the first.
 fn next(
     alloc: Global,
     store: &PlainStore,
