@@ -1,6 +1,7 @@
 -- Examples of entries of which just one condition fails after an ordered list.
-use Rattle.std.proofs.Common.{◌≡◌, ℕ, [], ◌+◌, ◌^◌, refl, arith, rules}
+use Rattle.std.proofs.Common.{◌≡◌, ℕ, [], ◌+◌, refl, arith, rules}
 use Rattle.plain_orders.specs.declared.entry.Entry.TheVariants.{Epoch}
+use Rattle.plain_orders.specs.declared.limits.TheConstants.{EPOCH_END}
 use Rattle.plain_orders.specs.Ordered.{IsOrdered}
 use Rattle.plain_examples.specs.EntryExamples.{EntryExamples, FailsBehind, one_epoch, one_open, one_update, one_commit, two_opens, one_close}
 use Rattle.plain_examples.specs.Leads.{epochs}
@@ -28,7 +29,7 @@ two_opens_ordered = (record { is_next = refl; in_range = omega arith }, (record 
 one_close_ordered : IsOrdered one_close
 one_close_ordered = (record { is_next = refl; in_range = omega arith }, (record { is_started = λ e. omega (arith, e); is_position = refl; is_free = refl }, (record { is_live = refl }, tt)))
 
-last_epochs : (n : ℕ) → n + 1 ≡ 2 ^ 32 → FailsBehind 1 (epochs 0 n) (Epoch (n + 1))
+last_epochs : (n : ℕ) → n + 1 ≡ EPOCH_END → FailsBehind 1 (epochs 0 n) (Epoch (n + 1))
 last_epochs n same = (epochs_ordered [] 0 n refl (omega (arith, same)), (omega (arith, epochs_last 0 n), ((λ e. omega (arith, e, same)), tt)))
 
 pub entry_examples : EntryExamples

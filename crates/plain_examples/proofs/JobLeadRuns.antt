@@ -12,6 +12,7 @@ use Rattle.plain_orders.specs.declared.causes.Loss.TheVariants.{Reset as ByReset
 use Rattle.plain_orders.specs.declared.refused.Refused.TheVariants.{Network}
 use Rattle.plain_orders.specs.declared.refused.ReasonName.TheVariants.{Reset}
 use Rattle.plain_orders.specs.declared.refused.LinkName.TheVariants.{Recovery}
+use Rattle.subscript_keys.specs.declared.limits.TheConstants.{VALUE_LIMIT}
 use Rattle.plain_runs.specs.Plain.{start}
 use Rattle.plain_runs.specs.Step.{MayCome}
 use Rattle.plain_runs.specs.Run.{IsRun, state_after}
@@ -184,7 +185,7 @@ both_saved_runs = run_more small start both (Synced 0 3) both_runs (record { ope
 pub both_met_runs : IsRun small both_met
 both_met_runs = run_more small start both_saved (Met 1 0 3) both_saved_runs (refl, record { place = refl; synced = omega arith; entered = refl; not_lost = refl; fresh = refl; none = refl })
 
-pub added_twice_runs : (v : List ℕ) → length v ≤ 3000 → IsRun small (added_twice v)
+pub added_twice_runs : (v : List ℕ) → length v ≤ VALUE_LIMIT → IsRun small (added_twice v)
 added_twice_runs v short =
     run_joined small start both_met
     (Issue 0 3 0 1 (Op (Set (120 ∷ 0 ∷ []) v)) ∷ Enter 0 (Update 2 1 0 0 (Set (120 ∷ 0 ∷ []) v))
@@ -208,7 +209,7 @@ added_twice_runs v short =
       ),
     ))
 
-pub overtaken_runs : (v : List ℕ) → length v ≤ 3000 → IsRun small (overtaken v)
+pub overtaken_runs : (v : List ℕ) → length v ≤ VALUE_LIMIT → IsRun small (overtaken v)
 overtaken_runs v short =
     run_joined small start (added_twice v)
     (Crash 0 4 ∷ Told 1 0 3 2 4 ∷ Issue 1 5 0 1 (Op (Add (120 ∷ 0 ∷ []) (pos 1))) ∷ Enter 0 (Update 3 1 1 0 (Add (120 ∷ 0 ∷ []) (pos 1))) ∷ Synced 0 6 ∷ [])

@@ -1,5 +1,5 @@
 -- The trails on orders, sessions and connections are runs.
-use Rattle.std.proofs.Common.{ℕ, zero, suc, List, ◌+◌, ◌++◌, [], ◌∷◌, ◌≡◌, ◌<◌, ◌≤◌, ◌^◌, refl, arith}
+use Rattle.std.proofs.Common.{ℕ, zero, suc, List, ◌+◌, ◌++◌, [], ◌∷◌, ◌≡◌, ◌<◌, ◌≤◌, refl, arith}
 use Rattle.plain_orders.specs.declared.act.Act.TheVariants.{Opened, Enter, Synced, Shut, Met, Told, Crash, Issue, Broke, Tick, Lose, Died}
 use Rattle.plain_orders.specs.declared.op.Op.TheVariants.{Set}
 use Rattle.plain_orders.specs.declared.item.Item.TheVariants.{Op}
@@ -8,6 +8,7 @@ use Rattle.plain_orders.specs.declared.entry.Entry.TheVariants.{Epoch, Opened as
 use Rattle.plain_orders.specs.declared.causes.ShutCause.TheVariants.{Replaced}
 use Rattle.plain_orders.specs.declared.causes.PairEnd.TheVariants.{App as AppEnd, Server as ServerEnd}
 use Rattle.plain_orders.specs.declared.causes.Loss.TheVariants.{Reset as ByReset, Expired as ByExpired}
+use Rattle.plain_orders.specs.declared.limits.TheConstants.{START_EPOCH_LIMIT, EPOCH_END}
 use Rattle.plain_orders.specs.Entries.{last_epoch, epoch_from, epoch_after}
 use Rattle.plain_orders.specs.Ordered.{OrderedFrom}
 use Rattle.plain_runs.specs.Plain.{start}
@@ -178,12 +179,12 @@ epochs_length m zero = refl
 epochs_length m (suc n) = omega (arith, epochs_length (m + 1) n)
 
 -- Epochs that rise by one are ordered
-pub epochs_ordered : (before : List Entry) (m n : ℕ) → last_epoch before ≡ m → m + n < 2 ^ 32 → OrderedFrom before (epochs m n)
+pub epochs_ordered : (before : List Entry) (m n : ℕ) → last_epoch before ≡ m → m + n < EPOCH_END → OrderedFrom before (epochs m n)
 epochs_ordered before m zero last low = tt
 epochs_ordered before m (suc n) last low =
     (record { is_next = omega (arith, last); in_range = omega (arith, low) }, epochs_ordered (before ++ Epoch (m + 1) ∷ []) (m + 1) n (epoch_last 0 before (m + 1)) (omega (arith, low)))
 
-pub many_opened_runs : (n : ℕ) → n ≤ 2 ^ 31 → IsRun small (many_opened n)
+pub many_opened_runs : (n : ℕ) → n ≤ START_EPOCH_LIMIT → IsRun small (many_opened n)
 many_opened_runs n low =
     run_more small start nothing (Opened 0 (epochs 0 n)) nothing_runs
     (record { fresh = refl; ordered = epochs_ordered [] 0 n refl (omega (arith, low)); low = omega (arith, low, epochs_last 0 n) })

@@ -1,9 +1,10 @@
 -- Examples of acts that are accepted, and of acts that are refused since one condition fails: the condition is named above each.
-use Rattle.std.proofs.Common.{ℕ, ◌+◌, ◌++◌, [], ◌∷◌, ◌≡◌, ◌^◌, refl, arith, rules}
+use Rattle.std.proofs.Common.{ℕ, ◌+◌, ◌++◌, [], ◌∷◌, ◌≡◌, refl, arith, rules}
 use Rattle.std.specs.Prelude.{pos, take}
 use Rattle.plain_orders.specs.declared.act.Act.TheVariants.{Opened, Enter, Synced, Back, Crash}
 use Rattle.plain_orders.specs.declared.op.Op.TheVariants.{Set, Kill, Add}
 use Rattle.plain_orders.specs.declared.entry.Entry.TheVariants.{Epoch, Opened as OpenEntry, Update, Commit, Rollback}
+use Rattle.plain_orders.specs.declared.limits.TheConstants.{START_EPOCH_LIMIT}
 use Rattle.plain_orders.specs.Entries.{last_epoch}
 use Rattle.plain_runs.specs.Plain.{start}
 use Rattle.plain_examples.specs.Leads.{small, FailsAt, nothing, epochs, opened, open_entered, issued, kept, crash_told, many_opened}
@@ -69,7 +70,7 @@ synced_examples = (
   (open_saved_runs, search rules),
 )
 
-crash_limit : (n : ℕ) → n ≡ 2 ^ 31 → FailsAt 3 (many_opened n) (Crash 0 (n + 1))
+crash_limit : (n : ℕ) → n ≡ START_EPOCH_LIMIT → FailsAt 3 (many_opened n) (Crash 0 (n + 1))
 crash_limit n same =
     let size : length (epochs 0 n) ≡ n = epochs_length 0 n in
     let last : last_epoch (epochs 0 n) ≡ n = omega (arith, epochs_last 0 n) in

@@ -1,8 +1,10 @@
 -- Examples of entries of which just one condition fails after an ordered list, so that no server opens with them: the condition is named above each.
-use Rattle.std.specs.Prelude.{ℕ, pos, List, ◌+◌, [], ◌∷◌, ◌≡◌, ◌^◌}
+use Rattle.std.specs.Prelude.{ℕ, pos, List, ◌+◌, [], ◌∷◌, ◌≡◌}
 use Rattle.plain_orders.specs.declared.entry.Entry.{Entry}
 use Rattle.plain_orders.specs.declared.entry.Entry.TheVariants.{Epoch, Opened as OpenEntry, Closed, Update, Commit, Rollback}
 use Rattle.plain_orders.specs.declared.op.Op.TheVariants.{Set, Kill, Add}
+use Rattle.plain_orders.specs.declared.limits.TheConstants.{EPOCH_END}
+use Rattle.subscript_keys.specs.declared.limits.TheConstants.{NUMBER_LIMIT}
 use Rattle.plain_orders.specs.Ordered.{IsOrdered}
 use Rattle.plain_runs.specs.Conditions.{JustFails, conditions_behind}
 use Rattle.plain_examples.specs.Leads.{epochs, long_key, long_value}
@@ -81,7 +83,7 @@ EntryExamples =
     -- is_alone of an Add
     × FailsBehind 4 one_open (Update 2 1 0 1 (Add (120 ∷ 0 ∷ []) (pos 1)))
     -- within of an Add
-    × FailsBehind 5 one_open (Update 2 1 0 0 (Add (120 ∷ 0 ∷ []) (pos 1000000000000000000)))
+    × FailsBehind 5 one_open (Update 2 1 0 0 (Add (120 ∷ 0 ∷ []) (pos NUMBER_LIMIT)))
     -- is_next of a Commit
     × FailsBehind 1 one_update (Commit 2 3 0 1)
     -- is_begun of a Commit: it is another transaction
@@ -103,4 +105,4 @@ EntryExamples =
     -- is_begun of a Rollback: it was ended
     × FailsBehind 2 one_commit (Rollback 2 3 0 1)
     -- in_range of an Epoch
-    × ((n : ℕ) → n + 1 ≡ 2 ^ 32 → FailsBehind 1 (epochs 0 n) (Epoch (n + 1)))
+    × ((n : ℕ) → n + 1 ≡ EPOCH_END → FailsBehind 1 (epochs 0 n) (Epoch (n + 1)))

@@ -8,6 +8,7 @@ use Rattle.plain_orders.specs.declared.question.Question.TheVariants.{Get, Shape
 use Rattle.plain_orders.specs.declared.refused.Refused.TheVariants.{NoTransaction, TooDeep, RollbackOnly, LockTimeout, Network}
 use Rattle.plain_orders.specs.declared.refused.ReasonName.TheVariants.{Reset, Expired, NoWay}
 use Rattle.plain_orders.specs.declared.refused.LinkName.TheVariants.{NotConnected, Normal, Trouble, Recovery}
+use Rattle.subscript_keys.specs.declared.limits.TheConstants.{NUMBER_LIMIT}
 use Rattle.subscript_keys.specs.declared.sub.Sub.TheVariants.{Text}
 use Rattle.plain_examples.specs.Leads.{Accepted, MayNotCome, FailsAt, long_key, long_text, near_key, long_value, nothing, open_saved, met, issued, kept, app_broke, met_dead}
 use Rattle.plain_examples.specs.JobLeads.{levels, level_one, level_two, updated, updated_in, updated_more, updated_next, updated_other, updated_both, updated_again, commit_issued, rollback_issued, updated_lost, updated_dead, barred, used_no_way, connect_failed, no_way_dead}
@@ -46,7 +47,7 @@ IssueExamples =
     -- key_may.within of an Add
     × FailsAt 7 met (Issue 0 5 0 1 (Op (Add long_key (pos 1))))
     -- within of an Add
-    × FailsAt 9 met (Issue 0 5 0 1 (Op (Add (120 ∷ 0 ∷ []) (pos 1000000000000000000))))
+    × FailsAt 9 met (Issue 0 5 0 1 (Op (Add (120 ∷ 0 ∷ []) (pos NUMBER_LIMIT))))
     × Accepted updated_in (Issue 0 6 0 2 (CommitItem 1))
     -- an update follows the end
     × Accepted updated_more (Issue 0 8 0 4 (CommitItem 1))

@@ -1,8 +1,9 @@
 -- Examples of acts that are accepted, and of acts that are refused since one condition fails: the condition is named above each.
-use Rattle.std.specs.Prelude.{ℕ, pos, ◌+◌, [], ◌∷◌, ◌≡◌, ◌<◌, ◌^◌}
+use Rattle.std.specs.Prelude.{ℕ, pos, ◌+◌, [], ◌∷◌, ◌≡◌, ◌<◌}
 use Rattle.plain_orders.specs.declared.act.Act.TheVariants.{Opened, Enter, Synced, Back, Crash}
 use Rattle.plain_orders.specs.declared.op.Op.TheVariants.{Set, Kill, Add}
 use Rattle.plain_orders.specs.declared.entry.Entry.TheVariants.{Epoch, Opened as OpenEntry, Closed, Update, Commit, Rollback}
+use Rattle.plain_orders.specs.declared.limits.TheConstants.{START_EPOCH_LIMIT, EPOCH_END}
 use Rattle.plain_examples.specs.Leads.{Accepted, MayNotCome, FailsAt, nothing, epochs, opened, open_entered, open_saved, met, issued, kept, server_crashed, crash_told, crash_told_closed, issued_more, issued_closed, issued_cut, issued_told, found, many_opened}
 use Rattle.plain_examples.specs.JobLeads.{added, killed, updated_in, commit_issued, commit_closed, commit_untold, commit_early, rollback_issued, rollback_closed, rollback_untold, rollback_early}
 
@@ -14,8 +15,8 @@ OpenedExamples =
     × FailsAt 0 opened (Opened 0 [])
     -- ordered
     × FailsAt 1 nothing (Opened 0 (Epoch 2 ∷ []))
-    -- low: the last Epoch is above 2^31
-    × ((n : ℕ) → 2 ^ 31 < n → n < 2 ^ 32 → FailsAt 2 nothing (Opened 0 (epochs 0 n)))
+    -- low: the last Epoch is too high
+    × ((n : ℕ) → START_EPOCH_LIMIT < n → n < EPOCH_END → FailsAt 2 nothing (Opened 0 (epochs 0 n)))
 
 -- enter
 abbrev pub EnterExamples : Type 0
@@ -108,8 +109,8 @@ CrashExamples =
     × FailsAt 1 kept (Crash 0 2)
     -- within
     × FailsAt 2 kept (Crash 0 4)
-    -- low: the last Epoch that is kept is above 2^31
-    × ((n : ℕ) → n ≡ 2 ^ 31 → FailsAt 3 (many_opened n) (Crash 0 (n + 1)))
+    -- low: the last Epoch that is kept is too high
+    × ((n : ℕ) → n ≡ START_EPOCH_LIMIT → FailsAt 3 (many_opened n) (Crash 0 (n + 1)))
 
 -- back
 abbrev pub BackExamples : Type 0

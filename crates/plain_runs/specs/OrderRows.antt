@@ -5,6 +5,7 @@ use Rattle.std.specs.Option.{option_map}
 use Rattle.plain_orders.specs.declared.entry.Entry.{Entry}
 use Rattle.plain_orders.specs.declared.entry.Entry.TheVariants.{Epoch, Opened, Closed, Update, Commit, Rollback}
 use Rattle.plain_orders.specs.declared.layout.Layout.{Layout}
+use Rattle.plain_orders.specs.declared.limits.TheConstants.{START_EPOCH_LIMIT}
 use Rattle.plain_orders.specs.Entries.{count, live, last_epoch, live_session}
 use Rattle.plain_orders.specs.Ordered.{IsOrdered}
 use Rattle.plain_runs.specs.Plain.{Server, put, current, until, issued_in, session_in}
@@ -20,7 +21,7 @@ due_of es clock round = if length (live_sessions es) == 0 then None else Some (u
 pub record OpenedMay (s : Server) (entries : List Entry) : Type 0 where
   pub fresh : s.opened ≡ false
   pub ordered : IsOrdered entries
-  pub low : last_epoch entries ≤ 2 ^ 31
+  pub low : last_epoch entries ≤ START_EPOCH_LIMIT
 
 -- the session was met, and is told of the current order
 abbrev pub is_told : Server → ℕ → Bool
@@ -60,7 +61,7 @@ pub record CrashMay (s : Server) (kept : ℕ) : Type 0 where
   pub opened : s.opened ≡ true
   pub no_less : s.synced ≤ kept
   pub within : kept ≤ length s.order
-  pub low : last_epoch (take kept s.order) ≤ 2 ^ 31
+  pub low : last_epoch (take kept s.order) ≤ START_EPOCH_LIMIT
 
 -- all that was issued in the session has entered
 abbrev pub is_counted : Server → ℕ → Bool
