@@ -17,57 +17,57 @@ pub fn entry_examples()
     ensures { EntryExamples }
 {}
 
-/// Examples of opened.
+/// Examples of a server that opens.
 pub fn opened_examples()
     ensures { OpenedExamples }
 {}
 
-/// Examples of enter.
+/// Examples of an entry that enters.
 pub fn enter_examples()
     ensures { EnterExamples }
 {}
 
-/// Examples of synced.
+/// Examples of entries that are synced.
 pub fn synced_examples()
     ensures { SyncedExamples }
 {}
 
-/// Examples of crash.
+/// Examples of a crash.
 pub fn crash_examples()
     ensures { CrashExamples }
 {}
 
-/// Examples of back.
+/// Examples of the end of a recovery round.
 pub fn back_examples()
     ensures { BackExamples }
 {}
 
-/// Examples of shut.
+/// Examples of a session that is closed.
 pub fn shut_examples()
     ensures { ShutExamples }
 {}
 
-/// Examples of met.
+/// Examples of a session that is met.
 pub fn met_examples()
     ensures { MetExamples }
 {}
 
-/// Examples of told.
+/// Examples of a session that is told of an epoch.
 pub fn told_examples()
     ensures { ToldExamples }
 {}
 
-/// Examples of broke.
+/// Examples of a connection that breaks.
 pub fn broke_examples()
     ensures { BrokeExamples }
 {}
 
-/// Examples of mended.
+/// Examples of a connection that is whole again.
 pub fn mended_examples()
     ensures { MendedExamples }
 {}
 
-/// Examples of lose.
+/// Examples of a session that is lost.
 pub fn lose_examples()
     ensures { LoseExamples }
 {}
@@ -77,57 +77,57 @@ pub fn free_act_examples()
     ensures { FreeActExamples }
 {}
 
-/// Examples of release.
+/// Examples of the release of a session's locks.
 pub fn release_examples()
     ensures { ReleaseExamples }
 {}
 
-/// Examples of grant.
+/// Examples of a lock that is granted.
 pub fn grant_examples()
     ensures { GrantExamples }
 {}
 
-/// Examples of granted.
+/// Examples of a grant that reaches its job.
 pub fn granted_examples()
     ensures { GrantedExamples }
 {}
 
-/// Examples of giveup.
+/// Examples of a lock that is given up.
 pub fn give_up_examples()
     ensures { GiveUpExamples }
 {}
 
-/// Examples of quit.
+/// Examples of a request that is given up.
 pub fn quit_examples()
     ensures { QuitExamples }
 {}
 
-/// Examples of free.
+/// Examples of a lock that goes once it was given up.
 pub fn free_examples()
     ensures { FreeExamples }
 {}
 
-/// Examples of issue.
+/// Examples of an item that is issued.
 pub fn issue_examples()
     ensures { IssueExamples }
 {}
 
-/// Examples of read.
+/// Examples of a read.
 pub fn read_examples()
     ensures { ReadExamples }
 {}
 
-/// Examples of level.
+/// Examples of a transaction level.
 pub fn level_examples()
     ensures { LevelExamples }
 {}
 
-/// Examples of done.
+/// Examples of a line that is done.
 pub fn done_examples()
     ensures { DoneExamples }
 {}
 
-/// Examples of refused.
+/// Examples of a line that is refused.
 pub fn refused_examples()
     ensures { RefusedExamples }
 {}
@@ -137,32 +137,32 @@ pub fn too_deep_examples()
     ensures { TooDeepExamples }
 {}
 
-/// Examples of counted.
+/// Examples of an increment that is answered.
 pub fn counted_examples()
     ensures { CountedExamples }
 {}
 
-/// Examples of notwhole.
+/// Examples of an increment of a value that is no whole number.
 pub fn not_whole_examples()
     ensures { NotWholeExamples }
 {}
 
-/// Examples of range.
+/// Examples of an increment past 18 digits.
 pub fn range_examples()
     ensures { RangeExamples }
 {}
 
-/// Examples of committed.
+/// Examples of a Commit that is answered.
 pub fn committed_examples()
     ensures { CommittedExamples }
 {}
 
-/// Examples of rolledback.
+/// Examples of a Rollback that is answered.
 pub fn rolled_back_examples()
     ensures { RolledBackExamples }
 {}
 
-/// Examples of reached.
+/// Examples of all that a job issued being reached.
 pub fn reached_examples()
     ensures { ReachedExamples }
 {}

@@ -140,14 +140,17 @@ module _ (n j t : ℕ) (positive : 0 < t) (is : List Issued) where
 
       go : (o : Option Issued) → slice_get is (count es n) ≡ o → option_map (entry_of n (w_of e)) o ≡ Some e → Facts (es ++ e ∷ [])
       go None g h = absurd (cc (h))
-      go (Some i) g h = (omega (arith, more, slice_get_within is (count es n) i g), λ l.
-          fold_begun es e
-          ∙ ap (λ x. begun_after (is_begun n j t (fold es).begun) x n j t) (sym (same_Some (entry_of n (w_of e) i) e h))
-          ∙ entry_begun n (w_of e) j t (is_begun n j t (fold es).begun) i positive
-          ∙ ap (λ b. item_begun j t b i) (f.1 (sym lives ∙ (sym (live-push es e n) ∙ l)))
-          ∙ sym (items_begun-push j t false (take (count es n) is) i)
-          ∙ ap (items_begun j t false) (sym (take_got is (count es n) i g))
-          ∙ ap (λ k. items_begun j t false (take k is)) (sym more))
+      go (Some i) g h = (
+        omega (arith, more, slice_get_within is (count es n) i g),
+        λ l.
+            fold_begun es e
+            ∙ ap (λ x. begun_after (is_begun n j t (fold es).begun) x n j t) (sym (same_Some (entry_of n (w_of e) i) e h))
+            ∙ entry_begun n (w_of e) j t (is_begun n j t (fold es).begun) i positive
+            ∙ ap (λ b. item_begun j t b i) (f.1 (sym lives ∙ (sym (live-push es e n) ∙ l)))
+            ∙ sym (items_begun-push j t false (take (count es n) is) i)
+            ∙ ap (items_begun j t false) (sym (take_got is (count es n) i g))
+            ∙ ap (λ k. items_begun j t false (take k is)) (sym more),
+      )
 
   opens : (es : List Entry) (app : ℕ) (s : ℕ) → IsOrdered es → s ≡ length es + 1 → Facts es → Facts (es ++ OpenedEntry s app ∷ [])
   opens es app s o place f = go (eqb s n) refl

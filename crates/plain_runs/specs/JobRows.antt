@@ -170,7 +170,7 @@ pub record ReachedMay (s : Server) (app job at : ℕ) : Type 0 where
 abbrev pub is_near : ℕ → ℕ → Bool
 is_near old level = (level == old + 1 || level + 1 == old) || level == 0
 
--- in a session with updates of the job's open transaction a Commit or Rollback of the job was issued at this line
+-- where the session has updates of the job's open transaction, a Commit or Rollback of the job was issued in it at this line
 abbrev pub is_ended : Server → ℕ → ℕ → Job → ℕ → Bool
 is_ended s app job x line =
     (not (has_session s app) || not (nat_lt 0 x.level && list_any (is_update_of job x.txn) (pair_issued s app)))

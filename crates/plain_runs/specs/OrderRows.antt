@@ -27,7 +27,7 @@ pub record OpenedMay (s : Server) (entries : List Entry) : Type 0 where
 abbrev pub is_told : Server → ℕ → Bool
 is_told s n = is_some (s.session_at n) && (session_in s n).told == current s
 
--- an Open at the end; an Open that says more is judged by the layout and the clock too
+-- an Open at the end; the layout and the clock are there for a form of Open that says more
 pub record OpenMay (layout : Layout) (clock : ℕ) (s : Server) (session app : ℕ) : Type 0 where
   pub opened : s.opened ≡ true
   pub place : session ≡ length s.order + 1
