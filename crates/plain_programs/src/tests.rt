@@ -1,6 +1,6 @@
 ghost use Rattle.std.specs.Prelude.{◌≡◌, IfOk};
 ghost use Rattle.plain_orders.specs.Spans.{IsAlone};
-ghost use Rattle.plain_programs.specs.Keys.{HasKeys};
+ghost use Rattle.plain_orders.specs.Keys.{HasKeys};
 
 use super::*;
 use plain_orders::{Applied, Entry, Op, Spans, Sum};
