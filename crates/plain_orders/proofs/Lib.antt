@@ -10,3 +10,4 @@ pub mod PastLemmas
 pub mod FrontLemmas
 pub mod Locality
 pub mod Values
+pub mod UndoValues

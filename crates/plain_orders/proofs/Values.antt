@@ -19,7 +19,7 @@ use Rattle.plain_orders.specs.PairMap.{Map, key_cmp, put, is_under, within, remo
 use Rattle.plain_orders.specs.Fold.{op_after, sum_with, with_sum}
 use Rattle.plain_orders.proofs.Locality.{in_span}
 
-equal_from : (r : Ordering) → is_eq r ≡ true → r ≡ Equal
+pub equal_from : (r : Ordering) → is_eq r ≡ true → r ≡ Equal
 equal_from Less e = absurd (cc)
 equal_from Equal e = refl
 equal_from Greater e = absurd (cc)
@@ -28,7 +28,8 @@ module _ (key : List ℕ) where
   abbrev test : List ℕ → Bool
   test = is_at (key_cmp key)
 
-  its_key : (k : List ℕ) → test k ≡ true → key ≡ k
+  -- the key that passes its test is it
+  pub its_key : (k : List ℕ) → test k ≡ true → key ≡ k
   its_key k e = exact_bytes key k (equal_from (key_cmp key k) e)
 
   -- after a pair was put

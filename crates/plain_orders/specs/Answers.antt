@@ -11,10 +11,6 @@ use Rattle.plain_orders.specs.declared.sum.Sum.TheVariants.{Nothing}
 use Rattle.plain_orders.specs.PairMap.{Map, key_cmp, is_under, is_below, value_at}
 use Rattle.plain_orders.specs.Fold.{fold, op_sum}
 
--- the value of a node
-abbrev pub value_on : List Entry → List ℕ → Option (List ℕ)
-value_on es key = value_at (fold es).pairs key
-
 -- whether a pair is below the node
 abbrev pub is_descendant : List ℕ → List ℕ × List ℕ → Bool
 is_descendant node p = is_below node p.0

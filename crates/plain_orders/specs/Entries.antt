@@ -1,5 +1,5 @@
 -- Lists of entries, oldest first: running numbers, live sessions, epochs.
-use Rattle.std.specs.Prelude.{◌≡◌, ℕ, zero, suc, Bool, true, false, ◌==◌, max, if◌then◌else◌, List, [], ◌∷◌, Option, Some, None, take, slice_get}
+use Rattle.std.specs.Prelude.{ℕ, zero, suc, Bool, true, false, ◌==◌, max, if◌then◌else◌, List, [], ◌∷◌, Option, Some, None, take, slice_get}
 use Rattle.std.specs.List.{list_any}
 use Rattle.plain_orders.specs.declared.entry.Entry.{Entry}
 use Rattle.plain_orders.specs.declared.entry.Entry.TheVariants.{Epoch, Opened, Closed, Update, Commit, Rollback}
@@ -98,7 +98,3 @@ closes s (Rollback session w job txn) = false
 -- a Close of the session stands among the first d entries
 abbrev pub closed_by : List Entry → ℕ → ℕ → Bool
 closed_by es s d = list_any (closes s) (take d es)
-
--- the same as a fact
-abbrev pub IsClosedBy : List Entry → ℕ → ℕ → Type 0
-IsClosedBy es s d = closed_by es s d ≡ true
