@@ -89,8 +89,8 @@ pub record GetIs (s : Server) (app job n : ℕ) (via : Via) (key : List ℕ) (va
   pub by : is_own via ≡ touches_own (own_behind s app job n) key
   pub node : KeyMay key
 
--- data wants that the job's own updates have entered
-pub record DataIs (s : Server) (app job n : ℕ) (via : Via) (key : List ℕ) (code : ℕ) : Type 0 where
+-- a shape wants that the job's own updates have entered
+pub record ShapeIs (s : Server) (app job n : ℕ) (via : Via) (key : List ℕ) (code : ℕ) : Type 0 where
   pub result : code ≡ data_on (take n (told_order s app)) key
   pub by : is_own via ≡ false
   pub entered : own_behind s app job n ≡ []
@@ -117,7 +117,7 @@ pub record NextIs (s : Server) (app job n : ℕ) (via : Via) (parent : List ℕ)
 -- what a read is answered
 abbrev pub AnswerIs : Server → ℕ → ℕ → ℕ → Via → Question → Type 0
 AnswerIs s app job n via (Get key value) = GetIs s app job n via key value
-AnswerIs s app job n via (Shape key code) = DataIs s app job n via key code
+AnswerIs s app job n via (Shape key code) = ShapeIs s app job n via key code
 AnswerIs s app job n via (Next parent sub found) = NextIs s app job n via parent sub found
 
 -- a read is answered on a prefix that is no shorter than what the job has seen
