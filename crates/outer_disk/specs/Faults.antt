@@ -1,7 +1,7 @@
 -- Which calls of a disk in memory fail, and how often one did.
 use Rattle.std.specs.Prelude.{ℕ, zero, suc, ◌+◌, Bool, true, false, ◌||◌, if◌then◌else◌, List, Option, Some, None}
 use Rattle.outer_io.specs.Plan.{Plan, is_due, after_call, one_more}
-use Rattle.outer_io.specs.Told.{fresh_plan}
+use Rattle.outer_io.specs.InMemory.{fresh_plan}
 use Rattle.outer_disk.specs.declared.halt.Halt.{Halt}
 use Rattle.outer_disk.specs.declared.halt.Halt.TheVariants.{Never, AtWrite, Now}
 

@@ -1,5 +1,5 @@
 ghost use Rattle.std.specs.Prelude.{◌≡◌, [], length};
-ghost use Rattle.outer_io.specs.Told.{fresh_plan};
+ghost use Rattle.outer_io.specs.InMemory.{fresh_plan};
 
 use crate::fault_plan::FaultPlan;
 use crate::sink::Sink;
@@ -15,7 +15,7 @@ pub struct MemSink {
 }
 
 impl Model for MemSink {
-    ghost use Rattle.outer_io.specs.Told.{SinkState};
+    ghost use Rattle.outer_io.specs.InMemory.{SinkState};
 
     ghost Value = { SinkState };
 

@@ -1,6 +1,6 @@
 ghost use Rattle.std.specs.Prelude.{◌≡◌, IfOk, if◌then◌else◌, length};
 ghost use Rattle.outer_io.specs.Plan.{is_due};
-ghost use Rattle.outer_io.specs.Told.{fresh_plan};
+ghost use Rattle.outer_io.specs.InMemory.{fresh_plan};
 ghost use Rattle.outer_link.specs.Counts.{NoneFell, no_counts, with_fault};
 ghost use Rattle.outer_link.specs.NetState.{called};
 ghost use Rattle.outer_link.specs.Told.{fresh_told};
