@@ -126,7 +126,7 @@ scan_past bytes from at so_far past = scan_end bytes from at so_far (nothing_ahe
 pub scan_fault : (bytes : List ℕ) (from at n : ℕ) (e : FrameError) → ((more : List ℕ) → fault_in (drop from (bytes ++ more)) ≡ fault_in (drop at (bytes ++ more))) → length_ahead (drop at bytes) ≡ Some n → refusal n ≡ Some e → fault_in (drop from bytes) ≡ Some e
 scan_fault bytes from at n e so_far is bad = scan_to bytes from at so_far ∙ fault_here (drop at bytes) n e is bad
 
--- a refused length is no want of memory
+-- a refused length is not a lack of memory
 pub refusal_is : (n : ℕ) (e : FrameError) → refusal n ≡ Some e → e ≢ Memory
 refusal_is n e is = empty (eqb n 0) is
   where

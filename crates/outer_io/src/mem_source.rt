@@ -7,7 +7,7 @@ use crate::stops::Failed;
 use std::marker::Model;
 
 /// A source over memory. It tells what it has left, and fails at the listed calls.
-#[derive(Debug, Drop)]
+#[derive(Drop)]
 pub struct MemSource {
     bytes: Vec<u8>,
     taken: usize,

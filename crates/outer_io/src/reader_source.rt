@@ -4,7 +4,7 @@ use crate::stops::Failed;
 use std::io::Read;
 
 /// A source over a reader, which it asks again after an interruption. It tells nothing of what the reader has.
-#[derive(Debug, Drop)]
+#[derive(Drop)]
 pub struct ReaderSource<R> {
     reader: R,
     faults: u64,

@@ -4,7 +4,7 @@ use crate::stops::Stop;
 use std::io::{ErrorKind, Write};
 
 /// A sink over a writer, which it asks again after an interruption. It tells nothing of what the writer holds.
-#[derive(Debug, Drop)]
+#[derive(Drop)]
 pub struct WriterSink<W> {
     writer: W,
     faults: u64,

@@ -16,7 +16,7 @@ use std::marker::Model;
 
 /// A net in memory, with both ends of each connection. It tells all, never holds back what is there, and
 /// fails at the listed calls, and at a connect that can't be made. The calls that may fail are counted from 0.
-#[derive(Debug, Drop)]
+#[derive(Drop)]
 pub struct MemNet {
     table: ConnTable,
     counts: NetCounts,
