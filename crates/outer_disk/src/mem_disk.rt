@@ -413,7 +413,7 @@ mod tests {
     }
 
     #[test]
-    fn a_crash_behind_a_cut(rt: HostRuntime) -> Result<(), Fail> {
+    fn a_crash_after_a_cut(rt: HostRuntime) -> Result<(), Fail> {
         let alloc = rt.alloc();
         let images: [(u64, &[u8]); 4] = [
             (0, b"abcdef"),
@@ -432,7 +432,7 @@ mod tests {
     }
 
     #[test]
-    fn listed_calls_and_those_behind_a_stop_do_nothing(rt: HostRuntime) -> Result<(), Fail> {
+    fn listed_calls_and_those_after_a_stop_do_nothing(rt: HostRuntime) -> Result<(), Fail> {
         let alloc = rt.alloc();
         let mut disk = disk_with(alloc, "abc", &[0, 2, 4, 6, 8], Some(2))?;
         assert_eq!(rt; len(&mut disk), Err(Failed));

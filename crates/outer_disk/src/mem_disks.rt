@@ -51,7 +51,7 @@ fn empty(alloc: Global) -> MemDisk
     MemDisk::new(alloc, Vec::new(alloc), Vec::new(alloc), None)
 }
 
-/// Puts empty disks behind those that stand there, until there are 16.
+/// Puts empty disks after those that stand there, until there are 16.
 fn fill_up(alloc: Global, places: &mut Vec<Option<MemDisk>>) -> Result<(), AllocError>
     requires { vec_len places.old ≤ 16 }
     ensures { OnOk result (places.new.items
