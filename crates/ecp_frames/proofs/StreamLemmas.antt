@@ -138,11 +138,6 @@ refusal_is n e is = empty (eqb n 0) is
     empty true was memory = cc
     empty false was memory = long (ltb 16384 n) was memory
 
--- the lengths looked at on both sides of a feed
-pub boundary_fed : (held piece : List ℕ) (checked at : ℕ) → IsBoundary held checked → ((more : List ℕ) → fault_in (drop checked ((held ++ piece) ++ more)) ≡ fault_in (drop at ((held ++ piece) ++ more))) → IsBoundary (held ++ piece) at
-boundary_fed held piece checked at is so_far = λ more.
-    ap (λ (xs : List ℕ). fault_in xs) (append_assoc held piece more) ∙ is (piece ++ more) ∙ ap (λ (xs : List ℕ). fault_in (drop checked xs)) (sym (append_assoc held piece more)) ∙ so_far more
-
 -- behind the first frame the lengths looked at stay looked at
 pub boundary_behind : (held : List ℕ) (n checked : ℕ) → length_ahead held ≡ Some n → refusal n ≡ None → 4 + n ≤ length held → IsBoundary held checked → IsBoundary (drop (4 + n) held) (checked - (4 + n))
 boundary_behind held n checked is good within boundary = λ more. ⊎_elim (λ (h : checked < 4 + n). rw (nothing_left h) refl) (passed more) (cases_lt checked (4 + n))

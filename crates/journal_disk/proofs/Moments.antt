@@ -1,6 +1,5 @@
 -- How what a crash leaves goes on from call to call.
-use Rattle.std.proofs.Common.{◌≡◌, inl, inr, ⊎_elim, ℕ, ◌≤◌, List, Option, Some, None, IfSome, option_map, is_some, refl, ap, ◌∙◌, subst, arith}
-use Rattle.outer_io.specs.Causes.{Rose}
+use Rattle.std.proofs.Common.{◌≡◌, inl, inr, ⊎_elim, ℕ, List, Option, Some, None, IfSome, option_map, is_some, refl, ap, ◌∙◌, subst, arith}
 use Rattle.outer_disk.specs.Disk.{Elapses, LeavesOnly, LeavesNoMore, Matched}
 use Rattle.journal_disk.specs.Moments.{HasSynced, IsKept}
 use Rattle.outer_disk.proofs.Runs.{started, goes_on}
@@ -27,13 +26,6 @@ mapped_telling f (Some x) p e = ap is_some e
 pub still_none : (o p : Option (List ℕ)) → is_some p ≡ is_some o → o ≡ None → p ≡ None
 still_none o None e none = refl
 still_none o (Some y) e none = absurd (cc (e, none))
-
--- a count that rose in a part of a call rose in it
-pub rose_later : (a b c : ℕ) → Rose a b → b ≤ c → Rose a c
-rose_later a b c rose le = omega (arith, rose, le)
-
-pub rose_before : (a b c : ℕ) → a ≤ b → Rose b c → Rose a c
-rose_before a b c le rose = omega (arith, rose, le)
 
 module _ {D : Type 0} (moment : D → ℕ) (left_since : D → ℕ → List ℕ → Type 0) (may_leave : D → List ℕ → Type 0) where
   abbrev pub OnlyNow : D → Type 0
