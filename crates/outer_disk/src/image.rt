@@ -156,12 +156,7 @@ pub(crate) fn picked_image(
     let mut image = Vec::with_capacity(alloc, bytes.len())?;
     let mut number = pick;
     for place in 0..bytes.len() {
-        let (next, byte) = picked_byte(
-            number,
-            marks[place],
-            bytes[place],
-            byte_at(synced, place),
-        );
+        let (next, byte) = picked_byte(number, marks[place], bytes[place], byte_at(synced, place));
         number = next;
         image.push(byte)?;
     }
