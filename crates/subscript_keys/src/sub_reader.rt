@@ -2,6 +2,7 @@ ghost use Rattle.std.specs.Prelude.{◌≡◌, ◌≢◌, ◌↔◌, ◌+◌, �
 ghost use Rattle.std.specs.Int.Digits.{number_from_digits, number_from_digits_after};
 ghost use Rattle.subscript_keys.specs.declared.decimal.Decimal.{Decimal};
 ghost use Rattle.subscript_keys.specs.declared.sub.Sub.{Sub};
+ghost use Rattle.subscript_keys.specs.declared.limits.TheConstants.{DIGIT_LIMIT};
 ghost use Rattle.subscript_keys.specs.Decimal.{IsDecimal, IsShort};
 ghost use Rattle.subscript_keys.specs.Key.{decimal_bytes, text_bytes, sub_bytes, ArePlaces, BeginsWithNoPlace, IsPositive, IsNegative, IsSub, IsText, escaped};
 
@@ -21,14 +22,14 @@ fn is_short(number: &Decimal) -> bool
         return false;
     }
     let exponent = i16::from(number.exponent);
-    if exponent > 18 {
+    if exponent > DIGIT_LIMIT as i16 {
         return false;
     }
     let count = Digits::of(number.digits).as_slice().len();
     if count > DIGIT_LIMIT {
         return false;
     }
-    if count as i16 - exponent > 18 {
+    if count as i16 - exponent > DIGIT_LIMIT as i16 {
         return false;
     }
     true
@@ -51,7 +52,7 @@ fn split_places(bytes: &[u8]) -> (&[u8], &[u8])
 /// The number of a positive number's digits.
 fn raised_value(places: &[u8]) -> u64
     requires places { ArePlaces places.now }
-    requires count { length places.now ≤ 18 }
+    requires count { length places.now ≤ DIGIT_LIMIT }
     ensures { result ≡ number_from_digits 10 (map (λ b. b - 1) places.now) }
 {
     let mut value = 0;
@@ -64,7 +65,7 @@ fn raised_value(places: &[u8]) -> u64
 /// The number of a negative number's digits.
 fn lowered_value(places: &[u8]) -> u64
     requires places { ArePlaces places.now }
-    requires count { length places.now ≤ 18 }
+    requires count { length places.now ≤ DIGIT_LIMIT }
     ensures { result ≡ number_from_digits 10 (map (λ b. 10 - b) places.now) }
 {
     let mut value = 0;
