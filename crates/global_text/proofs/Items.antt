@@ -28,6 +28,6 @@ item-some b item (inr (inl (n, e))) = omega (arith, ap length e)
 item-some b item (inr (inr (inl (n, e)))) = omega (arith, ap length e)
 item-some b item (inr (inr (inr (n, e)))) = omega (arith, ap length e)
 
--- so less is left behind it
+-- so less is left after it
 pub taken_shorter : (b : ℕ) (text rest : List ℕ) → Takes b text rest → length rest < length text
 taken_shorter b text rest (item, is, e) = omega (arith, item-some b item is, ap length e, length-append item rest)

@@ -1,6 +1,7 @@
 -- Nodes that are read from the left.
 use Rattle.std.proofs.Common.{◌≡◌, ℕ, ◌+◌, ◌<◌, ◌≤◌, List, [], ◌∷◌, ◌++◌, length, refl, sym, ap, subst, inl, inr, arith, length-append}
 use Rattle.subscript_keys.specs.declared.sub.Sub.{Sub}
+use Rattle.subscript_keys.specs.declared.limits.TheConstants.{GLOBAL_NAME_LIMIT}
 use Rattle.subscript_keys.specs.Key.{sub_bytes, IsName}
 use Rattle.global_text.specs.Strings.{ReadsString}
 use Rattle.global_text.specs.Nodes.{ReadsSub, ReadsSubs, key_length, BeforeSub, BehindSub}
@@ -8,10 +9,10 @@ use Rattle.global_text.specs.declared.text_error.TextError.{TextError}
 use Rattle.global_text.specs.Faults.{HasSubFault, HasMarkFault, StopsBehind}
 use Rattle.global_text.proofs.KeyLengths.{subs-length}
 
--- a name has at most 31 bytes
-pub name-short : (name : List ℕ) → IsName name → length name ≤ 31
+-- a name has at most GLOBAL_NAME_LIMIT bytes
+pub name-short : (name : List ℕ) → IsName name → length name ≤ GLOBAL_NAME_LIMIT
 name-short [] is = absurd is
-name-short (c ∷ name) is = let short : length name ≤ 30 = is.2 in omega arith
+name-short (c ∷ name) is = omega (arith, is.2)
 
 -- no subscript yet
 pub before-none : (name list : List ℕ) → IsName name → BeforeSub (94 ∷ (name ++ 40 ∷ list)) name [] list
@@ -36,7 +37,7 @@ before-next text name place next subs s key longer before e is k within = (
   omega (arith, longer-key name subs s),
 )
 
--- less is left behind a string and a byte
+-- less is left after a string and a byte
 pub string-shorter : (s text next : List ℕ) (c : ℕ) → ReadsString s text (c ∷ next) → length next < length text
 string-shorter s text next c (inl (is, e, n)) = omega (arith, ap length e, length-append s (c ∷ next))
 string-shorter s text next c (inr ((items, is, e), n)) = omega (arith, ap length e, length-append items (34 ∷ c ∷ next))
@@ -45,6 +46,6 @@ string-shorter s text next c (inr ((items, is, e), n)) = omega (arith, ap length
 pub fault-before : (text name rest : List ℕ) (subs : List Sub) (key : ℕ) (error : TextError) → BeforeSub text name subs rest → key ≡ key_length name subs → HasSubFault key rest error → StopsBehind text name subs error
 fault-before text name rest subs key error before e fault = (rest, inl (before, subst (λ (k : ℕ). HasSubFault k rest error) e fault))
 
--- a fault behind one
+-- a fault after one
 pub fault-behind : (text name rest : List ℕ) (subs : List Sub) (error : TextError) → BehindSub text name subs rest → HasMarkFault rest error → StopsBehind text name subs error
 fault-behind text name rest subs error behind fault = (rest, inr (behind, fault))

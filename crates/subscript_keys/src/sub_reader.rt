@@ -75,7 +75,7 @@ fn lowered_value(places: &[u8]) -> u64
     value
 }
 
-/// The text behind its tag, and what follows its end; none where it doesn't end.
+/// The text after its tag, and what follows its end; none where it doesn't end.
 fn take_text(alloc: Global, bytes: &[u8]) -> Result<Option<(Vec<u8>, &[u8])>, AllocError>
     ensures some { IfOk result (λ taken. IfSome taken (λ t.
         bytes.now ≡ escaped t.0.items ++ 0 ∷ 1 ∷ t.1.now)) }
@@ -163,7 +163,7 @@ fn negative_number(exponent: u8, places: &[u8]) -> Option<Decimal>
     Some(number)
 }
 
-/// A positive number behind its tag, and what follows it.
+/// A positive number after its tag, and what follows it.
 fn take_positive(bytes: &[u8]) -> Option<(Decimal, &[u8])>
     ensures some { IfSome result (λ taken. IsDecimal taken.0 ×
         (0x30 ∷ bytes.now ≡ decimal_bytes taken.0 ++ taken.1.now)) }
@@ -180,7 +180,7 @@ fn take_positive(bytes: &[u8]) -> Option<(Decimal, &[u8])>
     Some((number, rest))
 }
 
-/// A negative number behind its tag, and what follows it.
+/// A negative number after its tag, and what follows it.
 fn take_negative(bytes: &[u8]) -> Option<(Decimal, &[u8])>
     ensures some { IfSome result (λ taken. IsDecimal taken.0 ×
         (0x10 ∷ bytes.now ≡ decimal_bytes taken.0 ++ taken.1.now)) }
@@ -219,7 +219,7 @@ fn take_number(bytes: &[u8]) -> Option<(Decimal, &[u8])>
     None
 }
 
-/// A subscript that is a text, behind its tag, and what follows it.
+/// A subscript that is a text, after its tag, and what follows it.
 fn take_text_sub(alloc: Global, bytes: &[u8]) -> Result<Option<(Sub, &[u8])>, AllocError>
     ensures some { IfOk result (λ taken. IfSome taken (λ t. IsSub t.0 ×
         (0x40 ∷ bytes.now ≡ sub_bytes t.0 ++ t.1.now))) }
