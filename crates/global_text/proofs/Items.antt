@@ -1,5 +1,5 @@
 -- Items of quoted strings: which byte they stand for, and where they end.
-use Rattle.std.proofs.Common.{◌≡◌, ◌≢◌, ℕ, ◌+◌, ◌*◌, ◌/◌, ◌%◌, ◌<◌, List, [], ◌∷◌, ◌++◌, length, refl, ap, ◌∙◌, inl, inr, arith, length-append}
+use Rattle.std.proofs.Common.{◌≡◌, ◌≢◌, ℕ, ◌+◌, ◌*◌, ◌/◌, ◌%◌, ◌<◌, List, [], ◌∷◌, ◌++◌, length, refl, ap, ◌∙◌, inl, inr, arith}
 use Rattle.global_text.specs.Strings.{hex_digit, IsItem}
 
 -- an item for the byte begins the text, and rest follows
@@ -27,7 +27,3 @@ item-some b item (inl (n, e)) = omega (arith, ap length e)
 item-some b item (inr (inl (n, e))) = omega (arith, ap length e)
 item-some b item (inr (inr (inl (n, e)))) = omega (arith, ap length e)
 item-some b item (inr (inr (inr (n, e)))) = omega (arith, ap length e)
-
--- so less is left after it
-pub taken_shorter : (b : ℕ) (text rest : List ℕ) → Takes b text rest → length rest < length text
-taken_shorter b text rest (item, is, e) = omega (arith, item-some b item is, ap length e, length-append item rest)
