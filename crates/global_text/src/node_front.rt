@@ -13,7 +13,7 @@ use std::alloc::Global;
 use subscript_keys::{Name, Subs};
 
 /// As much of a node as a text begins with: its name, the subscripts that are read, and how the reading ended.
-#[derive(Debug, Drop)]
+#[derive(Drop)]
 pub struct NodeFront {
     pub name: Name,
     /// All of them, or those in front of the fault.
