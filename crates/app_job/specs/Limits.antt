@@ -1,7 +1,8 @@
 -- Which commands a job may be given.
-use Rattle.std.specs.Prelude.{ℕ, ◌<◌, ◌≤◌, ◌^◌, [], ◌++◌, length, Option, None, Some, IfSome, unsigned_abs}
+use Rattle.std.specs.Prelude.{ℕ, ◌<◌, ◌≤◌, [], ◌++◌, length, Option, None, Some, IfSome, unsigned_abs}
 use Rattle.subscript_keys.specs.declared.sub.Sub.{Sub}
 use Rattle.subscript_keys.specs.declared.sub.Sub.TheVariants.{Text}
+use Rattle.subscript_keys.specs.declared.limits.TheConstants.{NUMBER_LIMIT, VALUE_LIMIT}
 use Rattle.subscript_keys.specs.Key.{IsSub, IsWithinLimit, sub_bytes}
 use Rattle.app_job.specs.Sites.{Site, IsSite}
 use Rattle.app_job.specs.declared.command.Command.{Command}
@@ -19,12 +20,12 @@ IsWait ticks = (1 ≤ ticks) × (ticks ≤ 10000)
 
 -- keys, values and numbers are within their limits
 abbrev pub CommandMay : Command → Type 0
-CommandMay (Set at value) = IsSite at × (length value ≤ 3000)
+CommandMay (Set at value) = IsSite at × (length value ≤ VALUE_LIMIT)
 CommandMay (Kill at) = IsSite at
 CommandMay (Get at) = IsSite at
 CommandMay (Shape at) = IsSite at
 CommandMay (Next parent sub) = IsSite parent × NextMay parent sub
-CommandMay (Incr at amount) = IsSite at × (unsigned_abs amount < 10 ^ 18)
+CommandMay (Incr at amount) = IsSite at × (unsigned_abs amount < NUMBER_LIMIT)
 CommandMay (Lock at mode wait) = IsSite at × IfSome wait IsWait
 CommandMay (Unlock at mode now) = IsSite at
 CommandMay Start = Unit {0}
