@@ -1,7 +1,6 @@
 -- Which commands a job may be given.
-use Rattle.std.specs.Prelude.{ℕ, ◌<◌, ◌≤◌, [], ◌++◌, length, Option, None, Some, IfSome, unsigned_abs}
+use Rattle.std.specs.Prelude.{ℕ, ◌<◌, ◌≤◌, ◌++◌, length, Option, None, Some, IfSome, unsigned_abs}
 use Rattle.subscript_keys.specs.declared.sub.Sub.{Sub}
-use Rattle.subscript_keys.specs.declared.sub.Sub.TheVariants.{Text}
 use Rattle.subscript_keys.specs.declared.limits.TheConstants.{NUMBER_LIMIT, VALUE_LIMIT}
 use Rattle.subscript_keys.specs.Key.{IsSub, IsWithinLimit, sub_bytes}
 use Rattle.app_job.specs.Sites.{Site, IsSite}
