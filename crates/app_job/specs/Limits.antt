@@ -1,18 +1,15 @@
 -- Which commands a job may be given.
-use Rattle.std.specs.Prelude.{ℕ, ◌<◌, ◌≤◌, [], ◌++◌, length, Option, None, Some, IfSome, unsigned_abs}
+use Rattle.std.specs.Prelude.{ℕ, ◌<◌, ◌≤◌, ◌++◌, length, Option, None, Some, IfSome, unsigned_abs}
 use Rattle.subscript_keys.specs.declared.sub.Sub.{Sub}
-use Rattle.subscript_keys.specs.declared.sub.Sub.TheVariants.{Text}
 use Rattle.subscript_keys.specs.declared.limits.TheConstants.{NUMBER_LIMIT, VALUE_LIMIT}
 use Rattle.subscript_keys.specs.Key.{IsSub, IsWithinLimit, sub_bytes}
 use Rattle.app_job.specs.Sites.{Site, IsSite}
 use Rattle.app_job.specs.declared.command.Command.{Command}
 use Rattle.app_job.specs.declared.command.Command.TheVariants.{Set, Kill, Get, Shape, Next, Incr, Lock, Unlock, Start, Commit, Rollback, Sync}
 
--- the subscript behind which a next looks has its form, and the key with it is within the limit; so is the key with the empty
--- text where a next stands before the first
+-- the subscript after which a next looks, if it looks after one, has its form, and the key with it is within the limit
 abbrev pub NextMay : Site → Option Sub → Type 0
-NextMay parent None = IsWithinLimit (parent.key ++ sub_bytes (Text []))
-NextMay parent (Some sub) = IsSub sub × IsWithinLimit (parent.key ++ sub_bytes sub)
+NextMay parent sub = IfSome sub (λ s. IsSub s × IsWithinLimit (parent.key ++ sub_bytes s))
 
 -- how many ticks a job may wait for a grant
 abbrev pub IsWait : ℕ → Type 0

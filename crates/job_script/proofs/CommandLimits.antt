@@ -52,7 +52,7 @@ server-below count (g ∷ globals) name server all e = either (is_same g.name na
     either true own other below rest e = let same : own ≡ server = cc in subst (λ (n : ℕ). n < count) same below
     either false own other below rest e = rest e
 
--- the key with the subscript behind which a next looks is within the limit
+-- the key with the subscript after which a next looks is within the limit
 asked-within : (parent : Site) (last : Sub) → key_of parent.node ≡ parent.key → key_length parent.node.name (parent.node.subs ++ last ∷ []) ≤ 500 → IsWithinLimit (parent.key ++ sub_bytes last)
 unfolding key_of
 asked-within parent last e within =
@@ -60,7 +60,7 @@ asked-within parent last e within =
 
 next-may : (parent : Site) (last : Sub) → HasForm last → HasBytes last → IsWithinLimit (parent.key ++ sub_bytes last) → NextMay parent (asked last)
 next-may parent (Num number) form bytes within = (form, within)
-next-may parent (Text []) form bytes within = within
+next-may parent (Text []) form bytes within = tt
 next-may parent (Text (b ∷ text)) form bytes within = (record { some = λ e. cc; no_number = form; bytes = bytes }, within)
 
 last-form : (subs : List Sub) (last : Sub) → AllByRecursion HasForm (subs ++ last ∷ []) → HasForm last

@@ -8,7 +8,6 @@ use Rattle.plain_orders.specs.declared.item.Item.TheVariants.{Op, Commit, Rollba
 use Rattle.plain_orders.specs.declared.via.Via.{Via}
 use Rattle.plain_orders.specs.declared.via.Via.TheVariants.{Own, Cached, Fetched}
 use Rattle.subscript_keys.specs.declared.sub.Sub.{Sub}
-use Rattle.subscript_keys.specs.declared.sub.Sub.TheVariants.{Text}
 use Rattle.subscript_keys.specs.Key.{IsKey, IsWithinLimit, sub_bytes}
 use Rattle.plain_orders.specs.declared.question.Question.{Question}
 use Rattle.plain_orders.specs.declared.question.Question.TheVariants.{Get, Shape, Next}
@@ -96,23 +95,18 @@ pub record ShapeIs (s : Server) (app job n : ℕ) (via : Via) (key : List ℕ) (
   pub entered : own_behind s app job n ≡ []
   pub node : KeyMay key
 
--- the node that a next asks for; an empty last subscript is left out
+-- the node after which a next looks; before the first subscript it is the parent
 abbrev pub asked_key : List ℕ → Option Sub → List ℕ
 asked_key parent None = parent
 asked_key parent (Some sub) = parent ++ sub_bytes sub
 
--- the bytes that its limit counts, an empty last subscript among them
-abbrev pub asked_bytes : List ℕ → Option Sub → List ℕ
-asked_bytes parent None = parent ++ sub_bytes (Text [])
-asked_bytes parent (Some sub) = parent ++ sub_bytes sub
-
--- so does next, within the limit that counts an empty last subscript too
+-- so does next, and the node after which it looks is within the limit
 pub record NextIs (s : Server) (app job n : ℕ) (via : Via) (parent : List ℕ) (sub found : Option Sub) : Type 0 where
   pub result : IsNextOn (take n (told_order s app)) parent sub found
   pub by : is_own via ≡ false
   pub entered : own_behind s app job n ≡ []
   pub node : IsKey (asked_key parent sub)
-  pub within : IsWithinLimit (asked_bytes parent sub)
+  pub within : IsWithinLimit (asked_key parent sub)
 
 -- what a read is answered
 abbrev pub AnswerIs : Server → ℕ → ℕ → ℕ → Via → Question → Type 0
