@@ -16,9 +16,9 @@ use Rattle.plain_orders.specs.declared.layout.Layout.{Layout}
 use Rattle.plain_orders.specs.Fold.{Folded, fold_step, nothing_folded, op_after}
 use Rattle.plain_orders.specs.Ordered.{OpMay}
 use Rattle.plain_orders.specs.PairMap.{Map, is_under}
-use Rattle.plain_programs.specs.Keys.{HasKeys}
-use Rattle.plain_programs.proofs.OrderKeys.{put_keys}
-use Rattle.plain_programs.proofs.KeyLemmas.{child_key}
+use Rattle.plain_orders.specs.Keys.{HasKeys}
+use Rattle.plain_orders.proofs.OrderKeys.{put_keys}
+use Rattle.plain_orders.proofs.NodeKeys.{child_key}
 use Rattle.plain_runs.specs.Items.{is_change_op}
 use Rattle.plain_runs.specs.JobRows.{asked_key, asked_bytes}
 use Rattle.plain_orders.specs.declared.question.Question.TheVariants.{Next as NextQuestion}

@@ -12,11 +12,11 @@ use Rattle.plain_orders.specs.Entries.{count, live}
 use Rattle.plain_orders.specs.Fold.{Folded, fold}
 use Rattle.subscript_keys.specs.Key.{IsKey, IsSub, IsWithinLimit}
 use Rattle.plain_orders.specs.declared.question.Question.{Question}
-use Rattle.plain_orders.specs.declared.question.Question.TheVariants.{Get as GetQuestion, Data as DataQuestion, Next as NextQuestion}
+use Rattle.plain_orders.specs.declared.question.Question.TheVariants.{Get as GetQuestion, Shape as ShapeQuestion, Next as NextQuestion}
 use Rattle.plain_orders.specs.Answers.{data_at, next_key, IsSubIn}
 use Rattle.plain_orders.specs.Ordered.{KeyMay}
 use Rattle.plain_orders.specs.PairMap.{Map, value_at}
-use Rattle.plain_programs.specs.Keys.{HasKeys}
+use Rattle.plain_orders.specs.Keys.{HasKeys}
 use Rattle.plain_runs.specs.JobRows.{asked_key, asked_bytes}
 use Rattle.plain_runs.specs.Plain.{Plain, Server, Session}
 use Rattle.plain_runs.specs.Recording.{state_of}
@@ -122,7 +122,7 @@ IsAtRest run = IsBetweenLines (state_of run.recorder) run.length run.issued run.
 -- a question has its answer on the store's pairs, and its node is within the limits
 abbrev pub IsAnswered : Map → Question → Type 0
 IsAnswered m (GetQuestion key value) = (value ≡ value_at m key) × KeyMay key
-IsAnswered m (DataQuestion key code) = (code ≡ data_at m key) × KeyMay key
+IsAnswered m (ShapeQuestion key code) = (code ≡ data_at m key) × KeyMay key
 IsAnswered m (NextQuestion parent sub found) =
     IsSubIn parent (next_key m parent sub) found × IsKey (asked_key parent sub) × IsWithinLimit (asked_bytes parent sub) × IsKey parent × IfSome sub IsSub × IfSome found IsSub
 

@@ -5,7 +5,7 @@ use Rattle.plain_orders.specs.declared.act.Act.TheVariants.{Issue, Read, Level, 
 use Rattle.plain_orders.specs.declared.op.Op.TheVariants.{Set, Kill, Add}
 use Rattle.plain_orders.specs.declared.item.Item.TheVariants.{Op, Commit as CommitItem, Rollback as RollbackItem}
 use Rattle.plain_orders.specs.declared.via.Via.TheVariants.{Own, Cached, Fetched}
-use Rattle.plain_orders.specs.declared.question.Question.TheVariants.{Get, Data, Next}
+use Rattle.plain_orders.specs.declared.question.Question.TheVariants.{Get, Shape, Next}
 use Rattle.plain_orders.specs.declared.refused.Refused.TheVariants.{NoTransaction, TooDeep, RollbackOnly, LockTimeout, Network}
 use Rattle.plain_orders.specs.declared.refused.ReasonName.TheVariants.{Reset, Expired, NoWay}
 use Rattle.plain_orders.specs.declared.refused.LinkName.TheVariants.{NotConnected, Trouble, Recovery}
@@ -87,7 +87,7 @@ read_examples = (
   (issued_runs, search (rules, x_key)),
   (kept_runs, (omega arith, (refl, (refl, (refl, (omega arith, (omega arith, (refl, (refl, (no_empty_key, (omega arith, tt))))))))))),
   (met_runs, (omega arith, (refl, (refl, (refl, (omega arith, (omega arith, (refl, (refl, (long_key_is_key, ((λ e. omega (arith, e)), tt))))))))))),
-  run_more small start kept (Read 0 6 0 3 Cached (Data (120 ∷ 0 ∷ []) 1)) kept_runs ((record { known = omega arith; alive = refl; free = refl }, record { there = refl; no_less = omega arith; within = omega arith; answer = record { result = refl; by = refl; entered = refl; node = x_may } })),
+  run_more small start kept (Read 0 6 0 3 Cached (Shape (120 ∷ 0 ∷ []) 1)) kept_runs ((record { known = omega arith; alive = refl; free = refl }, record { there = refl; no_less = omega arith; within = omega arith; answer = record { result = refl; by = refl; entered = refl; node = x_may } })),
   (kept_runs, search (rules, x_key)),
   (kept_runs, search (rules, x_key)),
   (issued_runs, search (rules, x_key)),

@@ -4,7 +4,7 @@ use Rattle.plain_orders.specs.declared.act.Act.TheVariants.{Issue, Read, Level, 
 use Rattle.plain_orders.specs.declared.op.Op.TheVariants.{Set, Kill, Add}
 use Rattle.plain_orders.specs.declared.item.Item.TheVariants.{Op, Commit as CommitItem, Rollback as RollbackItem}
 use Rattle.plain_orders.specs.declared.via.Via.TheVariants.{Own, Cached, Fetched}
-use Rattle.plain_orders.specs.declared.question.Question.TheVariants.{Get, Data, Next}
+use Rattle.plain_orders.specs.declared.question.Question.TheVariants.{Get, Shape, Next}
 use Rattle.plain_orders.specs.declared.refused.Refused.TheVariants.{NoTransaction, TooDeep, RollbackOnly, LockTimeout, Network}
 use Rattle.plain_orders.specs.declared.refused.ReasonName.TheVariants.{Reset, Expired, NoWay}
 use Rattle.plain_orders.specs.declared.refused.LinkName.TheVariants.{NotConnected, Normal, Trouble, Recovery}
@@ -119,17 +119,17 @@ ReadExamples =
     × FailsAt 8 kept (Read 0 6 0 3 Fetched (Get [] None))
     -- node.within of a get
     × FailsAt 9 met (Read 0 6 0 2 Fetched (Get long_key None))
-    × Accepted kept (Read 0 6 0 3 Cached (Data (120 ∷ 0 ∷ []) 1))
+    × Accepted kept (Read 0 6 0 3 Cached (Shape (120 ∷ 0 ∷ []) 1))
     -- result of a data
-    × FailsAt 6 kept (Read 0 6 0 3 Cached (Data (120 ∷ 0 ∷ []) 0))
+    × FailsAt 6 kept (Read 0 6 0 3 Cached (Shape (120 ∷ 0 ∷ []) 0))
     -- by of a data
-    × FailsAt 7 kept (Read 0 6 0 3 Own (Data (120 ∷ 0 ∷ []) 1))
+    × FailsAt 7 kept (Read 0 6 0 3 Own (Shape (120 ∷ 0 ∷ []) 1))
     -- entered of a data
-    × FailsAt 8 issued (Read 0 6 0 2 Cached (Data (120 ∷ 0 ∷ []) 0))
+    × FailsAt 8 issued (Read 0 6 0 2 Cached (Shape (120 ∷ 0 ∷ []) 0))
     -- is_key of a data
-    × FailsAt 9 kept (Read 0 6 0 3 Cached (Data [] 10))
+    × FailsAt 9 kept (Read 0 6 0 3 Cached (Shape [] 10))
     -- node.within of a data
-    × FailsAt 10 met (Read 0 6 0 2 Cached (Data long_key 0))
+    × FailsAt 10 met (Read 0 6 0 2 Cached (Shape long_key 0))
     × Accepted kept (Read 0 6 0 3 Cached (Next (120 ∷ 0 ∷ []) None None))
     -- result of a next
     × FailsAt 6 kept (Read 0 6 0 3 Cached (Next (120 ∷ 0 ∷ []) None (Some (Text (97 ∷ [])))))

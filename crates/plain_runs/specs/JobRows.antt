@@ -11,7 +11,7 @@ use Rattle.subscript_keys.specs.declared.sub.Sub.{Sub}
 use Rattle.subscript_keys.specs.declared.sub.Sub.TheVariants.{Text}
 use Rattle.subscript_keys.specs.Key.{IsKey, IsWithinLimit, sub_bytes}
 use Rattle.plain_orders.specs.declared.question.Question.{Question}
-use Rattle.plain_orders.specs.declared.question.Question.TheVariants.{Get, Data, Next}
+use Rattle.plain_orders.specs.declared.question.Question.TheVariants.{Get, Shape, Next}
 use Rattle.plain_orders.specs.declared.layout.Layout.{Layout}
 use Rattle.plain_orders.specs.declared.refused.Refused.{Refused}
 use Rattle.plain_orders.specs.declared.refused.Refused.TheVariants.{NoTransaction, TooDeep, RollbackOnly, LockTimeout, Network}
@@ -116,7 +116,7 @@ pub record NextIs (s : Server) (app job n : ℕ) (via : Via) (parent : List ℕ)
 -- what a read is answered
 abbrev pub AnswerIs : Server → ℕ → ℕ → ℕ → Via → Question → Type 0
 AnswerIs s app job n via (Get key value) = GetIs s app job n via key value
-AnswerIs s app job n via (Data key code) = DataIs s app job n via key code
+AnswerIs s app job n via (Shape key code) = DataIs s app job n via key code
 AnswerIs s app job n via (Next parent sub found) = NextIs s app job n via parent sub found
 
 -- a read is answered on a prefix that is no shorter than what the job has seen

@@ -3,10 +3,7 @@ ghost use Rattle.plain_orders.specs.Ordered.{KeyMay, OpMay};
 
 use plain_orders::Op;
 use std::alloc::{AllocError, Global};
-use subscript_keys::{KEY_LIMIT, KeyBytes, KeyError, VALUE_LIMIT, decode};
-
-/// The least amount with more than 18 digits.
-const AMOUNT_LIMIT: u64 = 1_000_000_000_000_000_000;
+use subscript_keys::{KEY_LIMIT, KeyBytes, KeyError, NUMBER_LIMIT, VALUE_LIMIT, decode};
 
 /// Whether a key is that of a node, within the limit on keys.
 fn key_may(alloc: Global, key: &KeyBytes) -> Result<bool, AllocError>
@@ -36,7 +33,7 @@ pub fn op_may(alloc: Global, txn: u32, op: &Op) -> Result<bool, AllocError>
         }
         Op::Kill { key } => key_may(alloc, key),
         Op::Add { key, amount } => {
-            if txn != 0 || amount.unsigned_abs() >= AMOUNT_LIMIT {
+            if txn != 0 || amount.unsigned_abs() >= NUMBER_LIMIT {
                 return Ok(false);
             }
             key_may(alloc, key)

@@ -1,5 +1,5 @@
 -- The map that an ordered list makes has nodes' keys alone, and so has what is to be put back.
-use Rattle.std.proofs.Common.{ℕ, List, [], ◌∷◌, sym, subst, Bool, true, false, cond, if◌then◌else◌, Option, Some, None, nat_eq}
+use Rattle.std.proofs.Common.{◌≡◌, refl, ℕ, List, [], ◌∷◌, sym, subst, Bool, true, false, cond, if◌then◌else◌, Option, Some, None, nat_eq}
 use Rattle.std.specs.declared.cmp.Ordering.{Ordering}
 use Rattle.std.specs.declared.cmp.Ordering.TheVariants.{Less, Equal, Greater}
 use Rattle.std.specs.Ordering.{match_ordering}
@@ -17,22 +17,32 @@ use Rattle.plain_orders.specs.Fold.{Undo, OldValue, OldPairs, Transaction, Folde
 use Rattle.plain_orders.specs.Ordered.{OpMay, MayFollow, IsOrdered}
 use Rattle.plain_orders.proofs.FoldLemmas.{fold-push}
 use Rattle.plain_orders.proofs.OrderLemmas.{ordered_induction}
-use Rattle.plain_programs.specs.Keys.{HasKeys}
+use Rattle.plain_orders.specs.Keys.{HasKeys}
+
+-- the pairs are at the node or below it
+abbrev pub AreInside : List ℕ → Map → Type 0
+AreInside key m = AllByRecursion (λ p. is_inside key p ≡ true) m
+
+-- the pairs that a Kill removed are of nodes at or below its own
+pub record HasOldPairs (key : List ℕ) (pairs : Map) : Type 0 where
+  pub is_key : IsKey key
+  pub keys : HasKeys pairs
+  pub inside : AreInside key pairs
 
 -- what is to be put back is at nodes' keys
-abbrev UndoHasKeys : Undo → Type 0
+abbrev pub UndoHasKeys : Undo → Type 0
 UndoHasKeys (OldValue key old) = IsKey key
-UndoHasKeys (OldPairs key pairs) = HasKeys pairs
+UndoHasKeys (OldPairs key pairs) = HasOldPairs key pairs
 
-abbrev UndosHaveKeys : List Undo → Type 0
+abbrev pub UndosHaveKeys : List Undo → Type 0
 UndosHaveKeys us = AllByRecursion UndoHasKeys us
 
-abbrev BegunHasKeys : List Transaction → Type 0
+abbrev pub BegunHasKeys : List Transaction → Type 0
 BegunHasKeys ts = AllByRecursion (λ t. UndosHaveKeys t.undo) ts
 
-record FoldedHasKeys (f : Folded) : Type 0 where
-  pairs : HasKeys f.pairs
-  begun : BegunHasKeys f.begun
+pub record FoldedHasKeys (f : Folded) : Type 0 where
+  pub pairs : HasKeys f.pairs
+  pub begun : BegunHasKeys f.begun
 
 kept : {X : Type 0} (P : X → Type 0) (f : X → Bool) (xs : List X) → AllByRecursion P xs → AllByRecursion P (filter f xs)
 kept P f [] h = tt
@@ -42,6 +52,15 @@ kept P f (x ∷ xs) h = go (f x) (kept P f xs h.1)
     go true more = (h.0, more)
     go false more = more
 
+inside_kept : (key : List ℕ) (m : Map) → AreInside key (pairs_under m key)
+inside_kept key [] = tt
+inside_kept key (p ∷ ps) = go (is_inside key p) refl (inside_kept key ps)
+  where
+    go : (t : Bool) → is_inside key p ≡ t → AreInside key (pairs_under ps key) → AreInside key (cond t (p ∷ pairs_under ps key) (pairs_under ps key))
+    go true e more = (e, more)
+    go false e more = more
+
+-- a pair put at a node's key
 pub put_keys : (k v : List ℕ) (m : Map) → IsKey k → HasKeys m → HasKeys (put m k v)
 put_keys k v [] key h = (key, tt)
 put_keys k v (p ∷ ps) key h = go (key_cmp k p.0) (put_keys k v ps key h.1)
@@ -81,7 +100,7 @@ back_keys m key (Some value) k h = put_keys key value m k h
 
 undone_keys : (m : Map) (u : Undo) → UndoHasKeys u → HasKeys m → HasKeys (undone m u)
 undone_keys m (OldValue key old) k h = back_keys m key old k h
-undone_keys m (OldPairs key pairs) k h = put_all_keys m pairs k h
+undone_keys m (OldPairs key pairs) k h = put_all_keys m pairs k.keys h
 
 all_undone_keys : (m : Map) (us : List Undo) → UndosHaveKeys us → HasKeys m → HasKeys (all_undone m us)
 all_undone_keys m [] k h = h
@@ -95,7 +114,8 @@ session_keys session (t ∷ ts) m b h = session_keys session ts _ b.1 (go (nat_e
     go true = all_undone_keys m t.undo b.0 h
     go false = h
 
-undo_in_keys : (s j t : ℕ) (ts : List Transaction) → BegunHasKeys ts → UndosHaveKeys (undo_in s j t ts)
+-- of the transaction that is meant
+pub undo_in_keys : (s j t : ℕ) (ts : List Transaction) → BegunHasKeys ts → UndosHaveKeys (undo_in s j t ts)
 undo_in_keys s j t [] b = tt
 undo_in_keys s j t (x ∷ ts) b = go (is_it s j t x) (undo_in_keys s j t ts b.1)
   where
@@ -122,7 +142,7 @@ noted_keys s j t u ts k b = go (nat_eq t 0) (is_begun s j t ts)
 -- what an operation within the limits leaves to be put back
 note_keys : (s j t : ℕ) (op : Op) (m : Map) (ts : List Transaction) → OpMay t op → HasKeys m → BegunHasKeys ts → BegunHasKeys (noted s j t (undo_of m op) ts)
 note_keys s j t (Set key value) m ts may h b = noted_keys s j t (OldValue key (value_at m key)) ts may.key_may.is_key b
-note_keys s j t (Kill key) m ts may h b = noted_keys s j t (OldPairs key (pairs_under m key)) ts (kept _ (is_inside key) m h) b
+note_keys s j t (Kill key) m ts may h b = noted_keys s j t (OldPairs key (pairs_under m key)) ts (record { is_key = may.is_key; keys = kept _ (is_inside key) m h; inside = inside_kept key m }) b
 note_keys s j t (Add key amount) m ts may h b = b
 
 -- an entry that may follow
@@ -134,6 +154,10 @@ step_keys es f (Update session w job txn op) may h = record { pairs = op_keys f.
 step_keys es f (Commit session w job txn) may h = record { pairs = h.pairs; begun = kept _ (is_other session job txn) f.begun h.begun }
 step_keys es f (Rollback session w job txn) may h = record { pairs = all_undone_keys f.pairs _ (undo_in_keys session job txn f.begun h.begun) h.pairs; begun = kept _ (is_other session job txn) f.begun h.begun }
 
--- so the map of an ordered list has nodes' keys alone
+-- so what an ordered list makes has nodes' keys alone
+pub folded_keys : (es : List Entry) → IsOrdered es → FoldedHasKeys (fold es)
+folded_keys es o = ordered_induction (λ l. FoldedHasKeys (fold l)) (record { pairs = tt; begun = tt }) (λ l e q h may. subst FoldedHasKeys (sym (fold-push l e)) (step_keys l (fold l) e may h)) es o
+
+-- and so has its map
 pub ordered_keys : (es : List Entry) → IsOrdered es → HasKeys (fold es).pairs
-ordered_keys es o = (ordered_induction (λ l. FoldedHasKeys (fold l)) (record { pairs = tt; begun = tt }) (λ l e q h may. subst FoldedHasKeys (sym (fold-push l e)) (step_keys l (fold l) e may h)) es o).pairs
+ordered_keys es o = (folded_keys es o).pairs

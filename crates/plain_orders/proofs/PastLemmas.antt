@@ -1,6 +1,6 @@
 -- Of a session that an ordered list has not opened yet nothing stands, and a session has one application server.
 use Rattle.std.proofs.Common.{◌≡◌, ◌∙◌, ◌+◌, ◌<◌, ◌≤◌, ◌⊎◌, inl, inr, ℕ, Bool, true, false, if◌then◌else◌, nat_eq, List, [], ◌∷◌, ◌++◌, Option, Some, None, refl, sym, arith, length, length-append}
-use Rattle.std.proofs.lemmas.Bool.{eqb-true}
+use Rattle.std.proofs.lemmas.Bool.{eqb-true, false_from_ne_true}
 use Rattle.plain_orders.specs.declared.entry.Entry.{Entry}
 use Rattle.plain_orders.specs.declared.entry.Entry.TheVariants.{Epoch, Opened, Closed, Update, Commit, Rollback}
 use Rattle.plain_orders.specs.Begun.{begun_after}
@@ -9,7 +9,15 @@ use Rattle.plain_orders.specs.Fold.{fold, is_begun}
 use Rattle.plain_orders.specs.Ordered.{MayFollow, IsOrdered}
 use Rattle.plain_orders.proofs.EntryLemmas.{count-push, live-push, live_session-push}
 use Rattle.plain_orders.proofs.OrderLemmas.{ordered_induction}
-use Rattle.plain_programs.proofs.StandLemmas.{apart, apart_live, begun-push}
+use Rattle.plain_orders.proofs.BegunLemmas.{begun-push}
+
+-- two numbers that are not equal are told apart
+pub apart : (m n : ℕ) → (m ≡ n → ⊥) → nat_eq m n ≡ false
+apart m n ne = false_from_ne_true (nat_eq m n) (λ h. ne (eqb-true m n h))
+
+-- a session that is live and one that is not are two
+pub apart_live : (es : List Entry) (a b : ℕ) → live es a ≡ true → live es b ≡ false → nat_eq a b ≡ false
+apart_live es a b x y = apart a b (λ e. absurd cc)
 
 -- what holds of sessions whose Open is yet to come, and of those that application servers have
 pub record Past (es : List Entry) : Type 0 where
@@ -19,8 +27,8 @@ pub record Past (es : List Entry) : Type 0 where
   pub is_past : (a s : ℕ) → live_session es a ≡ Some s → s ≤ length es
   pub has_one : (a b s : ℕ) → live_session es a ≡ Some s → live_session es b ≡ Some s → a ≡ b
 
--- a session that is there behind a Close was there before
-kept_open : (session s : ℕ) (o : Option ℕ) → unless_closed session o ≡ Some s → o ≡ Some s
+-- a session that is there after a Close was there before
+pub kept_open : (session s : ℕ) (o : Option ℕ) → unless_closed session o ≡ Some s → o ≡ Some s
 kept_open session s None h = absurd cc
 kept_open session s (Some x) h = go (nat_eq x session) h
   where
@@ -59,7 +67,7 @@ module _ (es : List Entry) (p : Past es) where
   unbegun (Commit session w job txn) may s j t late = rw (apart_late session s may.is_live late) refl
   unbegun (Rollback session w job txn) may s j t late = rw (apart_late session s may.is_live late) refl
 
-  -- behind an Open an application server has this session or the one that it had
+  -- after an Open an application server has this session or the one that it had
   opened : (session app a s : ℕ) (o : Option ℕ) → (if nat_eq app a then Some session else o) ≡ Some s → ((app ≡ a) × (session ≡ s)) ⊎ (o ≡ Some s)
   opened session app a s o h = go (nat_eq app a) refl h
     where
