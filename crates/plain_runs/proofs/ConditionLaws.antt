@@ -37,7 +37,7 @@ none_is_left_out l p (Shut d session (Trouble time)) h = record { is_live = h.0;
 none_is_left_out l p (Shut d session Replaced) h = record { is_live = h.0 }
 none_is_left_out l p (Shut d session (Round time)) h = record { is_live = h.0; now = h.1.0; recovering = h.1.1.0; over = h.1.1.1.0 }
 none_is_left_out l p (Release d session) h = record { closed = h.0 }
-none_is_left_out l p (Met app d session) h = (h.0, record { place = h.1.0; synced = h.1.1.0; entered = h.1.1.1.0; behind = h.1.1.1.1.0; fresh = h.1.1.1.1.1.0; none = h.1.1.1.1.1.1.0 })
+none_is_left_out l p (Met app d session) h = (h.0, record { place = h.1.0; synced = h.1.1.0; entered = h.1.1.1.0; not_lost = h.1.1.1.1.0; fresh = h.1.1.1.1.1.0; none = h.1.1.1.1.1.1.0 })
 none_is_left_out l p (Told app d session epoch kept) h = (h.0, record { its = h.1.0; later = h.1.1.0; place = h.1.1.1.0 })
 none_is_left_out l p (Back d) h = record { recovering = h.0; told = h.1.0; counted = h.1.1.0; closes = h.1.1.1.0 }
 none_is_left_out l p (Crash d kept) h = record { opened = h.0; no_less = h.1.0; within = h.1.1.0; low = h.1.1.1.0 }

@@ -62,7 +62,7 @@ conditions l p (Shut d session Replaced) = field (λ m. m.is_live) ∷ []
 conditions l p (Shut d session (Round time)) = field (λ m. m.is_live) ∷ field (λ m. m.now) ∷ field (λ m. m.recovering) ∷ field (λ m. m.over) ∷ []
 conditions l p (Release d session) = field (λ m. m.closed) ∷ []
 conditions l p (Met app d session) =
-    field (λ m. m.0) ∷ field (λ m. m.1.place) ∷ field (λ m. m.1.synced) ∷ field (λ m. m.1.entered) ∷ field (λ m. m.1.behind)
+    field (λ m. m.0) ∷ field (λ m. m.1.place) ∷ field (λ m. m.1.synced) ∷ field (λ m. m.1.entered) ∷ field (λ m. m.1.not_lost)
     ∷ field (λ m. m.1.fresh) ∷ field (λ m. m.1.none) ∷ []
 conditions l p (Told app d session epoch kept) = field (λ m. m.0) ∷ field (λ m. m.1.its) ∷ field (λ m. m.1.later) ∷ field (λ m. m.1.place) ∷ []
 conditions l p (Back d) = field (λ m. m.recovering) ∷ field (λ m. m.told) ∷ field (λ m. m.counted) ∷ field (λ m. m.closes) ∷ []
