@@ -3,6 +3,7 @@ pub mod Sessions
 pub mod ItemEntries
 pub mod PairMap
 pub mod Numbers
+pub mod Times
 pub mod Fold
 pub mod Begun
 pub mod Ordered
