@@ -1,4 +1,5 @@
 pub mod Calls
+pub mod Counts
 pub mod Crash
 pub mod Disk
 pub mod DiskSet

@@ -1,6 +1,7 @@
 pub mod Entries
 pub mod PairMap
 pub mod Numbers
+pub mod Times
 pub mod Fold
 pub mod Begun
 pub mod Ordered

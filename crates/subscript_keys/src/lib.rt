@@ -33,7 +33,9 @@ pub use encoder::encode;
 pub use key_bytes::KeyBytes;
 pub use key_error::KeyError;
 pub use key_order::keys_stand_for_nodes;
-pub use limits::{DIGIT_LIMIT, GLOBAL_NAME_LIMIT, KEY_LIMIT, NODE_NAME_LIMIT, VALUE_LIMIT};
+pub use limits::{
+    DIGIT_LIMIT, GLOBAL_NAME_LIMIT, KEY_LIMIT, NODE_NAME_LIMIT, NUMBER_LIMIT, VALUE_LIMIT,
+};
 pub use name::Name;
 pub use node::Node;
 pub use pair::Pair;

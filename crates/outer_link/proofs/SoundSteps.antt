@@ -7,7 +7,7 @@ use Rattle.std.proofs.lemmas.List.Elements.{All-nil, All-cons, All-head, All-tai
 use Rattle.std.proofs.lemmas.Option.{slice_get_within, same_Some, none-some, slice_get-map}
 use Rattle.outer_link.specs.declared.connection.Connection.{Connection}
 use Rattle.outer_link.specs.ServerState.{ServerState}
-use Rattle.outer_link.specs.TableState.{IsKept, CutsWithin, SeesNone, conn_told}
+use Rattle.outer_link.specs.TableState.{IsSound, CutsWithin, SeesNone, conn_told}
 use Rattle.outer_link.specs.Told.{ConnTold, is_waiting}
 use Rattle.outer_link.proofs.ListSteps.{got_same, got_other, all_at}
 
@@ -32,10 +32,10 @@ sees_map h xs n v w same still sees = (
 
 -- behind a change of one data server
 pub kept_server : (apps : ℕ) (servers : List ServerState) (conns : List Connection) (s : ℕ) (v w : ServerState) (h : ConnTold → ConnTold)
-    → IsKept apps servers conns → slice_get servers s ≡ Some v → length w.pairs ≡ length v.pairs → CutsWithin (length conns) w
+    → IsSound apps servers conns → slice_get servers s ≡ Some v → length w.pairs ≡ length v.pairs → CutsWithin (length conns) w
     → map (conn_told (set servers s w)) conns ≡ map h (map (conn_told servers) conns)
     → ((n : ℕ) (c : ConnTold) → is_waiting n c ≡ false → is_waiting n (h c) ≡ false)
-    → SeesNone (map h (map (conn_told servers) conns)) s w → IsKept apps (set servers s w) conns
+    → SeesNone (map h (map (conn_told servers) conns)) s w → IsSound apps (set servers s w) conns
 kept_server apps servers conns s v w h kept at pairs cuts told still sees = record {
   pairs = All-set (λ x. length x.pairs ≡ apps) servers s w (pairs ∙ all_at (λ x. length x.pairs ≡ apps) servers s v at kept.pairs) kept.pairs;
   numbers = kept.numbers;
@@ -58,9 +58,9 @@ kept_server apps servers conns s v w h kept at pairs cuts told still sees = reco
 
 -- behind a change of one connection
 pub kept_conn : (apps : ℕ) (servers : List ServerState) (conns : List Connection) (i : ℕ) (c d : Connection)
-    → IsKept apps servers conns → slice_get conns i ≡ Some c → d.made ≡ c.made
+    → IsSound apps servers conns → slice_get conns i ≡ Some c → d.made ≡ c.made
     → ((n : ℕ) → is_waiting n (conn_told servers c) ≡ false → is_waiting n (conn_told servers d) ≡ false)
-    → IsKept apps servers (set conns i d)
+    → IsSound apps servers (set conns i d)
 kept_conn apps servers conns i c d kept at made still = record {
   pairs = kept.pairs;
   numbers = rw (length-set conns i d) kept.numbers;
@@ -76,7 +76,7 @@ kept_conn apps servers conns i c d kept at made still = record {
 
 -- behind one connection more
 pub kept_more : (apps : ℕ) (servers : List ServerState) (conns : List Connection) (c : Connection)
-    → IsKept apps servers conns → c.made ≡ length conns → length conns < 2 ^ 32 → IsKept apps servers (conns ++ c ∷ [])
+    → IsSound apps servers conns → c.made ≡ length conns → length conns < 2 ^ 32 → IsSound apps servers (conns ++ c ∷ [])
 kept_more apps servers conns c kept made room = record {
   pairs = kept.pairs;
   numbers = rw (length_push conns c) (omega arith);
