@@ -10,7 +10,7 @@ use Rattle.plain_orders.specs.declared.layout.Layout.{Layout}
 use Rattle.plain_orders.specs.declared.op.Op.{Op}
 use Rattle.plain_orders.specs.declared.op.Op.TheVariants.{Set, Kill, Add}
 use Rattle.plain_orders.specs.declared.question.Question.{Question}
-use Rattle.plain_orders.specs.declared.question.Question.TheVariants.{Get as GetQuestion, Data as DataQuestion, Next as NextQuestion}
+use Rattle.plain_orders.specs.declared.question.Question.TheVariants.{Get as GetQuestion, Shape as ShapeQuestion, Next as NextQuestion}
 use Rattle.plain_orders.specs.declared.via.Via.{Via}
 use Rattle.plain_orders.specs.Ordered.{OpMay}
 use Rattle.plain_orders.specs.PairMap.{Map}
@@ -43,7 +43,7 @@ made_issue l line w op job may = record {
 
 question_can : (m : Map) (question : Question) → IsAnswered m question → CanPrintQuestion question
 question_can m (GetQuestion key value) is = is.1.is_key
-question_can m (DataQuestion key code) is = is.1.is_key
+question_can m (ShapeQuestion key code) is = is.1.is_key
 question_can m (NextQuestion parent sub found) is = (is.3, is.4, is.5)
 
 -- a read of the job
