@@ -1,5 +1,5 @@
 -- What some more acts add to a trail.
-use Rattle.std.proofs.Common.{◌≡◌, ℕ, ◌+◌, ◌<◌, List, [], ◌∷◌, ◌++◌, length, None, Some, refl, sym, ap, ◌∙◌, append_assoc, append-nil, subst, arith}
+use Rattle.std.proofs.Common.{◌≡◌, ℕ, ◌+◌, ◌<◌, false, List, [], ◌∷◌, ◌++◌, length, None, Some, refl, sym, ap, ◌∙◌, append_assoc, append-nil, subst, arith}
 use Rattle.std.specs.List.{AllByRecursion}
 use Rattle.subscript_keys.specs.Key.{IsKey}
 use Rattle.plain_orders.specs.declared.act.Act.{Act}
@@ -15,6 +15,7 @@ use Rattle.plain_orders.specs.declared.via.Via.{Via}
 use Rattle.plain_orders.specs.Ordered.{OpMay}
 use Rattle.plain_orders.specs.PairMap.{Map}
 use Rattle.plain_runs.specs.Plain.{Plain}
+use Rattle.plain_runs.specs.Run.{state_after}
 use Rattle.plain_runs.specs.Step.{after}
 use Rattle.transcript.specs.ActText.{CanPrintOp, CanPrintQuestion}
 use Rattle.cluster_call.specs.Running.{AddsAct, AddsServed, HasJob, IsAnswered, IsMade, IsQuiet, IsServed, SESSION}
@@ -57,7 +58,7 @@ made_read l line at via m question job is = record {
 -- the update enters
 pub served_update : (l : Layout) (w : ℕ) (op : Op) → HasJob l → OpMay 0 op → IsServed l (Enter 0 (Update SESSION w 0 0 op))
 served_update l w op job may = record {
-  quiet = record { declared = job.server; opened = refl; failed = refl; clock = refl; deaths = refl; crashes = refl; whole = λ c. refl; printed = op_can op may };
+  quiet = record { declared = (job.server, has_job l job); opened = refl; failed = refl; clock = refl; deaths = refl; crashes = refl; whole = λ c. refl; printed = op_can op may };
   job = refl;
   line = refl;
 }
@@ -73,7 +74,7 @@ served_save l n job = record {
 -- a session is opened
 pub served_open : (l : Layout) → HasJob l → IsServed l (Enter 0 (OpenedEntry SESSION 0))
 served_open l job = record {
-  quiet = record { declared = job.server; opened = refl; failed = refl; clock = refl; deaths = refl; crashes = refl; whole = λ c. refl; printed = tt };
+  quiet = record { declared = (job.server, job.app); opened = refl; failed = refl; clock = refl; deaths = refl; crashes = refl; whole = λ c. refl; printed = tt };
   job = refl;
   line = refl;
 }
@@ -100,6 +101,7 @@ adds_after l line old mid new act x y = record {
       y.whole ∙ ap (λ xs. xs ++ (y.before ++ act ∷ y.after)) x.1 ∙ append_assoc old x.0 (y.before ++ act ∷ y.after)
       ∙ ap (λ xs. old ++ xs) (sym (append_assoc x.0 y.before (act ∷ y.after)));
   served_before = all_both (IsServed l) x.0 y.before x.2 y.served_before;
+  free = subst (λ acts. ((state_after l acts).job_at 0).rollback_only ≡ false) (ap (λ xs. xs ++ y.before) x.1 ∙ append_assoc old x.0 y.before) y.free;
   its = y.its;
   served_after = y.served_after;
 }

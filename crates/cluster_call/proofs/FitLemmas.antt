@@ -1,7 +1,7 @@
 -- A script that fits its output.
 use Rattle.std.proofs.Common.{◌≡◌, ℕ, zero, suc, add-one, ◌+◌, ◌<◌, ◌≤◌, Bool, true, false, ◌==◌, if◌then◌else◌, List, [], ◌∷◌, ◌++◌, length, take, All, Option, None, Some, map, refl, sym, ap, ◌∙◌, subst, append-nil, append_assoc, inl, inr, arith, get_or, length-append}
 use Rattle.std.specs.List.{flat_map, filter, range_with_len, AllByRecursion}
-use Rattle.std.specs.Prelude.{Any, IfSome, slice_index_or}
+use Rattle.std.specs.Prelude.{Any, IfSome, slice_get, slice_index_or}
 use Rattle.std.proofs.lemmas.Bool.{eqb-true}
 use Rattle.std.proofs.lemmas.Grind.{flat_map-append}
 use Rattle.std.proofs.lemmas.List.Elements.{filter-append, recursion_from_All}
@@ -30,10 +30,10 @@ use Rattle.script_fits.specs.Moments.{Moment, moments, moments_from, moments_of,
 use Rattle.script_fits.specs.Locking.{Past, no_past}
 use Rattle.script_fits.specs.Commands.{IsDone, Whole}
 use Rattle.script_fits.specs.JobLines.{CommandLine, Ended, AreDone, command_of, commands_of, ended_of, end_of, past_after}
-use Rattle.script_fits.specs.Pieces.{answers_in, answer_in, if_waiting, unless_waiting, why_of}
+use Rattle.script_fits.specs.Pieces.{answers_in, answer_in, has_wait, if_waiting, unless_waiting, why_of}
 use Rattle.script_fits.specs.Naming.{IsDeclared, opened_in}
-use Rattle.script_fits.specs.Walk.{Added, SoFar, opened_with, with_line}
-use Rattle.script_fits.specs.Parts.{LineAdds, LinesAdd, answer_line, tick_in, ticks_of, death_in, deaths_of, crash_in, gone_of, ArePumps, AreRestarts, IsNoLater, IsTold}
+use Rattle.script_fits.specs.Walk.{Added, SoFar, after_opening, down_after, with_line}
+use Rattle.script_fits.specs.Lines.{LineAdds, LinesAdd, answer_line, tick_in, ticks_of, death_in, deaths_of, crash_in, gone_of, unsaved, ArePumps, AreRestarts, IsNoLater, IsAccounted}
 use Rattle.script_fits.specs.Breaks.{AreApart, Causes, LiesIn, no_causes, causes_after, range_of, with_causes}
 use Rattle.script_fits.specs.Fits.{AreRising, Fits, IsOpening}
 use Rattle.plain_runs.proofs.RunLemmas.{after_all-append}
@@ -45,11 +45,11 @@ use Rattle.cluster_call.proofs.WalkLemmas.{walk, LinesAdd-more, walk-more, cause
 pub record IsRunTo (l : Layout) (opening : List Act) (lines : List ScriptLine) (acts : List Act) (pieces : List Piece) : Type 0 where
   pub added : List Added
   pub ends : List Ended
-  pub lines_add : LinesAdd l (opened_with opening) lines added
-  pub so_lines : (walk (opened_with opening) lines added).lines ≡ lines
-  pub so_acts : (walk (opened_with opening) lines added).acts ≡ acts
-  pub so_pieces : (walk (opened_with opening) lines added).pieces ≡ pieces
-  pub so_ends : (walk (opened_with opening) lines added).ends ≡ ends
+  pub lines_add : LinesAdd l (after_opening opening) lines added
+  pub so_lines : (walk (after_opening opening) lines added).lines ≡ lines
+  pub so_acts : (walk (after_opening opening) lines added).acts ≡ acts
+  pub so_pieces : (walk (after_opening opening) lines added).pieces ≡ pieces
+  pub so_ends : (walk (after_opening opening) lines added).ends ≡ ends
   pub trail : acts ≡ opening ++ flat_map (λ (a : Added). a.acts) added
   pub all_pieces : pieces ≡ flat_map (λ (a : Added). a.pieces) added
   pub all_ends : ends ≡ flat_map (λ (a : Added). a.ends) added
@@ -102,13 +102,13 @@ found_none (Opened d entries) none = absurd cc
 found_none _ none = refl
 
 -- a command done by one act
-makes_done : (l : Layout) (line : ℕ) (command : Command) (past : Past) (m : Moment) (answer : Answer) → Makes line command m.act answer → Whole l 0 line command past (m ∷ []) answer past.held_back
-makes_done l line (Set at value) past m answer makes = (makes, refl)
-makes_done l line (Kill at) past m answer makes = (makes, refl)
-makes_done l line (Get at) past m answer makes = (makes, refl)
-makes_done l line (Shape at) past m answer makes = (makes, refl)
-makes_done l line (Next parent sub) past m answer makes = (makes, refl)
-makes_done l line _ past m answer makes = absurd makes
+makes_done : (l : Layout) (line : ℕ) (command : Command) (past : Past) (m : Moment) (answer : Answer) → (m.before.job_at 0).rollback_only ≡ false → Makes line command m.act answer → Whole l 0 line command past (m ∷ []) answer past.held_back
+makes_done l line (Set at value) past m answer free makes = (makes, (free, tt), refl)
+makes_done l line (Kill at) past m answer free makes = (makes, (free, tt), refl)
+makes_done l line (Get at) past m answer free makes = (makes, refl)
+makes_done l line (Shape at) past m answer free makes = (makes, (free, tt), refl)
+makes_done l line (Next parent sub) past m answer free makes = (makes, (free, tt), refl)
+makes_done l line _ past m answer free makes = absurd makes
 
 -- its answer doesn't wait
 no_why : (line : ℕ) (command : Command) (act : Act) (answer : Answer) → Makes line command act answer → why_of answer ≡ None
@@ -161,27 +161,31 @@ line_added l line old new act answer d = record {
   ends = end_of 0 line answer (line_moment l line old new act d ∷ []) ∷ [];
 }
 
+-- nothing is asked of a command that isn't there
+none_open : (cs : List CommandLine) (n : ℕ) (P : CommandLine → Type 0) → n ≡ length cs → IfSome (slice_get cs n) P
+none_open cs n P same = subst (λ o. IfSome o P) (sym (slice_get_past cs n (omega (arith, same)))) tt
+
 -- nobody waits where each command has its end
-all_told : (l : Layout) (s : SoFar) (j : ℕ) → length (ended_of j s.ends) ≡ length (commands_of j s.lines) → IsTold l s j
-all_told l s j counted = inl (slice_get_past (commands_of j s.lines) (length (ended_of j s.ends)) (omega (arith, counted)))
+all_told : (l : Layout) (s : SoFar) (j : ℕ) → length (ended_of j s.ends) ≡ length (commands_of j s.lines) → IsAccounted l s j
+all_told l s j counted = inr (none_open (commands_of j s.lines) (length (ended_of j s.ends)) (λ c. has_wait j c.line s.pieces ≡ true) counted)
 
 -- a line whose command is done at once
 job_adds : (l : Layout) (s : SoFar) (x : ScriptLine) (command : Command) (old new : List Act) (act : Act) (answer : Answer) → (d : AddsAct l x.line old new act) → s.acts ≡ old → x.todo ≡ Job 0 command → HasJob l
     → (state_after l old).died_at 0 ≡ false → Makes x.line command act answer
-    → ((j : ℕ) → IsTold l (with_line s x (line_added l x.line old new act answer d)) j)
+    → ((j : ℕ) → IsAccounted l (with_line s x (line_added l x.line old new act answer d)) j)
     → LineAdds l s x (line_added l x.line old new act answer d)
 job_adds l s x command old new act answer d at todo job alive makes told =
     let quiet : AllByRecursion (IsQuiet l) (d.before ++ act ∷ d.after) = line_quiet l x.line old new act d in
     let silent : why_of answer ≡ None = no_why x.line command act answer makes in
     record {
-      events = Answered (own_line x.line answer) ∷ [];
+      middle = Answered (own_line x.line answer) ∷ [];
       waiting = [];
       ticks = none_of (IsQuiet l) tick_in (d.before ++ act ∷ d.after) (λ a q. q.clock) quiet ∙ ap (ticks_of (state_after l s.acts).clock) (sym todo);
       deaths = none_of (IsQuiet l) death_in (d.before ++ act ∷ d.after) (λ a q. q.deaths) quiet ∙ ap (deaths_of (state_after l s.acts)) (sym todo);
       opened = none_of (IsQuiet l) opened_in (d.before ++ act ∷ d.after) (λ a q. q.opened) quiet;
-      restarts = subst (λ t. AreRestarts s.down x.line t [] (flat_map crash_in (d.before ++ act ∷ d.after))) (sym todo) (refl, none_of (IsQuiet l) crash_in (d.before ++ act ∷ d.after) (λ a q. q.crashes) quiet);
+      restarts = subst (λ t. AreRestarts s.down x.line t [] (d.before ++ act ∷ d.after)) (sym todo) (refl, none_of (IsQuiet l) crash_in (d.before ++ act ∷ d.after) (λ a q. q.crashes) quiet);
       halts = tt;
-      pumps = subst (λ t. ArePumps x.line t []) (sym todo) refl;
+      pumps = subst (λ t. ArePumps (unsaved l (state_after l (s.acts ++ (d.before ++ act ∷ d.after))) (down_after s.down x.todo (Answered (own_line x.line answer) ∷ []))) x.line t []) (sym todo) refl;
       gone =
           sym
           (ap (gone_of l (state_after l s.acts) x.line) todo
@@ -200,20 +204,20 @@ job_adds l s x command old new act answer d at todo job alive makes told =
       no_wait = ap (λ o. if_waiting o (own_line x.line answer) ++ []) silent;
       only_waits = refl;
       waits = tt;
-      told = told;
+      accounted = told;
     }
 
 -- a line at which nothing happens
-still_adds : (l : Layout) (s : SoFar) (x : ScriptLine) (job : ℕ) → x.todo ≡ Await job → ((j : ℕ) → IsTold l (with_line s x (record { acts = []; pieces = []; ends = [] })) j) → LineAdds l s x (record { acts = []; pieces = []; ends = [] })
+still_adds : (l : Layout) (s : SoFar) (x : ScriptLine) (job : ℕ) → x.todo ≡ Await job → ((j : ℕ) → IsAccounted l (with_line s x (record { acts = []; pieces = []; ends = [] })) j) → LineAdds l s x (record { acts = []; pieces = []; ends = [] })
 still_adds l s x job todo told = record {
-  events = [];
+  middle = [];
   waiting = [];
   ticks = ap (ticks_of (state_after l s.acts).clock) (sym todo);
   deaths = ap (deaths_of (state_after l s.acts)) (sym todo);
   opened = refl;
   restarts = subst (λ t. AreRestarts s.down x.line t [] []) (sym todo) (refl, refl);
   halts = tt;
-  pumps = subst (λ t. ArePumps x.line t []) (sym todo) refl;
+  pumps = subst (λ t. ArePumps (unsaved l (state_after l (s.acts ++ [])) (down_after s.down x.todo [])) x.line t []) (sym todo) refl;
   gone = ap (gone_of l (state_after l s.acts) x.line) (sym todo);
   given = tt;
   answers = refl;
@@ -222,7 +226,7 @@ still_adds l s x job todo told = record {
   no_wait = refl;
   only_waits = refl;
   waits = tt;
-  told = told;
+  accounted = told;
 }
 
 -- the same of equal lists
@@ -261,12 +265,13 @@ job_more l j xs x command old new act answer ends d todo makes jobs = go (0 == j
     own : Goal 0
     own =
         let m : Moment = line_moment l x.line old new act d in
+        let free : (m.before.job_at 0).rollback_only ≡ false = subst (λ p. (p.job_at 0).rollback_only ≡ false) (after_all-append l start old d.before) d.free in
         let (left, done) = jobs 0 in (
           past_after left (m ∷ []) left.held_back,
           moved l 0 (commands_of 0 xs ++ record { line = x.line; command = command } ∷ []) (commands_of 0 (xs ++ x ∷ [])) (moments_of 0 (moments l old) ++ m ∷ []) (moments_of 0 (moments l new)) (ended_of 0 ends ++ e ∷ []) (ended_of 0 (ends ++ e ∷ []))
           (past_after left (m ∷ []) left.held_back) (commands_more 0 xs x (Job 0 command) todo) (line_moments l 0 x.line old new act d) (ended 0)
           (AreDone-more l 0 no_past (commands_of 0 xs) (moments_of 0 (moments l old)) (ended_of 0 ends) left (record { line = x.line; command = command }) (m ∷ []) answer left.held_back done
-          (inl (makes_done l x.line command left m answer makes))),
+          (inl (makes_done l x.line command left m answer free makes))),
         )
 
     other : (0 == j) ≡ false → Goal j
@@ -294,7 +299,7 @@ counted l xs acts ends jobs j = let (left, done) = jobs j in AreDone-ends l j no
 
 -- nobody waits once a line is done
 told_more : (l : Layout) (s : SoFar) (x : ScriptLine) (y : Added) (xs : List ScriptLine) (ends : List Ended) → s.lines ≡ xs → s.ends ≡ ends → ((j : ℕ) → length (ended_of j (ends ++ y.ends)) ≡ length (commands_of j (xs ++ x ∷ [])))
-    → (j : ℕ) → IsTold l (with_line s x y) j
+    → (j : ℕ) → IsAccounted l (with_line s x y) j
 told_more l s x y xs ends at of counts j =
     all_told l (with_line s x y) j (ap (λ es. length (ended_of j (es ++ y.ends))) of ∙ counts j ∙ ap (λ ls. length (commands_of j (ls ++ x ∷ []))) (sym at))
 
@@ -308,17 +313,17 @@ job_line : (l : Layout) (opening : List Act) (xs : List ScriptLine) (x : ScriptL
 job_line l opening xs x command old new pieces answer r todo job alive did =
     let d : AddsAct l x.line old new did.act = did.adds in
     let y : Added = line_added l x.line old new did.act answer d in
-    let s : SoFar = walk (opened_with opening) xs r.added in
+    let s : SoFar = walk (after_opening opening) xs r.added in
     let e : Ended = end_of 0 x.line answer (line_moment l x.line old new did.act d ∷ []) in
     let quiet : AllByRecursion (IsQuiet l) y.acts = line_quiet l x.line old new did.act d in
     let jobs : ((j : ℕ) → (left : Past) × AreDone l j no_past (commands_of j (xs ++ x ∷ [])) (moments_of j (moments l new)) (ended_of j (r.ends ++ e ∷ [])) left) =
     (λ j. job_more l j xs x command old new did.act answer r.ends d todo did.makes r.jobs) in
     let adds : LineAdds l s x y = job_adds l s x command old new did.act answer d r.so_acts todo job alive did.makes (told_more l s x y xs r.ends r.so_lines r.so_ends (counted l (xs ++ x ∷ []) new (r.ends ++ e ∷ []) jobs)) in
-    let walked : walk (opened_with opening) (xs ++ x ∷ []) (r.added ++ y ∷ []) ≡ with_line s x y = walk-more l (opened_with opening) xs r.added x y r.lines_add in
+    let walked : walk (after_opening opening) (xs ++ x ∷ []) (r.added ++ y ∷ []) ≡ with_line s x y = walk-more l (after_opening opening) xs r.added x y r.lines_add in
     record {
       added = r.added ++ y ∷ [];
       ends = r.ends ++ e ∷ [];
-      lines_add = LinesAdd-more l (opened_with opening) xs r.added x y r.lines_add adds;
+      lines_add = LinesAdd-more l (after_opening opening) xs r.added x y r.lines_add adds;
       so_lines = ap (λ (w : SoFar). w.lines) walked ∙ ap (λ ls. ls ++ x ∷ []) r.so_lines;
       so_acts = ap (λ (w : SoFar). w.acts) walked ∙ ap (λ acts. acts ++ y.acts) r.so_acts ∙ sym d.whole;
       so_pieces = ap (λ (w : SoFar). w.pieces) walked ∙ ap (λ ps. ps ++ y.pieces) r.so_pieces;
@@ -330,7 +335,7 @@ job_line l opening xs x command old new pieces answer r todo job alive did =
       all_ends = ap (λ es. es ++ e ∷ []) r.all_ends ∙ sym (added_more (λ (a : Added). a.ends) r.added y);
       breaks =
           ap (λ (c : Causes). c.unexplained)
-          (causes-more l (opened_with opening) no_causes xs r.added x y r.lines_add ∙ whole_acts l (with_causes (causes_after no_causes xs r.added) x y) y.acts quiet)
+          (causes-more l (after_opening opening) no_causes xs r.added x y r.lines_add ∙ whole_acts l (with_causes (causes_after no_causes xs r.added) x y) y.acts quiet)
           ∙ r.breaks;
       failed = ap (flat_map range_of) d.whole ∙ more_none l range_of old y.acts [] (λ a q. q.failed) quiet r.failed;
       opened = ap (flat_map opened_in) d.whole ∙ more_none l opened_in old y.acts (flat_map opened_in opening) (λ a q. q.opened) quiet r.opened;
@@ -353,18 +358,18 @@ job_line l opening xs x command old new pieces answer r todo job alive did =
 still_line : (l : Layout) (opening : List Act) (xs : List ScriptLine) (x : ScriptLine) (job : ℕ) (acts : List Act) (pieces : List Piece) → IsRunTo l opening xs acts pieces → x.todo ≡ Await job → IsRunTo l opening (xs ++ x ∷ []) acts pieces
 still_line l opening xs x job acts pieces r todo =
     let y : Added = record { acts = []; pieces = []; ends = [] } in
-    let s : SoFar = walk (opened_with opening) xs r.added in
+    let s : SoFar = walk (after_opening opening) xs r.added in
     let same : ((j : ℕ) → commands_of j (xs ++ x ∷ []) ≡ commands_of j xs) = (λ j. commands_more j xs x (Await job) todo ∙ append-nil (commands_of j xs)) in
     let jobs : ((j : ℕ) → (left : Past) × AreDone l j no_past (commands_of j (xs ++ x ∷ [])) (moments_of j (moments l acts)) (ended_of j r.ends) left) =
     (λ j. let (left, done) = r.jobs j in (left, subst (λ cs. AreDone l j no_past cs (moments_of j (moments l acts)) (ended_of j r.ends) left) (sym (same j)) done)) in
     let counts : ((j : ℕ) → length (ended_of j (r.ends ++ [])) ≡ length (commands_of j (xs ++ x ∷ []))) =
     (λ j. ap (λ es. length (ended_of j es)) (append-nil r.ends) ∙ counted l (xs ++ x ∷ []) acts r.ends jobs j) in
     let adds : LineAdds l s x y = still_adds l s x job todo (told_more l s x y xs r.ends r.so_lines r.so_ends counts) in
-    let walked : walk (opened_with opening) (xs ++ x ∷ []) (r.added ++ y ∷ []) ≡ with_line s x y = walk-more l (opened_with opening) xs r.added x y r.lines_add in
+    let walked : walk (after_opening opening) (xs ++ x ∷ []) (r.added ++ y ∷ []) ≡ with_line s x y = walk-more l (after_opening opening) xs r.added x y r.lines_add in
     record {
       added = r.added ++ y ∷ [];
       ends = r.ends;
-      lines_add = LinesAdd-more l (opened_with opening) xs r.added x y r.lines_add adds;
+      lines_add = LinesAdd-more l (after_opening opening) xs r.added x y r.lines_add adds;
       so_lines = ap (λ (w : SoFar). w.lines) walked ∙ ap (λ ls. ls ++ x ∷ []) r.so_lines;
       so_acts = ap (λ (w : SoFar). w.acts) walked ∙ append-nil s.acts ∙ r.so_acts;
       so_pieces = ap (λ (w : SoFar). w.pieces) walked ∙ append-nil s.pieces ∙ r.so_pieces;
@@ -372,7 +377,7 @@ still_line l opening xs x job acts pieces r todo =
       trail = r.trail ∙ ap (λ acts. opening ++ acts) (sym (added_more (λ (a : Added). a.acts) r.added y ∙ append-nil (flat_map (λ (a : Added). a.acts) r.added)));
       all_pieces = r.all_pieces ∙ sym (added_more (λ (a : Added). a.pieces) r.added y ∙ append-nil (flat_map (λ (a : Added). a.pieces) r.added));
       all_ends = r.all_ends ∙ sym (added_more (λ (a : Added). a.ends) r.added y ∙ append-nil (flat_map (λ (a : Added). a.ends) r.added));
-      breaks = ap (λ (c : Causes). c.unexplained) (causes-more l (opened_with opening) no_causes xs r.added x y r.lines_add) ∙ r.breaks;
+      breaks = ap (λ (c : Causes). c.unexplained) (causes-more l (after_opening opening) no_causes xs r.added x y r.lines_add) ∙ r.breaks;
       failed = r.failed;
       opened = r.opened;
       found = r.found;
@@ -412,12 +417,13 @@ run_more l opening lines i line old new pieces more low is runs alive r did = su
 
 -- all lines
 pub fits_all : (script : Script) (opening : List Act) (out : Output) (acts : List Act) (pieces : List Piece) → flat_map opened_in opening ≡ range_with_len 0 script.layout.servers → AllByRecursion IsOpening opening
+    → AllByRecursion (λ d. length (filter (λ o. o == d) (range_with_len 0 script.layout.servers)) ≡ 1) (range_with_len 0 script.layout.servers)
     → IsRunTo script.layout opening script.lines acts pieces → out.trail ≡ acts → out.pieces.items ≡ pieces → Fits script [] out
-fits_all script opening out acts pieces begins openings r t p = record {
+fits_all script opening out acts pieces begins openings once r t p = record {
   ends = r.ends;
   jobs = record {
     declared = subst (AllByRecursion (IsDeclared script.layout)) (sym t) r.declared;
-    opened = ap (flat_map opened_in) t ∙ r.opened ∙ begins;
+    opened = subst (λ os. AllByRecursion (λ d. length (filter (λ o. o == d) os) ≡ 1) (range_with_len 0 script.layout.servers)) (sym (ap (flat_map opened_in) t ∙ r.opened ∙ begins)) once;
     jobs = λ j. let (left, done) = r.jobs j in record {
       done = commands_of j script.lines;
       rest = [];
@@ -429,7 +435,6 @@ fits_all script opening out acts pieces begins openings r t p = record {
       each = done;
       last = refl;
     };
-    over = λ j. inl (counted script.layout script.lines acts r.ends r.jobs j);
     rising = r.rising;
     answers = ap answers_in p ∙ r.answers;
   };
@@ -437,10 +442,13 @@ fits_all script opening out acts pieces begins openings r t p = record {
     opening = opening;
     added = r.added;
     begins = openings;
+    in_order = begins;
     trail = t ∙ r.trail;
     pieces = p ∙ r.all_pieces;
     whole = r.all_ends;
     lines = r.lines_add;
+    over = λ j. inr (none_open (commands_of j script.lines) (length (ended_of j r.ends)) (λ c. has_wait j c.line out.pieces.items ≡ true) (counted script.layout script.lines acts r.ends r.jobs j));
+    one = omega arith;
     breaks = inr (omega (arith, r.breaks));
     failed = subst (AllByRecursion (λ q. Any (LiesIn q) [])) (sym (ap (flat_map range_of) t ∙ r.failed)) tt;
     apart = subst AreApart (sym (ap (flat_map range_of) t ∙ r.failed)) tt;

@@ -47,6 +47,7 @@ opened_stands l = record {
   seen = omega arith;
   free = refl;
   level = refl;
+  rolled = refl;
   alive = refl;
   pair = record { order = refl; session = refl; fresh = λ n. refl; none = refl };
 }
@@ -78,6 +79,7 @@ connected_stands l p entries issued store h job = record {
   seen = rw job.job (omega arith);
   free = rw job.job h.free;
   level = h.level;
+  rolled = h.rolled;
   alive = h.alive;
   pair = (
     record { app = 0; issued = []; told = 0 },
@@ -152,6 +154,7 @@ op_stands l p entries issued line store op e may h job = record {
   seen = omega (arith, h.seen);
   free = h.free;
   level = h.level;
+  rolled = h.rolled;
   alive = h.alive;
   pair = (
     with_op h.pair.0 line op,
@@ -180,6 +183,7 @@ read_stands l p entries issued line store question h = record {
   seen = omega arith;
   free = h.free;
   level = h.level;
+  rolled = h.rolled;
   alive = h.alive;
   pair = (
     h.pair.0,

@@ -15,7 +15,7 @@ use Rattle.script_fits.specs.Locking.{HeldBack, Past}
 use Rattle.script_fits.specs.Commands.{IsDone}
 use Rattle.script_fits.specs.JobLines.{CommandLine, Ended, AreDone, end_of, past_after}
 use Rattle.script_fits.specs.Walk.{Added, SoFar, with_line}
-use Rattle.script_fits.specs.Parts.{LineAdds, LinesAdd}
+use Rattle.script_fits.specs.Lines.{LineAdds, LinesAdd}
 use Rattle.script_fits.specs.Breaks.{Causes, after_acts, causes_after, with_causes}
 use Rattle.script_fits.specs.Fits.{AreRising}
 use Rattle.cluster_call.specs.Running.{IsMade, IsQuiet, IsServed}

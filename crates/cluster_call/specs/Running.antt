@@ -20,6 +20,7 @@ use Rattle.plain_orders.specs.Keys.{HasKeys}
 use Rattle.plain_runs.specs.JobRows.{asked_key, asked_bytes}
 use Rattle.plain_runs.specs.Plain.{Plain, Server, Session}
 use Rattle.plain_runs.specs.Recording.{state_of}
+use Rattle.plain_runs.specs.Run.{state_after}
 use Rattle.app_job.specs.declared.answer.Answer.{Answer}
 use Rattle.app_job.specs.declared.command.Command.{Command}
 use Rattle.app_job.specs.declared.command.Command.TheVariants.{Set, Kill, Get, Shape, Next, Incr, Lock, Unlock, Start, Commit, Rollback, Sync}
@@ -36,7 +37,7 @@ use Rattle.script_fits.specs.Acting.{Issues, Gets, Shapes, Nexts}
 use Rattle.script_fits.specs.Breaks.{Causes, after_act, range_of}
 use Rattle.script_fits.specs.Moments.{job_of}
 use Rattle.script_fits.specs.Naming.{IsDeclared, opened_in}
-use Rattle.script_fits.specs.Parts.{tick_in, death_in, crash_in, line_of}
+use Rattle.script_fits.specs.Lines.{tick_in, death_in, crash_in, line_of}
 use Rattle.cluster_call.specs.declared.script_run.ScriptRun.{ScriptRun}
 
 -- a node at the only data server
@@ -112,6 +113,7 @@ pub record IsBetweenLines (p : Plain) (entries issued : ℕ) (connected : Bool) 
   pub seen : ((p.server_at 0).known_at 0).seen ≤ entries
   pub free : ((p.server_at 0).known_at 0).bar ≡ None
   pub level : (p.job_at 0).level ≡ 0
+  pub rolled : (p.job_at 0).rollback_only ≡ false
   pub alive : p.died_at 0 ≡ false
   pub pair : IsConnected (p.server_at 0) issued connected
 
@@ -158,12 +160,13 @@ pub record IsMade (l : Layout) (line : ℕ) (a : Act) : Type 0 where
 abbrev pub AddsServed : Layout → List Act → List Act → Type 0
 AddsServed l old new = (added : List Act) × (new ≡ old ++ added) × AllByRecursion (IsServed l) added
 
--- an act of the job at a line, and before and after it some that no job makes
+-- an act of the job at a line, and before and after it some that no job makes; the job hasn't to roll back first
 pub record AddsAct (l : Layout) (line : ℕ) (old new : List Act) (act : Act) : Type 0 where
   pub before : List Act
   pub after : List Act
   pub whole : new ≡ old ++ (before ++ act ∷ after)
   pub served_before : AllByRecursion (IsServed l) before
+  pub free : ((state_after l (old ++ before)).job_at 0).rollback_only ≡ false
   pub its : IsMade l line act
   pub served_after : AllByRecursion (IsServed l) after
 

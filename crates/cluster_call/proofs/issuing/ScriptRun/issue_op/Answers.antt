@@ -8,7 +8,7 @@ use Rattle.plain_runs.specs.Recording.{state_of}
 use Rattle.cluster_call.specs.Running.{IsBetweenLines}
 use Rattle.cluster_call.proofs.AddLemmas.{state_behind_three}
 use Rattle.cluster_call.proofs.RunSteps.{op_stands, behind_update, update_entry}
-use Rattle.cluster_call.proofs.script_run.ScriptRun.issue_op.Goals as goal
+use Rattle.cluster_call.proofs.issuing.ScriptRun.issue_op.Goals as goal
 
 pub returns-clause-stands : goal.returns-clause-stands
 returns-clause-stands c =
