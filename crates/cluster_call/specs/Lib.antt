@@ -5,3 +5,4 @@ pub mod Outside
 pub mod Reading
 pub mod Running
 pub mod StatusCauses
+pub mod Found
