@@ -6,4 +6,5 @@ pub mod DiskSet
 pub mod Faults
 pub mod FileDisk
 pub mod MemDisk
+pub mod MemLaws
 pub mod Stops

@@ -1,7 +1,5 @@
 -- What a disk in memory tells.
-use Rattle.std.specs.Prelude.{◌≡◌, ℕ, ◌≤◌, List, [], ◌∷◌, length, take}
-use Rattle.std.proofs.Common.{sym, subst, arith}
-use Rattle.std.proofs.Math.Seq.{take-length}
+use Rattle.std.specs.Prelude.{◌≡◌, ℕ, List, [], ◌∷◌, length}
 use Rattle.outer_io.specs.Plan.{one_more}
 use Rattle.outer_io.specs.declared.stops.Stop.{Stop}
 use Rattle.outer_io.specs.declared.stops.Stop.TheVariants.{Failed, Memory}
@@ -52,13 +50,3 @@ first_of (call ∷ calls) kept bytes = kept
 pub record IsReplay (calls : List DiskCall) (kept bytes : List ℕ) : Type 0 where
   pub same : bytes ≡ bytes_after (first_of calls kept bytes) calls
   pub within : AreWithin (first_of calls kept bytes) calls
-
--- what a crash may leave now it might have left since earlier
-pub counts_now_of : (d : DiskState) (t : ℕ) (c : List ℕ) → t ≤ moment_of d → MayLeaveOf d c → LeftSinceOf d t c
-counts_now_of d t c le now = (length d.calls, le, omega arith, subst (λ (cs : List DiskCall). MayLeave d.first cs c) (sym (take-length d.calls)) now)
-
--- since this moment it may leave only what it may leave now
-pub only_now_of : (d : DiskState) (c : List ℕ) → LeftSinceOf d (moment_of d) c → MayLeaveOf d c
-only_now_of d c (k, from, to, left) =
-    let all : k ≡ length d.calls = omega arith in
-    subst (λ (cs : List DiskCall). MayLeave d.first cs c) (take-length d.calls) (subst (λ n. MayLeave d.first (take n d.calls) c) all left)

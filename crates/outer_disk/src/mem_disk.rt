@@ -142,7 +142,8 @@ impl Disk for MemDisk {
     ghost use Rattle.outer_io.specs.Causes.{HasCause, Rose};
     ghost use Rattle.outer_disk.specs.Disk.{written, Torn, Cut, Follows, LeavesNoMore, Only, Elapses, RoseBy};
     ghost use Rattle.outer_disk.specs.Faults.{fault_count, fails, write_fails, after_other, after_write};
-    ghost use Rattle.outer_disk.specs.MemDisk.{held, counts_of, MayLeaveOf, moment_of, LeftSinceOf, counts_now_of, only_now_of, out_of_memory_with};
+    ghost use Rattle.outer_disk.specs.MemDisk.{held, counts_of, MayLeaveOf, moment_of, LeftSinceOf, out_of_memory_with};
+    ghost use Rattle.outer_disk.specs.MemLaws.{counts_now_of, only_now_of};
 
     ghost told = { λ d. Some (held d) };
 

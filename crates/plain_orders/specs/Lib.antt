@@ -1,4 +1,6 @@
 pub mod Entries
+pub mod Sessions
+pub mod ItemEntries
 pub mod PairMap
 pub mod Numbers
 pub mod Times
@@ -9,4 +11,5 @@ pub mod Answers
 pub mod Own
 pub mod Conflict
 pub mod Spans
+pub mod Keys
 pub mod Laws

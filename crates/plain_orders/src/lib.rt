@@ -29,7 +29,9 @@ pub use entries::Entries;
 pub use entry::Entry;
 pub use item::Item;
 pub use job_apps::JobApps;
-pub use laws::{fold_goes_on, last_sum, map_rises, order_goes_on};
+pub use laws::{
+    fold_goes_on, last_sum, map_rises, order_goes_on, order_has_keys, under_is_at_or_below,
+};
 pub use layout::{Layout, Names, Times};
 pub use limits::{EPOCH_END, START_EPOCH_LIMIT};
 pub use mode::Mode;

@@ -29,7 +29,7 @@ mod value_bytes;
 
 pub use decimal::Decimal;
 pub use decoder::decode;
-pub use encoder::encode;
+pub use encoder::{encode, has_empty};
 pub use key_bytes::KeyBytes;
 pub use key_error::KeyError;
 pub use key_order::keys_stand_for_nodes;

@@ -15,7 +15,7 @@ use Rattle.plain_orders.specs.declared.entry.Entry.TheVariants.{Epoch, Opened as
 use Rattle.plain_orders.specs.declared.item.Item.{Item}
 use Rattle.plain_orders.specs.declared.item.Item.TheVariants.{Op as OpItem, Commit as CommitItem, Rollback as RollbackItem}
 use Rattle.plain_orders.specs.declared.question.Question.{Question}
-use Rattle.plain_orders.specs.declared.question.Question.TheVariants.{Get, Data, Next}
+use Rattle.plain_orders.specs.declared.question.Question.TheVariants.{Get, Shape, Next}
 use Rattle.plain_orders.specs.declared.act.Act.{Act}
 use Rattle.plain_orders.specs.declared.act.Act.TheVariants.{Opened, Enter, Synced, Shut, Release, Met, Told, Back, Crash, Issue, Read, Grant, Granted, GiveUp, Quit, Free, Counted, NotWhole, Range, Committed, RolledBack, Reached, Level, Done, Refused, Broke, Mended, Tick, Lose, Died}
 use Rattle.app_job.specs.declared.answer.Answer.{Answer}
@@ -69,7 +69,7 @@ one-item (RollbackItem txn) a b p q = p ∙ sym q
 
 one-question : (question : Question) (a b : List ℕ) → IsQuestionText question a → IsQuestionText question b → a ≡ b
 one-question (Get key value) = within-two (IsKeyText key) (IsValueText value) (λ node shown. codes "get " ++ (node ++ (32 ∷ shown))) (one-key key) (one-value value)
-one-question (Data key code) = within (IsKeyText key) (λ node. codes "data " ++ (node ++ field code)) (one-key key)
+one-question (Shape key code) = within (IsKeyText key) (λ node. codes "data " ++ (node ++ field code)) (one-key key)
 one-question (Next parent sub found) = within (IsBehindText parent sub) (λ node. codes "next " ++ (node ++ (32 ∷ found_text found))) (one-behind parent sub)
 
 one-lock : (mode : Mode) (key a b : List ℕ) → IsLockText mode key a → IsLockText mode key b → a ≡ b
