@@ -37,7 +37,8 @@ use Rattle.script_fits.specs.Lines.{LineAdds, LinesAdd, answer_line, tick_in, ti
 use Rattle.script_fits.specs.Breaks.{AreApart, Causes, LiesIn, no_causes, causes_after, range_of, with_causes}
 use Rattle.script_fits.specs.Fits.{AreRising, Fits, IsOpening}
 use Rattle.plain_runs.proofs.RunLemmas.{after_all-append}
-use Rattle.cluster_call.specs.Running.{AllCanPrint, AddsAct, CanRun, DidCommand, DidTodo, HasJob, IsMade, IsQuiet, IsServed, Makes, TodoRuns, found_of, own_line, pieces_of}
+use Rattle.cluster_call.specs.Found.{found_of}
+use Rattle.cluster_call.specs.Running.{AllCanPrint, AddsAct, CanRun, DidCommand, DidTodo, HasJob, IsMade, IsQuiet, IsServed, Makes, TodoRuns, own_line, pieces_of}
 use Rattle.cluster_call.proofs.AddLemmas.{all_both}
 use Rattle.cluster_call.proofs.WalkLemmas.{walk, LinesAdd-more, walk-more, causes-more, whole_acts, none_of, all_so, moments-more, own_moment, own_moments, if_own, AreDone-more, AreDone-ends, AreRising-more}
 

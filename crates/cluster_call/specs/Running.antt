@@ -204,8 +204,3 @@ abbrev pub DidTodo : Layout → ℕ → Todo → List Act → List Act → List 
 DidTodo l line (Job job command) old new answers =
     (answer : Answer) × DidCommand l line command old new answer × (answers ≡ own_line line answer ∷ [])
 DidTodo l line todo old new answers = (new ≡ old) × (answers ≡ [])
-
--- the entries that a data server found as it opened
-abbrev pub found_of : Act → List Entry
-found_of (Opened d entries) = entries
-found_of act = []
