@@ -5,7 +5,8 @@ use Rattle.std.specs.List.{flat_map, list_any, range_with_len, AllByRecursion}
 use Rattle.plain_orders.specs.declared.act.Act.{Act}
 use Rattle.plain_orders.specs.declared.act.Act.TheVariants.{Opened, Enter, Synced, Shut, Release, Met, Told, Back, Crash as CrashAct, Issue, Read, Grant, Granted, GiveUp, Quit, Free, Counted, NotWhole, Range, Committed, RolledBack, Reached, Level, Done, Refused, Broke, Mended, Tick as TickAct, Lose, Died}
 use Rattle.plain_orders.specs.declared.layout.Layout.{Layout}
-use Rattle.plain_runs.specs.Plain.{Plain, app_of, put, until}
+use Rattle.plain_orders.specs.Times.{until}
+use Rattle.plain_runs.specs.Plain.{Plain, app_of, put}
 use Rattle.plain_runs.specs.Run.{state_after}
 use Rattle.app_job.specs.declared.command.Command.{Command}
 use Rattle.app_job.specs.declared.command.Command.TheVariants.{Set, Kill, Get, Shape, Next, Incr, Lock, Unlock, Start, Commit, Rollback, Sync}
