@@ -183,7 +183,7 @@ pub record RefusesBehind {X : Type 0} (row_of : X → Row) (d : Declared) (word 
   pub parts : RefusesParts d (row_of line).parts text fault
 
 -- the first word begins a line of a table, and a part behind it is refused
-pub record Refuses {X : Type 0} (row_of : X → Row) (d : Declared) (text : List ℕ) (fault : LineFault) : Type 0 where
+pub record RefusesRow {X : Type 0} (row_of : X → Row) (d : Declared) (text : List ℕ) (fault : LineFault) : Type 0 where
   pub rest : List ℕ
   pub ahead : IsAhead (first_word text) text rest
   pub behind : RefusesBehind row_of d (first_word text) rest fault
