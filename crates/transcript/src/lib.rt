@@ -1,5 +1,5 @@
 //! The texts of answers and acts: a line for each answer, the line of the times, and the lines of each act. Contracts
-//! see what is appended as a text of the answer or the act; after want of memory nothing was appended. No clause
+//! see what is appended as a text of the answer or the act; when out of memory nothing is appended. No clause
 //! says that a text is read back.
 #![tactic(auto)]
 
