@@ -44,7 +44,7 @@ IsHere at = (at.server ≡ 0) × IsSite at
 
 -- a command that can be run
 abbrev pub CommandRuns : Command → Type 0
-CommandRuns (Set at value) = IsHere at × (length value ≤ 3000)
+CommandRuns (Set at value) = IsHere at × (length value ≤ VALUE_LIMIT)
 CommandRuns (Kill at) = IsHere at
 CommandRuns (Get at) = IsHere at
 CommandRuns (Shape at) = IsHere at
