@@ -1,2 +1,5 @@
 pub mod Groups
+pub mod Trails
 pub mod IssueExamples
+pub mod ReadExamples
+pub mod LockExamples

@@ -1,0 +1,23 @@
+use Rattle.std.proofs.Common.{refl, rules}
+use Rattle.plain_orders.specs.declared.via.Via.TheVariants.{Fetched}
+use Rattle.std.specs.Prelude.{None}
+use Rattle.fit_examples.proofs.examples.next_examples.Goals as goal
+
+pub returns : goal.returns
+returns c = (
+  ((2, Fetched, None, refl, refl), refl),
+  search rules,
+  search rules,
+  search rules,
+  search rules,
+  search rules,
+  search rules,
+  search rules,
+  search rules,
+  search rules,
+  search rules,
+  search rules,
+  search rules,
+  search rules,
+  search rules,
+)
