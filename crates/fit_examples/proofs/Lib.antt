@@ -1,1 +1,3 @@
 pub mod FirstMoments
+pub mod EndsOn
+pub mod EndLaws

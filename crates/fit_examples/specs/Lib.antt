@@ -3,3 +3,4 @@ pub mod Trails
 pub mod IssueExamples
 pub mod ReadExamples
 pub mod LockExamples
+pub mod LevelExamples

@@ -1,7 +1,13 @@
 -- Trails that the examples begin with. In each of them the first application server met a session at both data servers.
 use Rattle.std.specs.Prelude.{List, [], ◌∷◌, ◌++◌}
 use Rattle.plain_orders.specs.declared.act.Act.{Act}
-use Rattle.plain_orders.specs.declared.act.Act.TheVariants.{Grant, Granted, Level}
+use Rattle.plain_orders.specs.declared.act.Act.TheVariants.{Enter, Synced, Shut, Release, Met, Grant, Granted, GiveUp, Level, Refused as RefusedAct, Lose}
+use Rattle.plain_orders.specs.declared.causes.ShutCause.TheVariants.{Replaced}
+use Rattle.plain_orders.specs.declared.causes.Loss.TheVariants.{Reset as ByReset}
+use Rattle.plain_orders.specs.declared.entry.Entry.TheVariants.{Opened as OpenEntry}
+use Rattle.plain_orders.specs.declared.refused.Refused.TheVariants.{Network}
+use Rattle.plain_orders.specs.declared.refused.ReasonName.TheVariants.{Reset}
+use Rattle.plain_orders.specs.declared.refused.LinkName.TheVariants.{Recovery}
 use Rattle.plain_orders.specs.declared.mode.Mode.TheVariants.{Exclusive, Shared}
 use Rattle.fit_examples.specs.Groups.{met}
 
@@ -28,3 +34,26 @@ kept = locked ++ Granted 0 2 0 2 ∷ []
 -- and is in a transaction
 abbrev pub kept_within : List Act
 kept_within = kept ++ Level 0 3 1 ∷ []
+
+-- job 0 is in a transaction
+abbrev pub within : List Act
+within = met ++ Level 0 3 1 ∷ []
+
+-- and in another one within it
+abbrev pub within_more : List Act
+within_more = within ++ Level 0 4 2 ∷ []
+
+-- its lock was given up in the transaction
+abbrev pub kept_gone : List Act
+kept_gone = kept_within ++ GiveUp 0 4 0 Exclusive (120 ∷ 0 ∷ []) ∷ []
+
+-- the session of its lock was lost
+abbrev pub kept_lost : List Act
+kept_lost = kept_within ++ Shut 0 2 Replaced ∷ Synced 0 3 ∷ Lose 0 0 (ByReset 3) ∷ []
+
+-- and another one was met, in which it has the lock again
+abbrev pub kept_again : List Act
+kept_again =
+    kept_lost
+    ++ Enter 0 (OpenEntry 4 0) ∷ Synced 0 4 ∷ Met 0 0 4 ∷ RefusedAct 0 4 (Network 0 Recovery Reset) ∷ Release 0 2
+    ∷ Grant 0 4 0 Exclusive (120 ∷ 0 ∷ []) 4 ∷ Granted 0 4 0 4 ∷ []

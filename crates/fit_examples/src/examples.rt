@@ -1,6 +1,7 @@
 ghost use Rattle.fit_examples.specs.IssueExamples.{IncrementExamples, KillExamples, SetExamples};
 ghost use Rattle.fit_examples.specs.ReadExamples.{DataExamples, GetExamples, NextExamples};
 ghost use Rattle.fit_examples.specs.LockExamples.{LockEndExamples, LockExamples, UnlockExamples};
+ghost use Rattle.fit_examples.specs.LevelExamples.{EmptyCommitExamples, EmptyRollbackExamples, HeldBackExamples, StartExamples};
 
 /// Examples of a set.
 pub fn set_examples()
@@ -45,4 +46,24 @@ pub fn lock_end_examples()
 /// Examples of an unlock.
 pub fn unlock_examples()
     ensures { UnlockExamples }
+{}
+
+/// Examples of a transaction that begins.
+pub fn start_examples()
+    ensures { StartExamples }
+{}
+
+/// Examples of a commit without updates.
+pub fn empty_commit_examples()
+    ensures { EmptyCommitExamples }
+{}
+
+/// Examples of a rollback without updates.
+pub fn empty_rollback_examples()
+    ensures { EmptyRollbackExamples }
+{}
+
+/// Examples of an unlock that is given back at a commit.
+pub fn held_back_examples()
+    ensures { HeldBackExamples }
 {}

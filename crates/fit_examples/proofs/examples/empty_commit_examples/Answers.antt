@@ -1,0 +1,28 @@
+use Rattle.std.proofs.Common.{[], ◌∷◌, refl, arith, rules, inl, inr}
+use Rattle.std.specs.Prelude.{false}
+use Rattle.script_fits.specs.Locking.{no_past}
+use Rattle.fit_examples.specs.Groups.{two}
+use Rattle.fit_examples.proofs.EndLaws.{no_commit}
+use Rattle.fit_examples.proofs.examples.empty_commit_examples.Goals as goal
+
+pub returns : goal.returns
+returns c = (
+  inr (_, (_, _, refl, refl), refl, refl, inl (refl, (_ ∷ [], _, refl, record { issued = []; given = []; closing = _; whole = refl; items = (refl, refl); unlocks = refl; level = refl }, refl, refl))),
+  inr (_, (_, _, refl, refl), refl, refl, inl (refl, (_ ∷ [], _, refl, record { issued = []; given = []; closing = _; whole = refl; items = (refl, refl); unlocks = refl; level = refl }, refl, refl))),
+  search rules,
+  no_commit two 0 5 false no_past _ _ _ _ [] refl refl (search rules),
+  no_commit two 0 5 false no_past _ _ _ _ [] refl refl (search rules),
+  no_commit two 0 5 false no_past _ _ _ _ [] refl refl (search rules),
+  no_commit two 0 5 false no_past _ _ _ _ [] refl refl (search rules),
+  no_commit two 0 5 false no_past _ _ _ _ [] refl refl (search rules),
+  no_commit two 0 5 false no_past _ _ _ _ [] refl refl (search rules),
+  no_commit two 0 5 false no_past _ _ _ _ [] refl refl (search rules),
+  no_commit two 0 5 false no_past _ _ _ _ [] refl refl (search rules),
+  search rules,
+  inl (_, 1, (_, _, refl, refl), refl, omega arith, refl, refl, refl),
+  inl (_, 1, (_, _, refl, refl), refl, omega arith, refl, refl, refl),
+  search rules,
+  search rules,
+  inl (_, 1, (_, _, refl, refl), refl, omega arith, refl, refl, refl),
+  search rules,
+)
