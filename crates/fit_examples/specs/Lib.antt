@@ -4,3 +4,4 @@ pub mod IssueExamples
 pub mod ReadExamples
 pub mod LockExamples
 pub mod LevelExamples
+pub mod EndExamples

@@ -1,13 +1,15 @@
 -- Trails that the examples begin with. In each of them the first application server met a session at both data servers.
 use Rattle.std.specs.Prelude.{List, [], ◌∷◌, ◌++◌}
 use Rattle.plain_orders.specs.declared.act.Act.{Act}
-use Rattle.plain_orders.specs.declared.act.Act.TheVariants.{Enter, Synced, Shut, Release, Met, Grant, Granted, GiveUp, Level, Refused as RefusedAct, Lose}
+use Rattle.plain_orders.specs.declared.act.Act.TheVariants.{Enter, Synced, Shut, Release, Met, Issue, Grant, Granted, GiveUp, Level, Refused as RefusedAct, Lose}
 use Rattle.plain_orders.specs.declared.causes.ShutCause.TheVariants.{Replaced}
 use Rattle.plain_orders.specs.declared.causes.Loss.TheVariants.{Reset as ByReset}
 use Rattle.plain_orders.specs.declared.entry.Entry.TheVariants.{Opened as OpenEntry}
 use Rattle.plain_orders.specs.declared.refused.Refused.TheVariants.{Network}
 use Rattle.plain_orders.specs.declared.refused.ReasonName.TheVariants.{Reset}
 use Rattle.plain_orders.specs.declared.refused.LinkName.TheVariants.{Recovery}
+use Rattle.plain_orders.specs.declared.item.Item.TheVariants.{Op as OpItem}
+use Rattle.plain_orders.specs.declared.op.Op.TheVariants.{Set as SetOp}
 use Rattle.plain_orders.specs.declared.mode.Mode.TheVariants.{Exclusive, Shared}
 use Rattle.fit_examples.specs.Groups.{met}
 
@@ -57,3 +59,15 @@ kept_again =
     kept_lost
     ++ Enter 0 (OpenEntry 4 0) ∷ Synced 0 4 ∷ Met 0 0 4 ∷ RefusedAct 0 4 (Network 0 Recovery Reset) ∷ Release 0 2
     ∷ Grant 0 4 0 Exclusive (120 ∷ 0 ∷ []) 4 ∷ Granted 0 4 0 4 ∷ []
+
+-- job 0 set ^x at the first data server in a transaction
+abbrev pub set_one : List Act
+set_one = met ++ Level 0 2 1 ∷ Issue 0 3 0 1 (OpItem (SetOp (120 ∷ 0 ∷ []) (53 ∷ []))) ∷ []
+
+-- and at the second one
+abbrev pub set_both : List Act
+set_both = set_one ++ Issue 0 4 1 1 (OpItem (SetOp (120 ∷ 0 ∷ []) (53 ∷ []))) ∷ []
+
+-- and the session with the first one was lost
+abbrev pub set_lost : List Act
+set_lost = set_both ++ Shut 0 2 Replaced ∷ Synced 0 3 ∷ Lose 0 0 (ByReset 3) ∷ []

@@ -2,6 +2,7 @@ ghost use Rattle.fit_examples.specs.IssueExamples.{IncrementExamples, KillExampl
 ghost use Rattle.fit_examples.specs.ReadExamples.{DataExamples, GetExamples, NextExamples};
 ghost use Rattle.fit_examples.specs.LockExamples.{LockEndExamples, LockExamples, UnlockExamples};
 ghost use Rattle.fit_examples.specs.LevelExamples.{EmptyCommitExamples, EmptyRollbackExamples, HeldBackExamples, StartExamples};
+ghost use Rattle.fit_examples.specs.EndExamples.{AwaitedCommitExamples, CommitExamples, RollbackExamples, SyncExamples};
 
 /// Examples of a set.
 pub fn set_examples()
@@ -66,4 +67,24 @@ pub fn empty_rollback_examples()
 /// Examples of an unlock that is given back at a commit.
 pub fn held_back_examples()
     ensures { HeldBackExamples }
+{}
+
+/// Examples of a commit that nobody waits for.
+pub fn commit_examples()
+    ensures { CommitExamples }
+{}
+
+/// Examples of a commit that waits.
+pub fn awaited_commit_examples()
+    ensures { AwaitedCommitExamples }
+{}
+
+/// Examples of a rollback.
+pub fn rollback_examples()
+    ensures { RollbackExamples }
+{}
+
+/// Examples of a sync.
+pub fn sync_examples()
+    ensures { SyncExamples }
 {}
