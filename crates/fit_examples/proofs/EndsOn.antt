@@ -1,5 +1,6 @@
 -- What the end of a transaction comes to, moment by moment.
 use Rattle.std.proofs.Common.{◌≡◌, ◌⊎◌, inl, inr, ℕ, true, false, List, [], ◌∷◌, ◌++◌, refl, sym, subst}
+use Rattle.std.proofs.lemmas.List.{append-nil}
 use Rattle.plain_orders.specs.declared.act.Act.{Act}
 use Rattle.plain_orders.specs.declared.act.Act.TheVariants.{Issue, GiveUp, Level, Done}
 use Rattle.plain_orders.specs.declared.item.Item.{Item}
@@ -76,14 +77,10 @@ pub empty_on : (l : Layout) (job line : ℕ) (item : Item) (past : Past) (ms : L
 empty_on l job line item past ms answer (put, m, e, puts, act, a) =
     (subst (λ x. PutsOn l job line item (LeavesDone job line) past.held_back [] x []) (sym e) (puts_on l job line item (LeavesDone job line) [] past put (m ∷ []) [] puts (m, refl, act)), a)
 
-append-nothing : (ms : List Moment) → ms ++ [] ≡ ms
-append-nothing [] = refl
-append-nothing (m ∷ ms) = cc (append-nothing ms)
-
 pub queued_on : (l : Layout) (job line : ℕ) (item : Item) (ds : List ℕ) (past : Past) (ms : List Moment) (answer : Answer)
     → EndsQueued l job line item ds past ms answer → (places : List Place) × PutsOn l job line item LeavesNothing past.held_back ds ms places × (answer ≡ Queued places)
 queued_on l job line item ds past ms answer (places, some, puts, a) =
-    (places, subst (λ x. PutsOn l job line item LeavesNothing past.held_back ds x places) (append-nothing ms) (puts_on l job line item LeavesNothing ds past ms [] places puts refl), a)
+    (places, subst (λ x. PutsOn l job line item LeavesNothing past.held_back ds x places) (append-nil ms) (puts_on l job line item LeavesNothing ds past ms [] places puts refl), a)
 
 pub answered_on : (AreAnswered : List ℕ → List Act → List Place → Type 0) (l : Layout) (job line : ℕ) (item : Item) (ds : List ℕ) (past : Past) (ms : List Moment) (places : List Place)
     → EndsAnswered AreAnswered l job line item ds past ms places

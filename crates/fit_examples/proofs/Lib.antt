@@ -1,3 +1,4 @@
 pub mod FirstMoments
 pub mod EndsOn
 pub mod EndLaws
+pub mod PartLaws

@@ -12,7 +12,7 @@ use Rattle.app_job.specs.Sites.{Site}
 use Rattle.plain_runs.specs.Run.{state_after}
 use Rattle.script_fits.specs.Moments.{Moment, moments_from, moments_of}
 use Rattle.script_fits.specs.Locking.{HeldBack, Past, no_past}
-use Rattle.script_fits.specs.Commands.{Whole}
+use Rattle.script_fits.specs.Commands.{Whole, Part, RefusedAfter}
 
 -- two data servers and two application servers; the jobs 0 and 2 run on the first, job 1 on the second
 abbrev pub two : Layout
@@ -81,3 +81,11 @@ DoesHeld front past command acts answer held = Whole two 0 5 command past (group
 -- these acts of another job are the whole of job 0's command
 abbrev pub DoesAs : ℕ → Command → List Act → Answer → Type 0
 DoesAs job command acts answer = Whole two 0 5 command no_past (group met job acts) answer []
+
+-- following this trail these acts are a part of job 0's command at line 5
+abbrev pub Begins : List Act → Command → List Act → Type 0
+Begins front command acts = Part two 0 5 command no_past (group front 0 acts) []
+
+-- following this trail these acts are a refusal of job 0's command at line 5, and what went before it, with this answer
+abbrev pub IsRefused : List Act → Command → List Act → Answer → Type 0
+IsRefused front command acts answer = RefusedAfter two 0 5 command no_past (group front 0 acts) answer []

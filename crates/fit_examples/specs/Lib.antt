@@ -5,3 +5,4 @@ pub mod ReadExamples
 pub mod LockExamples
 pub mod LevelExamples
 pub mod EndExamples
+pub mod RefusalExamples

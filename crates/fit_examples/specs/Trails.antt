@@ -71,3 +71,7 @@ set_both = set_one ++ Issue 0 4 1 1 (OpItem (SetOp (120 ∷ 0 ∷ []) (53 ∷ []
 -- and the session with the first one was lost
 abbrev pub set_lost : List Act
 set_lost = set_both ++ Shut 0 2 Replaced ∷ Synced 0 3 ∷ Lose 0 0 (ByReset 3) ∷ []
+
+-- a session was lost
+abbrev pub barred : List Act
+barred = met ++ Shut 0 2 Replaced ∷ Synced 0 3 ∷ Lose 0 0 (ByReset 3) ∷ []

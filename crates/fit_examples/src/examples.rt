@@ -3,6 +3,7 @@ ghost use Rattle.fit_examples.specs.ReadExamples.{DataExamples, GetExamples, Nex
 ghost use Rattle.fit_examples.specs.LockExamples.{LockEndExamples, LockExamples, UnlockExamples};
 ghost use Rattle.fit_examples.specs.LevelExamples.{EmptyCommitExamples, EmptyRollbackExamples, HeldBackExamples, StartExamples};
 ghost use Rattle.fit_examples.specs.EndExamples.{AwaitedCommitExamples, CommitExamples, RollbackExamples, SyncExamples};
+ghost use Rattle.fit_examples.specs.RefusalExamples.{PartExamples, RefusalExamples};
 
 /// Examples of a set.
 pub fn set_examples()
@@ -87,4 +88,14 @@ pub fn rollback_examples()
 /// Examples of a sync.
 pub fn sync_examples()
     ensures { SyncExamples }
+{}
+
+/// Examples of a command that was begun.
+pub fn part_examples()
+    ensures { PartExamples }
+{}
+
+/// Examples of a command that was refused.
+pub fn refusal_examples()
+    ensures { RefusalExamples }
 {}
