@@ -1,6 +1,6 @@
 -- What the end of a transaction comes to, moment by moment.
 use Rattle.std.proofs.Common.{◌≡◌, ◌⊎◌, inl, inr, ℕ, true, false, List, [], ◌∷◌, ◌++◌, refl, sym, subst}
-use Rattle.std.proofs.lemmas.List.{append-nil}
+use Rattle.std.proofs.lemmas.List.{append-nil, append_assoc}
 use Rattle.plain_orders.specs.declared.act.Act.{Act}
 use Rattle.plain_orders.specs.declared.act.Act.TheVariants.{Issue, GiveUp, Level, Done}
 use Rattle.plain_orders.specs.declared.item.Item.{Item}
@@ -52,15 +52,11 @@ issued_on l job line item Left hs (d ∷ ds) [] tail places (w, rest, others, e,
 issued_on l job line item Left hs (d ∷ ds) (i ∷ issued) tail places (w, rest, others, e, p, are) gives =
     (w, others, cc e, p, issued_on l job line item Left hs ds issued tail others (subst (λ x. AreIssued job line item ds x others) (cc e) are) gives)
 
-again : (xs ys zs : List Moment) → (xs ++ ys) ++ zs ≡ xs ++ (ys ++ zs)
-again [] ys zs = refl
-again (x ∷ xs) ys zs = cc (again xs ys zs)
-
 -- what is put, with what is left after it
 pub puts_on : (l : Layout) (job line : ℕ) (item : Item) (Left : List Moment → Type 0) (ds : List ℕ) (past : Past) (put left : List Moment) (places : List Place)
     → PutsEnds l job line item ds past put places → Left left → PutsOn l job line item Left past.held_back ds (put ++ left) places
 puts_on l job line item Left ds past put left places puts more =
-    subst (λ ms. PutsOn l job line item Left past.held_back ds ms places) (cc (puts.whole, again puts.issued (puts.given ++ puts.closing ∷ []) left, again puts.given (puts.closing ∷ []) left))
+    subst (λ ms. PutsOn l job line item Left past.held_back ds ms places) (cc (puts.whole, append_assoc puts.issued (puts.given ++ puts.closing ∷ []) left, append_assoc puts.given (puts.closing ∷ []) left))
     (issued_on l job line item Left past.held_back ds puts.issued (puts.given ++ puts.closing ∷ left) places puts.items
       (gives_on l job line Left past.held_back puts.given puts.closing left puts.unlocks puts.level more))
 

@@ -2,3 +2,4 @@ pub mod FirstMoments
 pub mod EndsOn
 pub mod EndLaws
 pub mod PartLaws
+pub mod JobLaws

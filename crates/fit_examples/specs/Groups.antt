@@ -13,6 +13,7 @@ use Rattle.plain_runs.specs.Run.{state_after}
 use Rattle.script_fits.specs.Moments.{Moment, moments_from, moments_of}
 use Rattle.script_fits.specs.Locking.{HeldBack, Past, no_past}
 use Rattle.script_fits.specs.Commands.{Whole, Part, RefusedAfter}
+use Rattle.script_fits.specs.JobLines.{CommandLine, Ended, DoesJob}
 
 -- two data servers and two application servers; the jobs 0 and 2 run on the first, job 1 on the second
 abbrev pub two : Layout
@@ -89,3 +90,15 @@ Begins front command acts = Part two 0 5 command no_past (group front 0 acts) []
 -- following this trail these acts are a refusal of job 0's command at line 5, and what went before it, with this answer
 abbrev pub IsRefused : List Act → Command → List Act → Answer → Type 0
 IsRefused front command acts answer = RefusedAfter two 0 5 command no_past (group front 0 acts) answer []
+
+-- a command at a line
+abbrev pub at_line : ℕ → Command → CommandLine
+at_line line command = record { line = line; command = command }
+
+-- the end of a command of job 0: its line, its answer, and its place in the trail
+abbrev pub ended : ℕ → Answer → ℕ → Ended
+ended line answer place = record { job = 0; line = line; answer = answer; place = place }
+
+-- these acts that follow a trail are what job 0 does for its commands, and these are their ends
+abbrev pub JobDoes : List Act → List CommandLine → List Act → List Ended → Type 0
+JobDoes front commands acts ends = DoesJob two 0 commands (group front 0 acts) ends

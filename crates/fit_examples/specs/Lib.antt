@@ -6,3 +6,4 @@ pub mod LockExamples
 pub mod LevelExamples
 pub mod EndExamples
 pub mod RefusalExamples
+pub mod JobExamples

@@ -4,6 +4,7 @@ ghost use Rattle.fit_examples.specs.LockExamples.{LockEndExamples, LockExamples,
 ghost use Rattle.fit_examples.specs.LevelExamples.{EmptyCommitExamples, EmptyRollbackExamples, HeldBackExamples, StartExamples};
 ghost use Rattle.fit_examples.specs.EndExamples.{AwaitedCommitExamples, CommitExamples, RollbackExamples, SyncExamples};
 ghost use Rattle.fit_examples.specs.RefusalExamples.{PartExamples, RefusalExamples};
+ghost use Rattle.fit_examples.specs.JobExamples.{JobExamples};
 
 /// Examples of a set.
 pub fn set_examples()
@@ -98,4 +99,9 @@ pub fn part_examples()
 /// Examples of a command that was refused.
 pub fn refusal_examples()
     ensures { RefusalExamples }
+{}
+
+/// Examples of a job's commands.
+pub fn job_examples()
+    ensures { JobExamples }
 {}
