@@ -9,7 +9,7 @@ use Rattle.plain_orders.specs.declared.item.Item.{Item}
 use Rattle.plain_orders.specs.declared.item.Item.TheVariants.{Op as OpItem}
 use Rattle.plain_orders.specs.declared.op.Op.TheVariants.{Set, Kill}
 use Rattle.plain_orders.specs.declared.question.Question.{Question}
-use Rattle.plain_orders.specs.declared.question.Question.TheVariants.{Get, Data, Next}
+use Rattle.plain_orders.specs.declared.question.Question.TheVariants.{Get, Shape, Next}
 use Rattle.plain_orders.specs.declared.layout.Names.{Names}
 use Rattle.plain_orders.specs.declared.via.Via.{Via}
 use Rattle.global_text.specs.Printed.{Appends}
@@ -73,7 +73,7 @@ item_can job line d w _ = tt
 
 read_can : (job line at : ℕ) (via : Via) (question : Question) → CanPrintQuestion question → AllCanAnswer (read_answer job line at via question)
 read_can job line at via (Get key value) can = (tt, tt)
-read_can job line at via (Data key code) can = (tt, tt)
+read_can job line at via (Shape key code) can = (tt, tt)
 read_can job line at via (Next parent sub found) can = (can.2, tt)
 
 act_can : (a : Act) → CanPrintAct a → AllCanAnswer (answer_of a)

@@ -1,5 +1,4 @@
 pub mod Built
-pub mod Fits
 pub mod OutputText
 pub mod Outside
 pub mod Reading

@@ -13,7 +13,7 @@ ghost use Rattle.cluster_call.specs.declared.output.Output.{Output};
 use crate::built::first_unbuilt;
 use crate::output_text::print_output;
 use crate::put_all::put_all;
-use crate::script_run::run_script;
+use crate::line_run::run_script;
 use crate::source_text::{TextError, read_text};
 use crate::status::Status;
 use itoa::Buffer;

@@ -88,7 +88,7 @@ stay_step bs e x y rest is = cases (length_ahead bs) refl (sym (fault_step bs) �
     cases None ahead was = absurd (cc (was))
     cases (Some n) ahead was = inner n ahead (refusal n) refl was
 
--- behind a refused length nothing gives other frames
+-- after a refused length nothing gives other frames
 frames_stay : (t : ℕ) (bs : List ℕ) (e : FrameError) (x y : List ℕ) → length bs ≤ t → fault_in bs ≡ Some e → frames_in (bs ++ x) ≡ frames_in (bs ++ y)
 frames_stay zero bs e x y le is = stay_step bs e x y (λ n h was. absurd (omega arith)) is
 frames_stay (suc t) bs e x y le is = stay_step bs e x y (λ n h was. frames_stay t (drop (4 + n) bs) e x y (omega (arith, length-drop (4 + n) bs)) was) is

@@ -1,5 +1,5 @@
 -- How the first refused length of a stream is found, frame by frame.
-use Rattle.std.proofs.Common.{◌≡◌, ◌≢◌, ℕ, zero, suc, ◌+◌, ◌-◌, ◌<◌, ◌≤◌, Bool, true, false, cond, ltb, leb, eqb, List, [], ◌∷◌, ◌++◌, length, take, drop, Option, Some, None, is_none, ◌&&◌, option_and_then, refl, sym, ◌∙◌, ap, subst, ⊎_elim, arith, append_assoc, length-append, length-drop}
+use Rattle.std.proofs.Common.{◌≡◌, ◌≢◌, ℕ, zero, suc, ◌+◌, ◌-◌, ◌<◌, ◌≤◌, Bool, true, false, cond, ltb, leb, eqb, List, [], ◌∷◌, ◌++◌, length, take, drop, Option, Some, None, is_none, ◌&&◌, option_and_then, refl, sym, ◌∙◌, ap, subst, ⊎_elim, arith, length-append, length-drop}
 use Rattle.std.proofs.lemmas.Bool.{cases_lt}
 use Rattle.std.proofs.lemmas.Bool.Decides.{nat_tests}
 use Rattle.std.proofs.lemmas.List.{append-nil, drop-append-le, drop-drop, take-append-le}
@@ -126,7 +126,7 @@ scan_past bytes from at so_far past = scan_end bytes from at so_far (nothing_ahe
 pub scan_fault : (bytes : List ℕ) (from at n : ℕ) (e : FrameError) → ((more : List ℕ) → fault_in (drop from (bytes ++ more)) ≡ fault_in (drop at (bytes ++ more))) → length_ahead (drop at bytes) ≡ Some n → refusal n ≡ Some e → fault_in (drop from bytes) ≡ Some e
 scan_fault bytes from at n e so_far is bad = scan_to bytes from at so_far ∙ fault_here (drop at bytes) n e is bad
 
--- a refused length is no want of memory
+-- a refused length is not a lack of memory
 pub refusal_is : (n : ℕ) (e : FrameError) → refusal n ≡ Some e → e ≢ Memory
 refusal_is n e is = empty (eqb n 0) is
   where
@@ -137,11 +137,6 @@ refusal_is n e is = empty (eqb n 0) is
     empty : (b : Bool) → cond b (Some Empty) (cond (ltb 16384 n) (Some (TooLong n)) None) ≡ Some e → e ≡ Memory → ⊥
     empty true was memory = cc
     empty false was memory = long (ltb 16384 n) was memory
-
--- the lengths looked at on both sides of a feed
-pub boundary_fed : (held piece : List ℕ) (checked at : ℕ) → IsBoundary held checked → ((more : List ℕ) → fault_in (drop checked ((held ++ piece) ++ more)) ≡ fault_in (drop at ((held ++ piece) ++ more))) → IsBoundary (held ++ piece) at
-boundary_fed held piece checked at is so_far = λ more.
-    ap (λ (xs : List ℕ). fault_in xs) (append_assoc held piece more) ∙ is (piece ++ more) ∙ ap (λ (xs : List ℕ). fault_in (drop checked xs)) (sym (append_assoc held piece more)) ∙ so_far more
 
 -- behind the first frame the lengths looked at stay looked at
 pub boundary_behind : (held : List ℕ) (n checked : ℕ) → length_ahead held ≡ Some n → refusal n ≡ None → 4 + n ≤ length held → IsBoundary held checked → IsBoundary (drop (4 + n) held) (checked - (4 + n))

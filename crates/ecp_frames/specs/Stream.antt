@@ -22,7 +22,7 @@ whole_ahead bytes = option_and_then (λ n. if is_none (refusal n) && nat_le (4 +
 abbrev pub first_frame : List ℕ → Option (List ℕ)
 first_frame bytes = option_map (λ n. take n (drop 4 bytes)) (whole_ahead bytes)
 
--- what stands behind the first frame, or all where no whole frame is there
+-- what follows the first frame, or all where no whole frame is there
 abbrev pub behind_first : List ℕ → List ℕ
 behind_first bytes = option_map_or (λ n. drop (4 + n) bytes) (whole_ahead bytes) bytes
 
@@ -40,7 +40,7 @@ fault_within (suc frames) bytes = option_and_then (λ n. first_of_two (refusal n
 abbrev pub fault_in : List ℕ → Option FrameError
 fault_in bytes = fault_within (length bytes) bytes
 
--- what is held once a piece was fed: behind a refused length nothing is taken
+-- what is held once a piece was fed: after a refused length nothing is taken
 abbrev pub fed : List ℕ → List ℕ → List ℕ
 fed bytes piece = if is_some (fault_in bytes) then bytes else bytes ++ piece
 

@@ -39,8 +39,8 @@ impl Frames {
         }
     }
 
-    /// Takes the next bytes of the stream. Behind a refused length nothing is taken, and each call answers the
-    /// same; the frames before it are still given. Where memory is wanting nothing is taken.
+    /// Takes the next bytes of the stream. After a refused length nothing is taken, and each call answers the
+    /// same; the frames before it are still given. Where there is no memory nothing is taken.
     pub fn feed(&mut self, piece: &[u8]) -> Result<(), FrameError>
         ensures ok { OnOk result ((fault_in (self.old ++ piece.now) ≡ None)
             × (self.new ≡ self.old ++ piece.now)) }

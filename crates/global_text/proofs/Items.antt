@@ -1,5 +1,5 @@
 -- Items of quoted strings: which byte they stand for, and where they end.
-use Rattle.std.proofs.Common.{◌≡◌, ◌≢◌, ℕ, ◌+◌, ◌*◌, ◌/◌, ◌%◌, ◌<◌, List, [], ◌∷◌, ◌++◌, length, refl, ap, ◌∙◌, inl, inr, arith, length-append}
+use Rattle.std.proofs.Common.{◌≡◌, ◌≢◌, ℕ, ◌+◌, ◌*◌, ◌/◌, ◌%◌, ◌<◌, List, [], ◌∷◌, ◌++◌, refl, ap, ◌∙◌, inl, inr, arith}
 use Rattle.global_text.specs.Strings.{hex_digit, IsItem}
 
 -- an item for the byte begins the text, and rest follows
@@ -20,14 +20,3 @@ code-taken text rest b h l c d e p q small also number =
 
 pub plain-taken : (text rest : List ℕ) (b : ℕ) → text ≡ b ∷ rest → b ≢ 10 → b ≢ 34 → b ≢ 92 → Takes b text rest
 plain-taken text rest b e n m k = (b ∷ [], inr (inr (inr ((n, m, k), refl))), e)
-
--- an item isn't empty
-pub item-some : (b : ℕ) (item : List ℕ) → IsItem b item → 0 < length item
-item-some b item (inl (n, e)) = omega (arith, ap length e)
-item-some b item (inr (inl (n, e))) = omega (arith, ap length e)
-item-some b item (inr (inr (inl (n, e)))) = omega (arith, ap length e)
-item-some b item (inr (inr (inr (n, e)))) = omega (arith, ap length e)
-
--- so less is left behind it
-pub taken_shorter : (b : ℕ) (text rest : List ℕ) → Takes b text rest → length rest < length text
-taken_shorter b text rest (item, is, e) = omega (arith, item-some b item is, ap length e, length-append item rest)

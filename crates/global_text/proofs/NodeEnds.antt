@@ -26,7 +26,7 @@ read-to text name rest after subs e is =
       limit = key-within node name refl (parts-limit name (94 ∷ (name ++ rest)) after subs is);
     }
 
--- a name, and what is read behind it
+-- a name, and what is read after it
 pub front-of : (text name other rest : List ℕ) (subs : List Sub) (end : Result ℕ TextError) → other ≡ name → IsName name → text ≡ 94 ∷ (name ++ rest) → BeginsOtherwise is_ascii_alphanumeric rest → IfOk end (IsReadTo text name subs) → IfErr end (StopsBehind text name subs) → IsFront text (record { name = other; subs = subs; end = end })
 front-of text name other rest subs end same named stands whole read stop =
     let P : List ℕ → Type 0 = λ n. IsFront text (record { name = n; subs = subs; end = end }) in

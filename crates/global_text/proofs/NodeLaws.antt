@@ -116,7 +116,7 @@ mark-no-fault c rest (b ∷ at) BadValue e k fault = fault
 mark-no-fault c rest (b ∷ at) ValueTooLong e k fault = fault
 mark-no-fault c rest (b ∷ at) (Memory error) e k fault = fault
 
--- and a fault behind one of them
+-- and a fault after one of them
 list-no-mark : (front subs : List Sub) (last s : Sub) (list place rest at behind : List ℕ) (error : TextError) → ReadsSubs front list place → ReadsSub last place (41 ∷ rest) → ReadsSubs subs list at → ReadsSub s at behind → HasMarkFault behind error → ⊥
 list-no-mark [] [] last s list place rest at behind error p is q it fault =
     let same = one-sub s last at behind (41 ∷ rest) it (subst (λ (t : List ℕ). ReadsSub last t (41 ∷ rest)) (sym p ∙ q) is) in

@@ -1,21 +1,17 @@
 -- Nodes that are read from the left.
-use Rattle.std.proofs.Common.{◌≡◌, ℕ, ◌+◌, ◌<◌, ◌≤◌, List, [], ◌∷◌, ◌++◌, length, refl, sym, ap, subst, inl, inr, arith, length-append}
+use Rattle.std.proofs.Common.{◌≡◌, ℕ, ◌+◌, ◌≤◌, List, [], ◌∷◌, ◌++◌, length, refl, sym, subst, inl, inr, arith}
 use Rattle.subscript_keys.specs.declared.sub.Sub.{Sub}
+use Rattle.subscript_keys.specs.declared.limits.TheConstants.{GLOBAL_NAME_LIMIT}
 use Rattle.subscript_keys.specs.Key.{sub_bytes, IsName}
-use Rattle.global_text.specs.Strings.{ReadsString}
 use Rattle.global_text.specs.Nodes.{ReadsSub, ReadsSubs, key_length, BeforeSub, BehindSub}
 use Rattle.global_text.specs.declared.text_error.TextError.{TextError}
 use Rattle.global_text.specs.Faults.{HasSubFault, HasMarkFault, StopsBehind}
 use Rattle.global_text.proofs.KeyLengths.{subs-length}
 
--- a name has at most 31 bytes
-pub name-short : (name : List ℕ) → IsName name → length name ≤ 31
+-- a name has at most GLOBAL_NAME_LIMIT bytes
+pub name-short : (name : List ℕ) → IsName name → length name ≤ GLOBAL_NAME_LIMIT
 name-short [] is = absurd is
-name-short (c ∷ name) is = let short : length name ≤ 30 = is.2 in omega arith
-
--- no subscript yet
-pub before-none : (name list : List ℕ) → IsName name → BeforeSub (94 ∷ (name ++ 40 ∷ list)) name [] list
-before-none name list is = record { named = is; listed = (list, refl, refl); within = omega (arith, name-short name is) }
+name-short (c ∷ name) is = omega (arith, is.2)
 
 longer-key : (name : List ℕ) (subs : List Sub) (s : Sub) → key_length name (subs ++ s ∷ []) ≡ key_length name subs + length (sub_bytes s)
 longer-key name subs s = omega (arith, subs-length subs s)
@@ -36,15 +32,10 @@ before-next text name place next subs s key longer before e is k within = (
   omega (arith, longer-key name subs s),
 )
 
--- less is left behind a string and a byte
-pub string-shorter : (s text next : List ℕ) (c : ℕ) → ReadsString s text (c ∷ next) → length next < length text
-string-shorter s text next c (inl (is, e, n)) = omega (arith, ap length e, length-append s (c ∷ next))
-string-shorter s text next c (inr ((items, is, e), n)) = omega (arith, ap length e, length-append items (34 ∷ c ∷ next))
-
 -- a fault before a subscript
 pub fault-before : (text name rest : List ℕ) (subs : List Sub) (key : ℕ) (error : TextError) → BeforeSub text name subs rest → key ≡ key_length name subs → HasSubFault key rest error → StopsBehind text name subs error
 fault-before text name rest subs key error before e fault = (rest, inl (before, subst (λ (k : ℕ). HasSubFault k rest error) e fault))
 
--- a fault behind one
+-- a fault after one
 pub fault-behind : (text name rest : List ℕ) (subs : List Sub) (error : TextError) → BehindSub text name subs rest → HasMarkFault rest error → StopsBehind text name subs error
 fault-behind text name rest subs error behind fault = (rest, inr (behind, fault))

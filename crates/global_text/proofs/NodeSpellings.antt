@@ -17,7 +17,7 @@ use Rattle.global_text.proofs.NumberSpellings.{number-of-any}
 use Rattle.global_text.proofs.PrintedReads.{quoted-read}
 use Rattle.global_text.proofs.KeyLengths.{subs-length}
 
--- a string that ends at a byte, whatever stands behind that byte
+-- a string that ends at a byte, whatever follows that byte
 abbrev EndsAt : List ℕ → List ℕ → ℕ → Type 0
 EndsAt s front c = (more : List ℕ) → ReadsString s (front ++ c ∷ more) (c ∷ more)
 
@@ -29,7 +29,7 @@ string-cut s text rest c (inr ((items, is, e), n)) = (
   λ more. inr ((items, is, ap (λ x. 34 ∷ x) (append_assoc items (34 ∷ []) (c ∷ more))), n),
 )
 
--- subscripts with their commas, whatever stands behind
+-- subscripts with their commas, whatever follows
 abbrev StandsFor : List Sub → List ℕ → Type 0
 StandsFor subs front = (more : List ℕ) → ReadsSubs subs (front ++ more) more
 

@@ -5,9 +5,9 @@ use Rattle.std.specs.Char.{is_ascii_digit}
 use Rattle.std.proofs.lemmas.Bool.{eq-eqb, and_parts, leb-true}
 use Rattle.std.proofs.lemmas.List.{append-nil, length-map}
 use Rattle.std.proofs.lemmas.List.Sums.{sum_by-append, sum_by-cons}
-use Rattle.subscript_keys.specs.Decimal.{AreDigits, AreDigitCharacters, BeginsAboveZero, EndsAboveZero as EndsAbove, IsNumberText, digits_read, digit_text, fraction_text, sign_text, number_text}
+use Rattle.subscript_keys.specs.Decimal.{AreDigits, AreDigitCharacters, BeginsAboveZero, EndsAboveZero, IsNumberText, digits_read, digit_text, fraction_text, sign_text, number_text}
 use Rattle.subscript_keys.proofs.TextParts.{read-digits, text-read}
-use Rattle.global_text.specs.Numbers.{Every, BeginsOtherwise, EndsAboveZero, IsUnsigned, IsNumber}
+use Rattle.global_text.specs.Numbers.{Every, BeginsOtherwise, EndsInNonzeroDigit, IsUnsigned, IsNumber}
 use Rattle.global_text.proofs.NumberSpellings.{digits-are, number-of-any}
 
 characters : (cs : List ℕ) → Every is_ascii_digit cs → AreDigitCharacters cs
@@ -20,12 +20,12 @@ begins : (cs : List ℕ) → Every is_ascii_digit cs → BeginsOtherwise (λ b. 
 begins [] p n = tt
 begins (c ∷ cs) p n = let low : 48 ≤ c = (characters (c ∷ cs) p).0.0 in λ e. n (eq-eqb c 48 (omega arith))
 
-ends : (cs : List ℕ) → Every is_ascii_digit cs → EndsAboveZero cs → EndsAbove (digits_read cs)
+ends : (cs : List ℕ) → Every is_ascii_digit cs → EndsInNonzeroDigit cs → EndsAboveZero (digits_read cs)
 ends [] p n = absurd n
 ends (c ∷ []) p n = let low : 48 ≤ c = (characters (c ∷ []) p).0.0 in λ e. n (omega arith)
 ends (c ∷ d ∷ cs) p n = ends (d ∷ cs) p.1 n
 
-some-ends : (cs : List ℕ) → EndsAboveZero cs → 0 < length cs
+some-ends : (cs : List ℕ) → EndsInNonzeroDigit cs → 0 < length cs
 some-ends [] n = absurd n
 some-ends (c ∷ cs) n = omega arith
 

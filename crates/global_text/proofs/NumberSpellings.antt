@@ -4,8 +4,8 @@ use Rattle.std.specs.Prelude.{◌==◌, nat_le}
 use Rattle.std.specs.Char.{is_ascii_digit}
 use Rattle.std.proofs.lemmas.Bool.{eqb-true, and_from, le-leb}
 use Rattle.std.proofs.lemmas.List.{append-nil, length-map}
-use Rattle.subscript_keys.specs.Decimal.{AreDigits, AreCanonical, BeginsAboveZero, EndsAboveZero as EndsAbove, IsNumberText, digit_text, fraction_text}
-use Rattle.global_text.specs.Numbers.{Every, BeginsOtherwise, EndsAboveZero, IsWhole, IsUnsigned, IsNumber}
+use Rattle.subscript_keys.specs.Decimal.{AreDigits, AreCanonical, BeginsAboveZero, EndsAboveZero, IsNumberText, digit_text, fraction_text}
+use Rattle.global_text.specs.Numbers.{Every, BeginsOtherwise, EndsInNonzeroDigit, IsWhole, IsUnsigned, IsNumber}
 
 pub digits-are : (ds : List ℕ) → AreDigits ds → Every is_ascii_digit (digit_text ds)
 digits-are [] p = tt
@@ -18,7 +18,7 @@ begins-above : (ds : List ℕ) → BeginsAboveZero ds → BeginsOtherwise (λ b.
 begins-above [] p = tt
 begins-above (d ∷ ds) p = λ t. let h : d + 48 ≡ 48 = eqb-true (d + 48) 48 t in p (omega arith)
 
-ends-above : (d : ℕ) (ds : List ℕ) → EndsAbove (d ∷ ds) → EndsAboveZero (digit_text (d ∷ ds))
+ends-above : (d : ℕ) (ds : List ℕ) → EndsAboveZero (d ∷ ds) → EndsInNonzeroDigit (digit_text (d ∷ ds))
 ends-above d [] p = λ h. p (omega arith)
 ends-above d (e ∷ ds) p = ends-above e ds p
 

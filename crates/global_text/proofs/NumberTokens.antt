@@ -4,7 +4,7 @@ use Rattle.std.specs.Prelude.{nat_eq, ◌==◌, ◌||◌, IsTrue}
 use Rattle.std.specs.Char.{is_ascii_digit}
 use Rattle.std.proofs.lemmas.Bool.{cases_eq, eq-eqb, ne_eqb, false≢true}
 use Rattle.std.proofs.lemmas.List.{append-nil}
-use Rattle.global_text.specs.Numbers.{Every, BeginsOtherwise, EndsAboveZero, IsWhole, IsFraction, IsUnsigned, IsNumber, is_number_byte}
+use Rattle.global_text.specs.Numbers.{Every, BeginsOtherwise, EndsInNonzeroDigit, IsWhole, IsFraction, IsUnsigned, IsNumber, is_number_byte}
 
 -- bytes that pass, and then one that doesn't, in one way
 pub one-span : (p : ℕ → Bool) (a b r q : List ℕ) → Every p a → Every p b → BeginsOtherwise p r → BeginsOtherwise p q → a ++ r ≡ b ++ q → (a ≡ b) × (r ≡ q)
@@ -24,7 +24,7 @@ last-next : (c d : ℕ) (cs : List ℕ) → get_or (c ∷ d ∷ cs) (length (c �
 last-next c d cs = let step : length (c ∷ d ∷ cs) - 1 ≡ suc (length (d ∷ cs) - 1) = omega arith in ap (λ k. get_or (c ∷ d ∷ cs) k 0) step
 
 -- what the last byte tells
-pub ends-test : (cs : List ℕ) → 0 < length cs → ((not (nat_eq (get_or cs (length cs - 1) 0) 48)) ≡ true) ↔ EndsAboveZero cs
+pub ends-test : (cs : List ℕ) → 0 < length cs → ((not (nat_eq (get_or cs (length cs - 1) 0) 48)) ≡ true) ↔ EndsInNonzeroDigit cs
 ends-test [] h = absurd (omega arith)
 ends-test (c ∷ []) h =
     elim (cases_eq c 48) [
@@ -32,10 +32,10 @@ ends-test (c ∷ []) h =
       | inr n ↦ (λ t. n, λ t. ap not (ne_eqb c 48 n))
     ]
 ends-test (c ∷ d ∷ cs) h =
-    let P : ℕ → Type 0 = λ k. ((not (nat_eq k 48)) ≡ true) ↔ EndsAboveZero (d ∷ cs) in
+    let P : ℕ → Type 0 = λ k. ((not (nat_eq k 48)) ≡ true) ↔ EndsInNonzeroDigit (d ∷ cs) in
     subst P (sym (last-next c d cs)) (ends-test (d ∷ cs) (omega arith))
 
--- what stands behind the digits is no fraction's
+-- what follows the digits is no fraction's
 pub no-fraction : (text digits rest : List ℕ) → text ≡ digits ++ rest → Every is_ascii_digit digits → BeginsOtherwise is_ascii_digit rest → 0 < length rest → IsFraction text → ⊥
 no-fraction text digits rest e p n some is =
     let same = one-span is_ascii_digit digits text rest [] p is.digits n tt (sym e ∙ sym (append-nil text)) in
@@ -57,7 +57,7 @@ unsigned-parts text digits rest e p n (inr (w, f, is, more, k)) =
     let same = one-span is_ascii_digit digits w rest (46 ∷ f) p is.digits n no-digit (sym e ∙ k) in
     record { whole = subst IsWhole (sym same.0) is; form = inr (f, more, same.1) }
 
--- behind the digits stands a point
+-- a point follows the digits
 pub at-point : (text digits rest fraction : List ℕ) (c : ℕ) (b : Bool) → text ≡ digits ++ rest → Every is_ascii_digit digits → BeginsOtherwise is_ascii_digit rest → BeginsOtherwise (λ d. d == 48) digits → rest ≡ c ∷ fraction → c ≡ 46 → (IsTrue b ↔ IsFraction fraction) → (IsTrue b ↔ IsUnsigned text)
 at-point text digits rest fraction c b e p n first k point test = (
   λ t. inr (digits, fraction, record { digits = p; first = first }, test.0 t, e ∙ ap (λ x. digits ++ x) (k ∙ ap (λ x. x ∷ fraction) point)),

@@ -157,7 +157,7 @@ both-before key (a ∷ ss) (b ∷ ts) list place at error other (after, first, m
     (key-next key a ss place error fault)
     (subst (λ (k : ℕ). HasSubFault k at other) (omega (arith, length-append (sub_bytes b) (subs_bytes ts), ap (λ x. length (sub_bytes x)) same.0)) also)
 
--- one before a subscript, one behind
+-- one before a subscript, one after it
 before-behind : (key : ℕ) (ss ts : List Sub) (b : Sub) (list place at behind : List ℕ) (error other : TextError) → ReadsSubs ss list place → ReadsSubs ts list at → ReadsSub b at behind → key + length (subs_bytes (ts ++ b ∷ [])) ≤ 500 → HasSubFault (key + length (subs_bytes ss)) place error → HasMarkFault behind other → AreOne error other
 before-behind key [] [] b list place at behind error other p q it k fault also =
     inl (sub-no-fault key b place behind error (subst (λ (t : List ℕ). ReadsSub b t behind) (sym q ∙ p) it) (omega (arith, length-append (sub_bytes b) [])) (key-none key place error fault))
@@ -171,7 +171,7 @@ before-behind key (a ∷ ss) (c ∷ ts) b list place at behind error other (afte
     (omega (arith, length-append (sub_bytes c) (subs_bytes (ts ++ b ∷ [])), ap (λ x. length (sub_bytes x)) same.0))
     (key-next key a ss place error fault) also
 
--- two behind a subscript
+-- two after a subscript
 both-behind : (ss ts : List Sub) (a b : Sub) (list place at rest behind : List ℕ) (error other : TextError) → ReadsSubs ss list place → ReadsSub a place rest → ReadsSubs ts list at → ReadsSub b at behind → HasMarkFault rest error → HasMarkFault behind other → AreOne error other
 both-behind [] [] a b list place at rest behind error other p is q it fault also =
     let same = one-sub a b at rest behind (subst (λ (t : List ℕ). ReadsSub a t rest) (sym p ∙ q) is) it in
@@ -204,7 +204,7 @@ one-list-fault text error other (name, ss, (rest, inr (p, fault))) (name', ts, (
     let same = same-list text name name' p.last.2 q.last.2 p.last.0 q.last.0 p.last.3 q.last.3 in
     both-behind p.last.0 q.last.0 p.last.1 q.last.1 p.last.3.listed.0 p.last.2 q.last.2 rest behind error other p.last.3.listed.1 p.last.4 (subst (λ (t : List ℕ). ReadsSubs q.last.0 t q.last.2) same.1 q.last.3.listed.1) q.last.4 fault also
 
--- a list of subscripts stands behind a caret and a name
+-- a list of subscripts follows a caret and a name
 list-named : (text : List ℕ) (error : TextError) → HasListFault text error → (name : List ℕ) × (list : List ℕ) × IsName name × (text ≡ 94 ∷ (name ++ 40 ∷ list))
 list-named text error (name, ss, (place, inl (p, fault))) = (name, p.listed.0, p.named, p.listed.2)
 list-named text error (name, ss, (rest, inr (p, fault))) = (name, p.last.3.listed.0, p.last.3.named, p.last.3.listed.2)

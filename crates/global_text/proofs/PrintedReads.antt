@@ -42,11 +42,11 @@ items-are : (s : List ℕ) → AreBytes s → AreItems s (flat_map quoted_byte s
 items-are [] p = refl
 items-are (b ∷ s) p = (quoted_byte b, flat_map quoted_byte s, byte-is b p.0, items-are s p.1, refl)
 
--- a string in quotes, behind which no quote stands
+-- a string in quotes, which no quote follows
 pub quoted-read : (s rest : List ℕ) → AreBytes s → BeginsOtherwise (λ b. b == 34) rest → ReadsString s (quoted s ++ rest) rest
 quoted-read s rest p n = inr ((flat_map quoted_byte s, items-are s p, ap (λ x. 34 ∷ x) (append_assoc (flat_map quoted_byte s) (34 ∷ []) rest)), n)
 
--- a printed string, behind which neither a quote nor a byte of a number stands
+-- a printed string, which neither a quote nor a byte of a number follows
 pub printed-read : (s text rest : List ℕ) → IsPrinted s text → AreBytes s → BeginsOtherwise (λ b. b == 34) rest → BeginsOtherwise is_number_byte rest → ReadsString s (text ++ rest) rest
 printed-read s text rest (inl (is, e)) p n m = inl (number-of-any s is, ap (λ t. t ++ rest) e, m)
 printed-read s text rest (inr (is, e)) p n m = subst (λ (t : List ℕ). ReadsString s (t ++ rest) rest) (sym e) (quoted-read s rest p n)

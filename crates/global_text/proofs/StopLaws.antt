@@ -1,15 +1,14 @@
--- A text stops at one subscript, behind one name.
+-- A text stops at one subscript, after one name.
 use Rattle.std.proofs.Common.{◌≡◌, ℕ, ◌+◌, ◌≤◌, List, [], ◌∷◌, ◌++◌, length, refl, sym, ap, subst, ◌∙◌, inl, inr, arith, length-append}
 use Rattle.std.specs.Prelude.{◌==◌}
 use Rattle.std.specs.Char.{is_ascii_alphanumeric}
 use Rattle.subscript_keys.specs.declared.sub.Sub.{Sub}
 use Rattle.subscript_keys.specs.Key.{sub_bytes, subs_bytes, IsName}
-use Rattle.global_text.specs.declared.text_error.TextError.{TextError}
 use Rattle.global_text.specs.declared.text_error.TextError.TheVariants.{KeyTooLong}
 use Rattle.global_text.specs.Numbers.{BeginsOtherwise}
 use Rattle.global_text.specs.Nodes.{ReadsSub, ReadsSubs, key_length, ReadsParts}
 use Rattle.global_text.specs.Faults.{HasSubFault, StopsBehind, HasBadName}
-use Rattle.global_text.proofs.NodeLaws.{sub-no-fault, one-name, paren-ends, no-caret, parts-name}
+use Rattle.global_text.proofs.NodeLaws.{sub-no-fault, one-name, no-caret, parts-name}
 use Rattle.global_text.proofs.OneFault.{key-none, key-next, same-head, same-list}
 
 -- a caret and this name come first, and no letter or digit makes it longer
@@ -32,13 +31,7 @@ named-good name text (rest, is, n, e) (behind, k, none) =
 pub parts-named : (name text rest : List ℕ) (subs : List Sub) → ReadsParts name subs text rest → BeginsNamed name text
 parts-named name text rest subs is = parts-name name text rest subs is
 
-pub stop-named : (text name : List ℕ) (subs : List Sub) (error : TextError) → StopsBehind text name subs error → BeginsNamed name text
-stop-named text name subs error (place, inl (p, fault)) = (40 ∷ p.listed.0, p.named, paren-ends p.listed.0, p.listed.2)
-stop-named text name subs error (rest, inr (p, fault)) =
-    let before = p.last.3 in
-    (40 ∷ before.listed.0, before.named, paren-ends before.listed.0, before.listed.2)
-
--- a subscript behind which a longer list goes on doesn't pass the limit
+-- a subscript after which a longer list goes on doesn't pass the limit
 both-long : (key : ℕ) (ss ts : List Sub) (list place at : List ℕ) → ReadsSubs ss list place → ReadsSubs ts list at → key + length (subs_bytes ss) ≤ 500 → key + length (subs_bytes ts) ≤ 500 → HasSubFault (key + length (subs_bytes ss)) place KeyTooLong → HasSubFault (key + length (subs_bytes ts)) at KeyTooLong → ss ≡ ts
 both-long key [] [] list place at p q h k fault also = refl
 both-long key [] (b ∷ ts) list place at p (next, one, others) h k fault also =
@@ -54,7 +47,7 @@ both-long key (a ∷ ss) (b ∷ ts) list place at (after, first, more) (next, on
     (subst (λ (k : ℕ). HasSubFault k at KeyTooLong) (omega (arith, length-append (sub_bytes b) (subs_bytes ts), ap (λ x. length (sub_bytes x)) same.0)) also) in
     ap (λ x. x ∷ ss) same.0 ∙ ap (λ l. b ∷ l) rest
 
--- where the key of a text passes its limit, it does so behind the same subscripts
+-- where the key of a text passes its limit, it does so after the same subscripts
 pub one-long : (text name other : List ℕ) (ss ts : List Sub) → StopsBehind text name ss KeyTooLong → StopsBehind text other ts KeyTooLong → ss ≡ ts
 one-long text name other ss ts (place, inl (p, fault)) (at, inl (q, also)) =
     let same = same-list text name other place at ss ts p q in

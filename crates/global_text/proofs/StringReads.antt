@@ -5,13 +5,9 @@ use Rattle.std.proofs.lemmas.Bool.{cases_eq, eqb-true}
 use Rattle.std.proofs.lemmas.List.{append-nil}
 use Rattle.std.proofs.Math.Seq.{drop-append_seam}
 use Rattle.global_text.specs.Numbers.{Every, BeginsOtherwise, IsNumber, is_number_byte}
-use Rattle.global_text.specs.Strings.{IsItem, AreItems, NoItem, BeginsQuoted, ReadsBare, ReadsString, IsLineEnd, IsUnclosed, IsBad}
+use Rattle.global_text.specs.Strings.{IsItem, AreItems, NoItem, BeginsQuoted, ReadsBare, ReadsString, IsBad}
 use Rattle.global_text.proofs.Items.{Takes}
 use Rattle.global_text.proofs.NumberTokens.{one-span, number-bytes}
-
--- no item yet
-pub begins-none : (text : List ℕ) → BeginsQuoted [] (34 ∷ text) text
-begins-none text = ([], refl, refl)
 
 items-push : (s items item : List ℕ) (b : ℕ) → AreItems s items → IsItem b item → AreItems (s ++ b ∷ []) (items ++ item)
 items-push [] items item b e is = (item, [], is, refl, ap (λ x. x ++ item) e ∙ sym (append-nil item))
@@ -43,9 +39,6 @@ read-bad limit s text rest after c read none within e n m =
     let last : c ≡ 92 = bad-item c after (subst NoItem e none) n m in
     let whole : rest ≡ 92 ∷ after = cc in
     inr (s, after, subst (λ (r : List ℕ). BeginsQuoted s (34 ∷ text) r) whole read, subst NoItem whole none, within)
-
-pub read-unclosed : (limit : ℕ) (s text rest : List ℕ) → BeginsQuoted s text rest → IsLineEnd rest → length s ≤ limit → IsUnclosed limit text
-read-unclosed limit s text rest read end within = (s, rest, read, end, within)
 
 -- the bytes that may belong to a number are one
 pub one-bare : (s text rest token after : List ℕ) → ReadsBare s text rest → text ≡ token ++ after → Every is_number_byte token → BeginsOtherwise is_number_byte after → (s ≡ token) × (rest ≡ after)

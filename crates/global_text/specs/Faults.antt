@@ -2,6 +2,7 @@
 use Rattle.std.specs.Prelude.{◌≡◌, ◌≢◌, ◌⊎◌, ℕ, ◌+◌, ◌<◌, ◌==◌, List, [], ◌∷◌, ◌++◌, length}
 use Rattle.std.specs.Char.{is_ascii_alphanumeric}
 use Rattle.subscript_keys.specs.declared.sub.Sub.{Sub}
+use Rattle.subscript_keys.specs.declared.limits.TheConstants.{KEY_LIMIT, VALUE_LIMIT}
 use Rattle.subscript_keys.specs.Key.{sub_bytes, IsName}
 use Rattle.global_text.specs.Numbers.{BeginsOtherwise}
 use Rattle.global_text.specs.Nodes.{ReadsSub, key_length, room_behind, BeforeSub, BehindSub}
@@ -20,16 +21,16 @@ HasStringFault limit text (Memory error) = Unit {0}
 
 -- what each refusal of a value says
 abbrev pub HasValueFault : List ℕ → TextError → Type 0
-HasValueFault text UnclosedText = IsUnclosed 3000 text
-HasValueFault text BadValue = IsBad 3000 text
-HasValueFault text ValueTooLong = IsTooLong 3000 text
+HasValueFault text UnclosedText = IsUnclosed VALUE_LIMIT text
+HasValueFault text BadValue = IsBad VALUE_LIMIT text
+HasValueFault text ValueTooLong = IsTooLong VALUE_LIMIT text
 HasValueFault text (NoMemory error) = Unit {0}
 HasValueFault text NoCaret = ⊥
 HasValueFault text BadName = ⊥
 HasValueFault text BadSubscript = ⊥
 HasValueFault text KeyTooLong = ⊥
 
--- memory was wanting
+-- out of memory
 abbrev pub IsMemory : TextError → Type 0
 IsMemory (NoMemory error) = Unit {0}
 IsMemory NoCaret = ⊥
@@ -40,11 +41,11 @@ IsMemory KeyTooLong = ⊥
 IsMemory BadValue = ⊥
 IsMemory ValueTooLong = ⊥
 
--- what each refusal says where a subscript must stand, behind a key of this length
+-- what each refusal says where a subscript must stand, after a key of this length
 abbrev pub HasSubFault : ℕ → List ℕ → TextError → Type 0
 HasSubFault key text UnclosedText = IsLineEnd text ⊎ IsUnclosed (room_behind key) text
 HasSubFault key text BadSubscript = (IsLineEnd text → ⊥) × IsBad (room_behind key) text
-HasSubFault key text KeyTooLong = IsTooLong (room_behind key) text ⊎ ((sub : Sub) × (rest : List ℕ) × ReadsSub sub text rest × (500 < key + length (sub_bytes sub)))
+HasSubFault key text KeyTooLong = IsTooLong (room_behind key) text ⊎ ((sub : Sub) × (rest : List ℕ) × ReadsSub sub text rest × (KEY_LIMIT < key + length (sub_bytes sub)))
 HasSubFault key text (NoMemory error) = Unit {0}
 HasSubFault key text NoCaret = ⊥
 HasSubFault key text BadName = ⊥
@@ -56,7 +57,7 @@ abbrev pub NoMark : List ℕ → Type 0
 NoMark [] = ⊥
 NoMark (b ∷ bytes) = (b ≢ 44) × (b ≢ 41) × (b ≢ 10)
 
--- and behind a subscript
+-- and after a subscript
 abbrev pub HasMarkFault : List ℕ → TextError → Type 0
 HasMarkFault text UnclosedText = IsLineEnd text
 HasMarkFault text BadSubscript = NoMark text
@@ -67,7 +68,7 @@ HasMarkFault text BadValue = ⊥
 HasMarkFault text ValueTooLong = ⊥
 HasMarkFault text (NoMemory error) = ⊥
 
--- behind a name and these subscripts, which are read, the next one or the byte behind the last has this fault
+-- after a name and these subscripts, which are read, the next one or the byte after the last has this fault
 abbrev pub StopsBehind : List ℕ → List ℕ → List Sub → TextError → Type 0
 StopsBehind text name subs error =
     (rest : List ℕ) × ((BeforeSub text name subs rest × HasSubFault (key_length name subs) rest error) ⊎ (BehindSub text name subs rest × HasMarkFault rest error))
@@ -76,7 +77,7 @@ StopsBehind text name subs error =
 abbrev pub HasListFault : List ℕ → TextError → Type 0
 HasListFault text error = (name : List ℕ) × (subs : List Sub) × StopsBehind text name subs error
 
--- no letter stands behind the caret, or more than 31 letters and digits
+-- no letter follows the caret, or more than GLOBAL_NAME_LIMIT letters and digits
 abbrev pub HasBadName : List ℕ → Type 0
 HasBadName text = (behind : List ℕ) × (text ≡ 94 ∷ behind) × ((name rest : List ℕ) → IsName name → BeginsOtherwise is_ascii_alphanumeric rest → behind ≢ name ++ rest)
 
@@ -102,6 +103,6 @@ HasNodeFault text (NoMemory error) = Unit {0}
 HasNodeFault text BadValue = ⊥
 HasNodeFault text ValueTooLong = ⊥
 
--- two refusals are one, but for want of memory
+-- two refusals are one, unless one of them is out of memory
 abbrev pub AreOne : TextError → TextError → Type 0
 AreOne error other = IsMemory error ⊎ (IsMemory other ⊎ (error ≡ other))

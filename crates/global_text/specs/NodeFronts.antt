@@ -14,7 +14,7 @@ pub record IsReadTo (text name : List ℕ) (subs : List Sub) (taken : ℕ) : Typ
   pub forms : AllByRecursion HasForm subs
   pub limit : IsWithinLimit (key_of (record { name = name; subs = subs }))
 
--- the name stands here, and the subscripts behind it are read to the node's end or to their fault
+-- the name stands here, and the subscripts after it are read to the node's end or to their fault
 pub record IsFront (text : List ℕ) (front : NodeFront) : Type 0 where
   pub global : HasGlobal front.name text
   pub read : IfOk front.end (IsReadTo text front.name front.subs)

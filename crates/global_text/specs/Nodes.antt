@@ -4,6 +4,7 @@ use Rattle.std.specs.Char.{is_ascii_alphanumeric}
 use Rattle.subscript_keys.specs.declared.sub.Sub.{Sub}
 use Rattle.subscript_keys.specs.declared.sub.Sub.TheVariants.{Num, Text}
 use Rattle.subscript_keys.specs.declared.node.Node.{Node}
+use Rattle.subscript_keys.specs.declared.limits.TheConstants.{DIGIT_LIMIT, KEY_LIMIT}
 use Rattle.subscript_keys.specs.Decimal.{decimal_text}
 use Rattle.subscript_keys.specs.Key.{subs_bytes, AreBytes, HasForm, IsName}
 use Rattle.global_text.specs.Numbers.{BeginsOtherwise}
@@ -19,7 +20,7 @@ sub_string (Text text) = text
 abbrev pub ReadsSub : Sub → List ℕ → List ℕ → Type 0
 ReadsSub sub text rest = HasForm sub × ReadsString (sub_string sub) text rest
 
--- subscripts, a comma behind each
+-- subscripts, a comma after each
 abbrev pub ReadsSubs : List Sub → List ℕ → List ℕ → Type 0
 ReadsSubs [] text rest = text ≡ rest
 ReadsSubs (s ∷ subs) text rest = (after : List ℕ) × ReadsSub s text (44 ∷ after) × ReadsSubs subs after rest
@@ -28,20 +29,20 @@ ReadsSubs (s ∷ subs) text rest = (after : List ℕ) × ReadsSub s text (44 ∷
 abbrev pub key_length : List ℕ → List Sub → ℕ
 key_length name subs = length name + 1 + length (subs_bytes subs)
 
--- how long a string may be behind a key of this length: a text takes three bytes more, a number has at most 20 characters
+-- how long a string may be after a key of this length: a text takes three bytes more, a number has a sign and a point at most beside its digits
 abbrev pub room_behind : ℕ → ℕ
-room_behind key = max 20 (497 - key)
+room_behind key = max (DIGIT_LIMIT + 2) (KEY_LIMIT - 3 - key)
 
--- reading stands before a subscript, behind a caret, a name, a parenthesis and subscripts with their commas
+-- reading stands before a subscript, after a caret, a name, a parenthesis and subscripts with their commas
 pub record BeforeSub (text name : List ℕ) (subs : List Sub) (rest : List ℕ) : Type 0 where
   pub named : IsName name
   pub listed : (list : List ℕ) × ReadsSubs subs list rest × (text ≡ 94 ∷ (name ++ 40 ∷ list))
-  pub within : key_length name subs ≤ 500
+  pub within : key_length name subs ≤ KEY_LIMIT
 
--- reading stands behind a subscript
+-- reading stands after a subscript
 pub record BehindSub (text name : List ℕ) (subs : List Sub) (rest : List ℕ) : Type 0 where
   pub last : (front : List Sub) × (sub : Sub) × (place : List ℕ) × BeforeSub text name front place × ReadsSub sub place rest × (subs ≡ front ++ sub ∷ [])
-  pub within : key_length name subs ≤ 500
+  pub within : key_length name subs ≤ KEY_LIMIT
 
 -- a caret and a name stand here, and no letter or digit makes it longer
 pub record HasGlobal (name text : List ℕ) : Type 0 where
@@ -54,7 +55,7 @@ pub record HasGlobal (name text : List ℕ) : Type 0 where
 abbrev pub extends_name : ℕ → Bool
 extends_name b = is_ascii_alphanumeric b || b == 40
 
--- a name alone: all letters and digits that follow belong to it, and no parenthesis stands behind
+-- a name alone: all letters and digits that follow belong to it, and no parenthesis follows
 abbrev pub ReadsName : List ℕ → List ℕ → List ℕ → Type 0
 ReadsName name text rest = IsName name × (text ≡ 94 ∷ (name ++ rest)) × BeginsOtherwise extends_name rest
 

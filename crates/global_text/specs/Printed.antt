@@ -14,10 +14,10 @@ quoted_byte b =
 abbrev pub quoted : List ℕ → List ℕ
 quoted string = 34 ∷ (flat_map quoted_byte string ++ 34 ∷ [])
 
--- a canonical number of at most 18 digits stands bare, any other string in quotes
+-- a canonical number of at most DIGIT_LIMIT digits stands bare, any other string in quotes
 abbrev pub IsPrinted : List ℕ → List ℕ → Type 0
 IsPrinted string text = (IsNumberText string × (text ≡ string)) ⊎ ((IsNumberText string → ⊥) × (text ≡ quoted string))
 
--- the text behind the old one has this form
+-- the text after the old one has this form
 abbrev pub Appends : (List ℕ → Type 0) → List ℕ → List ℕ → Type 0
 Appends HasForm before after = (text : List ℕ) × HasForm text × (after ≡ before ++ text)

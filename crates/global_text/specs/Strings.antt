@@ -31,7 +31,7 @@ NoItem text = (b : ℕ) (item rest : List ℕ) → IsItem b item → text ≢ it
 abbrev pub BeginsQuoted : List ℕ → List ℕ → List ℕ → Type 0
 BeginsQuoted string text rest = (items : List ℕ) × AreItems string items × (text ≡ 34 ∷ (items ++ rest))
 
--- the quote behind the items isn't doubled
+-- the quote after the items isn't doubled
 abbrev pub ReadsQuoted : List ℕ → List ℕ → List ℕ → Type 0
 ReadsQuoted string text rest = BeginsQuoted string text (34 ∷ rest) × BeginsOtherwise (λ b. b == 34) rest
 

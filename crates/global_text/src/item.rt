@@ -14,7 +14,7 @@ fn hex_number(digit: u8) -> Option<u8>
     }
 }
 
-/// The byte that an item behind its backslash stands for, and what follows the item.
+/// The byte that an item after its backslash stands for, and what follows the item.
 fn take_escape(text: &[u8]) -> Option<(u8, &[u8])>
     ensures some { IfSome result (λ taken.
         (item : List ℕ) × IsItem taken.0 item × (92 ∷ text.now ≡ item ++ taken.1.now)) }

@@ -11,7 +11,7 @@ use crate::text_error::TextError;
 use std::alloc::Global;
 use subscript_keys::Subs;
 
-/// Whether a subscript is the last one, as the byte behind it says, and what follows that byte.
+/// Whether a subscript is the last one, as the byte after it says, and what follows that byte.
 fn read_mark(text: &[u8]) -> Result<(bool, &[u8]), TextError>
     ensures last { IfOk result (λ mark. IsTrue mark.0 → text.now ≡ 41 ∷ mark.1.now) }
     ensures more { IfOk result (λ mark. mark.0 ≡ false → text.now ≡ 44 ∷ mark.1.now) }
@@ -28,7 +28,7 @@ fn read_mark(text: &[u8]) -> Result<(bool, &[u8]), TextError>
     }
 }
 
-/// Reads the subscripts behind a name and an open parenthesis, and gives what follows the closing one. After an
+/// Reads the subscripts after a name and an open parenthesis, and gives what follows the closing one. After an
 /// `Err` those in front of the fault are read.
 fn read_list<'a>(
     alloc: Global,
@@ -59,7 +59,7 @@ fn read_list<'a>(
     }
 }
 
-/// Reads the subscripts behind a name, where there are any, and gives what follows the node. After an `Err`
+/// Reads the subscripts after a name, where there are any, and gives what follows the node. After an `Err`
 /// those in front of the fault are read.
 pub fn read_subs<'a>(
     alloc: Global,

@@ -13,7 +13,7 @@ use std::alloc::Global;
 use subscript_keys::{Name, Subs};
 
 /// As much of a node as a text begins with: its name, the subscripts that are read, and how the reading ended.
-#[derive(Debug, Drop)]
+#[derive(Drop)]
 pub struct NodeFront {
     pub name: Name,
     /// All of them, or those in front of the fault.
@@ -31,7 +31,7 @@ fn behind_caret(text: &[u8]) -> Option<&[u8]>
     if *first == b'^' { Some(behind) } else { None }
 }
 
-/// The name that stands behind a caret, and what follows it.
+/// The name that follows a caret, and what follows it.
 fn take_name(text: &[u8]) -> Option<(&[u8], &[u8])>
     ensures some { IfSome result (λ taken. IsName taken.0.now ×
         (text.now ≡ taken.0.now ++ taken.1.now)) }
@@ -45,7 +45,7 @@ fn take_name(text: &[u8]) -> Option<(&[u8], &[u8])>
     None
 }
 
-/// Reads the subscripts of a node behind its name, and gives how many bytes of the text the node takes. After an
+/// Reads the subscripts of a node after its name, and gives how many bytes of the text the node takes. After an
 /// `Err` those in front of the fault are read.
 fn read_end(
     alloc: Global,
@@ -66,7 +66,7 @@ fn read_end(
 }
 
 /// The name of the node that a text begins with, and its subscripts as far as they are read. Of several faults
-/// the first from the left counts; a bare number's is where it begins, and a key passes its limit behind a
+/// the first from the left counts; a bare number's is where it begins, and a key passes its limit after a
 /// subscript, or in a string that no key has room for.
 pub fn read_front(alloc: Global, text: &[u8]) -> Result<NodeFront, TextError>
     ensures ok { IfOk result (IsFront text.now) }

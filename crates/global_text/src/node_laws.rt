@@ -8,7 +8,7 @@ ghost use Rattle.global_text.specs.Nodes.{extends_name, ReadsNode, node_text, Ha
 ghost use Rattle.global_text.specs.Faults.{HasNodeFault, IsMemory, AreOne};
 
 /// Reading is one: a text begins with one node at most, by a spelling of that node; where it begins with a node,
-/// no refusal of nodes but want of memory holds for it, and else one refusal at most.
+/// no refusal of nodes but out of memory holds for it, and else one refusal at most.
 pub fn nodes_are_read_in_one_way()
     ensures one { (a b : Node) (text rest behind : List ℕ) → ReadsNode a text rest →
         ReadsNode b text behind → (a ≡ b) × (rest ≡ behind) }

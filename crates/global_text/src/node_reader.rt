@@ -12,7 +12,7 @@ use std::alloc::Global;
 use subscript_keys::Node;
 
 /// The node that a text begins with, and how many bytes of the text it takes. Of several faults the first from
-/// the left counts; a bare number's is where it begins, and a key passes its limit behind a subscript, or in a
+/// the left counts; a bare number's is where it begins, and a key passes its limit after a subscript, or in a
 /// string that no key has room for.
 pub fn read_node(alloc: Global, text: &[u8]) -> Result<(Node, usize), TextError>
     ensures ok { IfOk result (λ read. ReadsNode read.0 text.now (drop read.1 text.now)) }

@@ -1,7 +1,7 @@
 //! Canonical numbers of any length.
 ghost use Rattle.std.specs.Prelude.{◌≡◌, ◌==◌, ◌↔◌, ◌++◌, IsTrue};
 ghost use Rattle.std.specs.Char.{is_ascii_digit};
-ghost use Rattle.global_text.specs.Numbers.{Every, BeginsOtherwise, EndsAboveZero, IsFraction, IsUnsigned, IsNumber, is_number_byte};
+ghost use Rattle.global_text.specs.Numbers.{Every, BeginsOtherwise, EndsInNonzeroDigit, IsFraction, IsUnsigned, IsNumber, is_number_byte};
 
 /// The digits that come first, and what follows them.
 fn split_digits(text: &[u8]) -> (&[u8], &[u8])
@@ -28,8 +28,8 @@ fn begins_above_zero(text: &[u8]) -> bool
 }
 
 /// Whether there is a last byte, and it is no 0.
-fn ends_above_zero(text: &[u8]) -> bool
-    ensures { IsTrue result ↔ EndsAboveZero text.now }
+fn ends_in_nonzero_digit(text: &[u8]) -> bool
+    ensures { IsTrue result ↔ EndsInNonzeroDigit text.now }
 {
     match text {
         [.., last] => *last != b'0',
@@ -37,7 +37,7 @@ fn ends_above_zero(text: &[u8]) -> bool
     }
 }
 
-/// Whether these are the digits behind a point.
+/// Whether these are the digits after a point.
 fn is_fraction(text: &[u8]) -> bool
     ensures { IsTrue result ↔ IsFraction text.now }
 {
@@ -45,7 +45,7 @@ fn is_fraction(text: &[u8]) -> bool
     if !rest.is_empty() {
         return false;
     }
-    ends_above_zero(digits)
+    ends_in_nonzero_digit(digits)
 }
 
 /// Whether these are a canonical number's digits and point.

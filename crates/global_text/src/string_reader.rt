@@ -30,7 +30,7 @@ fn take_items(alloc: Global, text: &[u8], limit: usize) -> Result<(Vec<u8>, &[u8
     Ok((string, rest))
 }
 
-/// The string behind its first quote, and what follows its last one.
+/// The string after its first quote, and what follows its last one.
 fn read_quoted(alloc: Global, text: &[u8], limit: usize) -> Result<(Vec<u8>, &[u8]), StringError>
     ensures ok { IfOk result (λ read. ReadsString read.0.items (34 ∷ text.now) read.1.now) }
     ensures limit { IfOk result (λ read. length read.0.items ≤ limit) }

@@ -1,5 +1,6 @@
 //! How many bytes a subscript takes in a key.
-ghost use Rattle.std.specs.Prelude.{◌≡◌, ◌≤◌, length};
+ghost use Rattle.std.specs.Prelude.{◌≡◌, ◌≤◌, ◌+◌, ◌*◌, length};
+ghost use Rattle.subscript_keys.specs.declared.limits.TheConstants.{KEY_LIMIT};
 ghost use Rattle.subscript_keys.specs.Decimal.{digits};
 ghost use Rattle.subscript_keys.specs.Key.{decimal_bytes, text_bytes, sub_bytes};
 ghost use Rattle.global_text.specs.Nodes.{sub_string};
@@ -33,9 +34,9 @@ fn number_length(number: &Decimal) -> usize
 
 /// How many bytes a text takes in a key; a zero byte takes two.
 fn text_length(text: &[u8]) -> usize
-    requires { length text.now ≤ 500 }
+    requires { length text.now ≤ KEY_LIMIT }
     ensures value { result ≡ length (text_bytes text.now) }
-    ensures within { result ≤ 1003 }
+    ensures within { result ≤ 2 * KEY_LIMIT + 3 }
 {
     let mut count = 3;
     for byte in text {
@@ -46,9 +47,9 @@ fn text_length(text: &[u8]) -> usize
 
 /// How many bytes a subscript takes in a key.
 pub fn sub_length(sub: &Sub) -> usize
-    requires { length (sub_string sub.now) ≤ 500 }
+    requires { length (sub_string sub.now) ≤ KEY_LIMIT }
     ensures value { result ≡ length (sub_bytes sub.now) }
-    ensures within { result ≤ 1003 }
+    ensures within { result ≤ 2 * KEY_LIMIT + 3 }
 {
     match sub {
         Sub::Num(number) => number_length(number),

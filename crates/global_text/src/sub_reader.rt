@@ -1,5 +1,6 @@
 //! Reading a subscript.
 ghost use Rattle.std.specs.Prelude.{◌≡◌, ◌≤◌, ◌+◌, ◌↔◌, length, IfOk, IfErr, IsTrue};
+ghost use Rattle.subscript_keys.specs.declared.limits.TheConstants.{KEY_LIMIT};
 ghost use Rattle.subscript_keys.specs.Key.{sub_bytes, HasForm};
 ghost use Rattle.global_text.specs.Strings.{ReadsString, IsLineEnd};
 ghost use Rattle.global_text.specs.Nodes.{sub_string, room_behind, ReadsSub};
@@ -11,18 +12,18 @@ use crate::sub_length::sub_length;
 use crate::text_error::TextError;
 use std::alloc::Global;
 use std::cmp::max;
-use subscript_keys::{Decimal, KEY_LIMIT, Sub, SubText};
+use subscript_keys::{DIGIT_LIMIT, Decimal, KEY_LIMIT, Sub, SubText};
 
-/// How many characters a number has at most that is no text: a sign, a point and 18 digits.
-const NUMBER_ROOM: usize = 20;
+/// How many characters a number has at most that is no text: a sign, a point and its digits.
+const NUMBER_ROOM: usize = DIGIT_LIMIT + 2;
 
 /// How many bytes a text takes in a key beside its own: its tag and its end.
 const TEXT_MARKS: usize = 3;
 
-/// How long a string may be behind a key of this length.
+/// How long a string may be after a key of this length.
 fn room_behind(key: usize) -> usize
     ensures value { result ≡ room_behind key }
-    ensures within { result ≤ 500 }
+    ensures within { result ≤ KEY_LIMIT }
 {
     max(NUMBER_ROOM, (KEY_LIMIT - TEXT_MARKS).saturating_sub(key))
 }
@@ -37,7 +38,7 @@ pub fn is_line_end(text: &[u8]) -> bool
     }
 }
 
-/// The subscript of a string: a number, where the string is one of at most 18 digits.
+/// The subscript of a string: a number, where the string is one of at most `DIGIT_LIMIT` digits.
 fn sub_of(string: Vec<u8>) -> Sub
     ensures form { HasForm result }
     ensures string { sub_string result ≡ string.items }
@@ -48,10 +49,10 @@ fn sub_of(string: Vec<u8>) -> Sub
     }
 }
 
-/// The string of a subscript behind a key of this length, and what follows it.
+/// The string of a subscript after a key of this length, and what follows it.
 fn read_sub_string(alloc: Global, text: &[u8], key: usize) -> Result<(Vec<u8>, &[u8]), TextError>
     ensures ok { IfOk result (λ read. ReadsString read.0.items text.now read.1.now) }
-    ensures limit { IfOk result (λ read. length read.0.items ≤ 500) }
+    ensures limit { IfOk result (λ read. length read.0.items ≤ KEY_LIMIT) }
     ensures err { IfErr result (HasSubFault key text.now) }
 {
     if is_line_end(text) {
@@ -66,12 +67,12 @@ fn read_sub_string(alloc: Global, text: &[u8], key: usize) -> Result<(Vec<u8>, &
     }
 }
 
-/// The subscript behind a key of this length, how long the key is with it, and what follows the subscript.
+/// The subscript after a key of this length, how long the key is with it, and what follows the subscript.
 pub fn read_sub(alloc: Global, text: &[u8], key: usize) -> Result<(Sub, usize, &[u8]), TextError>
-    requires { key ≤ 500 }
+    requires { key ≤ KEY_LIMIT }
     ensures ok { IfOk result (λ read. ReadsSub read.0 text.now read.2.now) }
     ensures key { IfOk result (λ read. read.1 ≡ key + length (sub_bytes read.0)) }
-    ensures within { IfOk result (λ read. read.1 ≤ 500) }
+    ensures within { IfOk result (λ read. read.1 ≤ KEY_LIMIT) }
     ensures err { IfErr result (HasSubFault key text.now) }
 {
     let (string, rest) = read_sub_string(alloc, text, key)?;

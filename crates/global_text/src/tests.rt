@@ -16,7 +16,7 @@ fn name_of(error: &TextError) -> &'static str {
     }
 }
 
-/// The printed text of the value that is read, behind the number of bytes read.
+/// The printed text of the value that is read, after the number of bytes read.
 fn value_again(alloc: Global, text: &[u8]) -> Result<(usize, ValueBytes, Vec<u8>), TextError> {
     let (value, count) = match read_value(alloc, text) {
         Ok(read) => read,
@@ -27,7 +27,7 @@ fn value_again(alloc: Global, text: &[u8]) -> Result<(usize, ValueBytes, Vec<u8>
     Ok((count, value, printed))
 }
 
-/// The printed text of the node that is read, behind the number of bytes read.
+/// The printed text of the node that is read, after the number of bytes read.
 fn node_again(alloc: Global, text: &[u8]) -> Result<(usize, Vec<u8>), TextError> {
     let (node, count) = match read_node(alloc, text) {
         Ok(read) => read,

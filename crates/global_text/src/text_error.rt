@@ -6,7 +6,7 @@ use thiserror::Error;
 pub enum TextError {
     #[error("no caret begins the node")]
     NoCaret,
-    #[error("no global's name stands behind the caret")]
+    #[error("no global's name follows the caret")]
     BadName,
     #[error("a subscript is neither a number nor a string in quotes, or neither a comma nor a parenthesis follows it")]
     BadSubscript,

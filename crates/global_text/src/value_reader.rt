@@ -1,5 +1,6 @@
 //! Reading values.
 ghost use Rattle.std.specs.Prelude.{◌≤◌, length, drop, IfOk, IfErr};
+ghost use Rattle.subscript_keys.specs.declared.limits.TheConstants.{VALUE_LIMIT};
 ghost use Rattle.global_text.specs.Strings.{ReadsString};
 ghost use Rattle.global_text.specs.Faults.{HasValueFault};
 

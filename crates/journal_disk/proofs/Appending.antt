@@ -135,7 +135,7 @@ pub some_before : (o p : Option (List ℕ)) (y : List ℕ) → (o ≡ None → p
 some_before None p y silent e = let none = silent refl in absurd cc
 some_before (Some x) p y silent e = (x, refl)
 
--- how long it is behind one batch more
+-- how long it is after one batch more
 pub within_next : (o p : Option (List ℕ)) (may_leave : List ℕ → Type 0) (gate size : ℕ) (batch : List ℕ) → (o ≡ None → p ≡ None) → ForSome o (λ x. length x ≡ gate + 1)
     → ForSome o (λ x. (p ≡ Some (take gate x ++ 1 ∷ batch)) × Only (take gate x ++ 1 ∷ batch) may_leave) → length batch ≡ size → ForSome p (λ y. length y ≡ gate + size + 1)
 within_next o p may_leave gate size batch silent within done long = λ y f.

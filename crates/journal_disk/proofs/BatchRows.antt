@@ -8,31 +8,12 @@ use Rattle.field_bytes.specs.Fields.{u32_bytes}
 use Rattle.field_bytes.proofs.PrefixFree.{u32_prefix_free, one-front}
 use Rattle.journal_disk.specs.Batches.{Batch, records, body_length, batch_bytes, bytes_of, entries_of, IsBatch, AreBatches}
 use Rattle.journal_disk.specs.Stands.{IsLow, AreLow, HasBadGate}
-use Rattle.journal_disk.specs.Reading.{TakesRecords, NoRecordsMay, TakesBody, NoBodyAhead, TakesBatch, NoBatchAhead, HasGate}
+use Rattle.journal_disk.specs.Reading.{NoRecordsMay, TakesBody, NoBodyAhead, TakesBatch, NoBatchAhead}
 use Rattle.journal_disk.proofs.Filling.{All_append}
 use Rattle.journal_disk.proofs.RecordRows.{records_some}
-use Rattle.journal_disk.proofs.Staging.{batch_length}
 
 batch_split : (es : List Entry) (rest : List ℕ) → batch_bytes es ++ rest ≡ u32_bytes (body_length es) ++ ((1 ∷ records es) ++ rest)
 batch_split es rest = append_assoc (u32_bytes (body_length es)) (1 ∷ records es) rest
-
-pub batch_here : (before now : List Entry) (bytes body rest : List ℕ) → TakesBody bytes body rest → TakesRecords before now body → TakesBatch before now bytes rest
-batch_here before now bytes body rest took read = record {
-  entries = read.entries;
-  batch = record {
-    fits = record { some = some read.entries read.all; short = omega (arith, took.short, ap length read.all) };
-    have_records = read.have_records;
-    ordered = subst IsOrdered read.added read.ordered;
-  };
-  low = read.low;
-  split = took.split ∙ ap (λ (bs : List ℕ). u32_bytes (1 + length bs) ++ ((1 ∷ bs) ++ rest)) read.all ∙ sym (batch_split read.entries rest);
-  added = read.added;
-  gate = took.gate;
-}
-  where
-    some : (es : List Entry) → body ≡ records es → 0 < length es
-    some [] e = absurd (omega (arith, ap length e, took.some))
-    some (x ∷ es) e = omega arith
 
 pub no_body_no_batch : (before : List Entry) (bytes : List ℕ) → NoBodyAhead bytes → NoBatchAhead before bytes
 no_body_no_batch before bytes none es next more batch low e =
@@ -74,9 +55,6 @@ pub record AreReadingBatches (bytes : List ℕ) (list : List Entry) (rest : List
   pub ordered : IsOrdered list
   pub long : 1 < length bytes
 
-pub batches_none : (bytes : List ℕ) → 1 < length bytes → AreReadingBatches bytes [] bytes
-batches_none bytes long = record { batches = []; whole = tt; low = tt; split = refl; same = refl; some = omega arith; ordered = tt; long = long }
-
 first_rest : (rest : List ℕ) → 0 < length rest → rest ≡ get_or rest 0 0 ∷ drop 1 rest
 first_rest [] some = absurd (omega arith)
 first_rest (x ∷ xs) some = refl
@@ -102,16 +80,6 @@ batches_next bytes list now rest behind after was is_open e took =
       long = was.long;
     }
 
-pub batches_all : (bytes : List ℕ) (list : List Entry) (rest : List ℕ) (place : ℕ) → AreReadingBatches bytes list rest → get_or rest 0 0 ≡ 0 → place ≡ length bytes - length rest → HasGate bytes list place
-batches_all bytes list rest place was closed e = record {
-  batches = was.batches;
-  whole = was.whole;
-  rest = drop 1 rest;
-  file = was.split ∙ ap (λ bs. bytes_of was.batches ++ bs) (first_rest rest was.some ∙ ap (λ g. g ∷ drop 1 rest) closed);
-  place = omega (arith, e, ap length was.split, length-append (bytes_of was.batches) rest);
-  same = was.same;
-}
-
 pub batches_stop : (bytes : List ℕ) (list : List Entry) (rest behind : List ℕ) (place : ℕ) → AreReadingBatches bytes list rest → get_or rest 0 0 ≢ 0 → behind ≡ take (length rest - 1) (drop 1 rest) → NoBatchAhead list behind
     → place ≡ length bytes - length rest → HasBadGate bytes place
 batches_stop bytes list rest behind place was is_open e none f = record {
@@ -126,6 +94,3 @@ batches_stop bytes list rest behind place was is_open e none f = record {
   is_open = is_open;
   bad = λ es next more batch low. none es next more (subst (λ (fs : List Entry). IsBatch fs es) was.same batch) low;
 }
-
-pub batch_shorter : (list now : List Entry) (bytes rest : List ℕ) → TakesBatch list now bytes rest → length rest < length bytes
-batch_shorter list now bytes rest took = omega (arith, ap length took.split, length-append (batch_bytes took.entries) rest, batch_length took.entries)

@@ -1,7 +1,7 @@
 -- What stands behind a gate, and how it is no batch.
 use Rattle.std.proofs.Common.{◌≡◌, ◌≢◌, ℕ, ◌+◌, ◌<◌, ◌≤◌, List, ◌∷◌, ◌++◌, length, sym, ◌∙◌, ap, arith}
 use Rattle.std.proofs.lemmas.List.{length-append}
-use Rattle.field_bytes.specs.Fields.{u32_bytes, IsU32, NoneAhead}
+use Rattle.field_bytes.specs.Fields.{u32_bytes, IsU32}
 use Rattle.field_bytes.proofs.PrefixFree.{u32_prefix_free, one-front}
 use Rattle.journal_disk.specs.Reading.{NoBodyAhead}
 
@@ -9,10 +9,6 @@ use Rattle.journal_disk.specs.Reading.{NoBodyAhead}
 body_here : (bytes rest body tail : List ℕ) (n : ℕ) → IsU32 n → bytes ≡ u32_bytes n ++ rest → 1 + length body ≤ 16777216
     → bytes ≡ u32_bytes (1 + length body) ++ ((1 ∷ body) ++ tail) → (n ≡ 1 + length body) × (rest ≡ (1 ∷ body) ++ tail)
 body_here bytes rest body tail n is e short f = u32_prefix_free n (1 + length body) rest ((1 ∷ body) ++ tail) is (omega arith) (sym e ∙ f)
-
--- no length stands there
-pub no_length : (bytes : List ℕ) → NoneAhead u32_bytes IsU32 bytes → NoBodyAhead bytes
-no_length bytes none body next more some short e = none (1 + length body) ((1 ∷ body) ++ next ∷ more) (omega arith) e
 
 -- the length is none that a batch may have, or not so many bytes and a gate follow it
 pub no_body_so_long : (bytes rest : List ℕ) (n : ℕ) → IsU32 n → bytes ≡ u32_bytes n ++ rest → (2 ≤ n → n ≤ 16777216 → n < length rest → ⊥) → NoBodyAhead bytes

@@ -1,6 +1,5 @@
 -- How what a crash leaves goes on from call to call.
-use Rattle.std.proofs.Common.{◌≡◌, inl, inr, ⊎_elim, ℕ, ◌≤◌, List, Option, Some, None, IfSome, option_map, is_some, refl, ap, ◌∙◌, subst, arith}
-use Rattle.outer_io.specs.Causes.{Rose}
+use Rattle.std.proofs.Common.{◌≡◌, inl, inr, ⊎_elim, ℕ, List, Option, Some, None, IfSome, option_map, is_some, refl, ap, ◌∙◌, subst, arith}
 use Rattle.outer_disk.specs.Disk.{Elapses, LeavesOnly, LeavesNoMore, Matched}
 use Rattle.journal_disk.specs.Moments.{HasSynced, IsKept}
 use Rattle.outer_disk.proofs.Runs.{started, goes_on}
@@ -28,13 +27,6 @@ pub still_none : (o p : Option (List ℕ)) → is_some p ≡ is_some o → o ≡
 still_none o None e none = refl
 still_none o (Some y) e none = absurd (cc (e, none))
 
--- a count that rose in a part of a call rose in it
-pub rose_later : (a b c : ℕ) → Rose a b → b ≤ c → Rose a c
-rose_later a b c rose le = omega (arith, rose, le)
-
-pub rose_before : (a b c : ℕ) → a ≤ b → Rose b c → Rose a c
-rose_before a b c le rose = omega (arith, rose, le)
-
 module _ {D : Type 0} (moment : D → ℕ) (left_since : D → ℕ → List ℕ → Type 0) (may_leave : D → List ℕ → Type 0) where
   abbrev pub OnlyNow : D → Type 0
   OnlyNow old = (c : List ℕ) → left_since old (moment old) c → may_leave old c
@@ -49,11 +41,11 @@ module _ {D : Type 0} (moment : D → ℕ) (left_since : D → ℕ → List ℕ 
   pub at_first : (old : D) (P : List ℕ → Type 0) → OnlyNow old → ((c : List ℕ) → may_leave old c → P c) → Leaves old old P
   at_first old P only_now here = started moment left_since old P (λ c left. here c (only_now c left))
 
-  -- behind one call
+  -- after one call
   pub one : (old new : D) (P : List ℕ → Type 0) → OnlyNow old → Step old new → ((c : List ℕ) → may_leave old c → P c) → ((c : List ℕ) → may_leave new c → P c) → Leaves old new P
   one old new P only_now time before here = goes_on moment left_since old old new P (may_leave new) (at_first old P only_now before) time here
 
-  -- behind one call more
+  -- after one call more
   pub more : (old mid new : D) (P : List ℕ → Type 0) → Leaves old mid P → Step mid new → ((c : List ℕ) → may_leave new c → P c) → Leaves old new P
   more old mid new P so_far time here = goes_on moment left_since old mid new P (may_leave new) so_far time here
 
@@ -73,7 +65,7 @@ module _ {D : Type 0} (moment : D → ℕ) (left_since : D → ℕ → List ℕ 
     before = λ t c le left. ⊎_elim (λ past. first.before t c le past) (λ p. inr p) (second.before t c (omega (arith, le, first.later)) left);
   }
 
-  -- behind a first sync
+  -- after a first sync
   pub once_synced : (old mid new : D) (P : List ℕ → Type 0) → OnlyNow old → Step old mid → LeavesNoMore (may_leave old) (may_leave mid) → Leaves mid new P → HasSynced moment left_since may_leave old new P
   once_synced old mid new P only_now sync no_more on = record {
     synced = moment mid;
@@ -83,7 +75,7 @@ module _ {D : Type 0} (moment : D → ℕ) (left_since : D → ℕ → List ℕ 
     each = on.each;
   }
 
-  -- behind a call that changes nothing, a call that keeps all
+  -- after a call that changes nothing, a call that keeps all
   pub still_kept : (told : D → Option (List ℕ)) (old mid new : D) → OnlyNow old → Step old mid → LeavesNoMore (may_leave old) (may_leave mid) → told mid ≡ told old
       → IsKept moment left_since may_leave told mid new → IsKept moment left_since may_leave told old new
   still_kept told old mid new only_now step no_more same on = record {

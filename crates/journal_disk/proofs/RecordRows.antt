@@ -10,8 +10,7 @@ use Rattle.journal_records.specs.Records.{entry_bytes, IsRecord}
 use Rattle.journal_records.proofs.OneRecord.{entry_prefix_free}
 use Rattle.journal_disk.specs.Batches.{records}
 use Rattle.journal_disk.specs.Stands.{IsLow, AreLow}
-use Rattle.journal_disk.specs.Reading.{TakesRecord, NoRecordMay, TakesRecords, NoRecordsMay}
-use Rattle.journal_disk.proofs.Filling.{records_push, All_push}
+use Rattle.journal_disk.specs.Reading.{NoRecordMay, NoRecordsMay}
 
 -- a record has a byte
 pub entry_some : (e : Entry) → 0 < length (entry_bytes e)
@@ -61,30 +60,6 @@ pub record AreReading (before now : List Entry) (bytes rest : List ℕ) : Type 0
   pub added : now ≡ before ++ read
   pub ordered : IsOrdered now
 
-pub reading_none : (before : List Entry) (bytes : List ℕ) → IsOrdered before → AreReading before before bytes bytes
-reading_none before bytes ordered = record { read = []; have_records = tt; low = tt; split = refl; added = sym (append-nil before); ordered = ordered }
-
-pub reading_next : (before now new : List Entry) (bytes rest after : List ℕ) → AreReading before now bytes rest → TakesRecord now new rest after → AreReading before new bytes after
-reading_next before now new bytes rest after was took = record {
-  read = was.read ++ took.entry ∷ [];
-  have_records = All_push IsRecord was.read took.entry was.have_records took.is_record;
-  low = All_push IsLow was.read took.entry was.low took.may.1;
-  split = was.split ∙ ap (λ bs. records was.read ++ bs) took.split ∙ sym (append_assoc (records was.read) (entry_bytes took.entry) after)
-      ∙ ap (λ bs. bs ++ after) (sym (records_push was.read took.entry));
-  added = took.added ∙ ap (λ es. es ++ took.entry ∷ []) was.added ∙ append_assoc before was.read (took.entry ∷ []);
-  ordered = subst IsOrdered (sym took.added) took.may.0;
-}
-
-pub reading_all : (before now : List Entry) (bytes rest : List ℕ) → AreReading before now bytes rest → rest ≡ [] → TakesRecords before now bytes
-reading_all before now bytes rest was none = record {
-  entries = was.read;
-  have_records = was.have_records;
-  ordered = was.ordered;
-  low = was.low;
-  all = was.split ∙ ap (λ bs. records was.read ++ bs) none ∙ append-nil (records was.read);
-  added = was.added;
-}
-
 pub reading_stops : (before now : List Entry) (bytes rest : List ℕ) → AreReading before now bytes rest → 0 < length rest → NoRecordMay now rest → NoRecordsMay before bytes
 reading_stops before now bytes rest was some none es all ordered low e =
     let on = goes_on was.read es rest was.have_records all (sym was.split ∙ e) in
@@ -100,6 +75,3 @@ reading_stops before now bytes rest was some none es all ordered low e =
         let whole : before ++ es ≡ (now ++ m ∷ []) ++ more =
         ap (λ fs. before ++ fs) is ∙ sym (append_assoc before was.read (m ∷ more)) ∙ ap (λ fs. fs ++ m ∷ more) (sym was.added) ∙ sym (append_assoc now (m ∷ []) more) in
         none m (records more) may.0 (ordered-front (now ++ m ∷ []) more (subst IsOrdered whole ordered), low_at was.read more m (subst AreLow is low)) left
-
-pub record_shorter : (now new : List Entry) (rest after : List ℕ) → TakesRecord now new rest after → length after < length rest
-record_shorter now new rest after took = omega (arith, ap length took.split, length-append (entry_bytes took.entry) after, entry_some took.entry)

@@ -7,7 +7,7 @@ use Rattle.journal_disk.specs.Stands.{Stands, AreLow, HasBadGate}
 abbrev pub OneList : Type 0
 OneList = (bytes : List ℕ) (es fs : List Entry) → Stands bytes es → Stands bytes fs → es ≡ fs
 
--- bytes with a bad gate stand for no list, but maybe for one with an Epoch above 2 ^ 31
+-- bytes with a bad gate stand for no list, but maybe for one with an Epoch above START_EPOCH_LIMIT
 abbrev pub BadGateNoList : Type 0
 BadGateNoList = (bytes : List ℕ) (place : ℕ) (list : List Entry) → HasBadGate bytes place → Stands bytes list → AreLow list → ⊥
 

@@ -18,13 +18,13 @@ pub record HasSynced {D : Type 0} (moment : D → ℕ) (left_since : D → ℕ �
 abbrev pub OnceSynced : {D : Type 0} → (D → ℕ) → (D → ℕ → List ℕ → Type 0) → (D → List ℕ → Type 0) → D → D → (List ℕ → Type 0) → Type 0
 OnceSynced moment left_since may_leave old new P = LeavesOnly moment left_since old new (may_leave old) ⊎ HasSynced moment left_since may_leave old new P
 
--- a call changes nothing: a read gives the same behind it, and a crash at any moment of it leaves only what it might
+-- a call changes nothing: a read gives the same after it, and a crash at any moment of it leaves only what it might
 -- have left before
 pub record IsKept {D : Type 0} (moment : D → ℕ) (left_since : D → ℕ → List ℕ → Type 0) (may_leave : D → List ℕ → Type 0) (told : D → Option (List ℕ)) (old new : D) : Type 0 where
   pub read : told new ≡ told old
   pub moments : LeavesOnly moment left_since old new (may_leave old)
 
--- a part goes onto the disk in batches, in order: what a read gives behind the call, and what a crash at any moment
+-- a part goes onto the disk in batches, in order: what a read gives after the call, and what a crash at any moment
 -- of it leaves, stands for the list with some of them, each whole
 pub record AppendsWhole {D : Type 0} (moment : D → ℕ) (left_since : D → ℕ → List ℕ → Type 0) (told : D → Option (List ℕ)) (old new : D) (list part : List Entry) : Type 0 where
   pub parts : List (List Entry)

@@ -24,10 +24,10 @@ pub(crate) fn read_all<D: Disk>(alloc: Global, disk: &mut D) -> Result<Vec<u8>, 
     ensures same { D.told disk.new ≡ D.told disk.old }
     ensures crash { LeavesNoMore (D.may_leave disk.old) (D.may_leave disk.new) }
     ensures any_moment { LeavesOnly D.moment D.left_since disk.old disk.new (D.may_leave disk.old) }
-    ensures faults { D.faults disk.old ≤ D.faults disk.new }
+    ensures faults { (D.counts disk.old).faults ≤ (D.counts disk.new).faults }
     ensures failed { IfErr result (λ stop. stop ≡ Stop.Failed
-        → Rose (D.faults disk.old) (D.faults disk.new)) }
-    ensures few { D.calls disk.new ≤ D.calls disk.old + 2 }
+        → Rose (D.counts disk.old).faults (D.counts disk.new).faults) }
+    ensures few { (D.counts disk.new).calls ≤ (D.counts disk.old).calls + 2 }
 {
     let length = match disk.len() {
         Ok(length) => length,

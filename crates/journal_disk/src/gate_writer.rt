@@ -20,10 +20,10 @@ pub(crate) fn cut_behind<D: Disk>(disk: &mut D, gate: u64) -> Result<(), Stop>
     ensures any_moment { ForSome (D.told disk.old) (λ old. Only old (D.may_leave disk.old)
         → LeavesOnly D.moment D.left_since disk.old disk.new (Cut (gate + 1) old)) }
     ensures telling { is_some (D.told disk.new) ≡ is_some (D.told disk.old) }
-    ensures faults { D.faults disk.old ≤ D.faults disk.new }
+    ensures faults { (D.counts disk.old).faults ≤ (D.counts disk.new).faults }
     ensures failed { IfErr result (λ stop. stop ≡ Stop.Failed
-        → Rose (D.faults disk.old) (D.faults disk.new)) }
-    ensures few { D.calls disk.new ≤ D.calls disk.old + 2 }
+        → Rose (D.counts disk.old).faults (D.counts disk.new).faults) }
+    ensures few { (D.counts disk.new).calls ≤ (D.counts disk.old).calls + 2 }
 {
     disk.cut(gate + 1)?;
     disk.sync()
@@ -39,10 +39,10 @@ pub(crate) fn put_gate<D: Disk>(disk: &mut D, size: u64) -> Result<(), Stop>
     ensures any_moment { ForSome (D.told disk.old) (λ old. Only old (D.may_leave disk.old)
         → LeavesOnly D.moment D.left_since disk.old disk.new IsShort) }
     ensures telling { is_some (D.told disk.new) ≡ is_some (D.told disk.old) }
-    ensures faults { D.faults disk.old ≤ D.faults disk.new }
+    ensures faults { (D.counts disk.old).faults ≤ (D.counts disk.new).faults }
     ensures failed { IfErr result (λ stop. stop ≡ Stop.Failed
-        → Rose (D.faults disk.old) (D.faults disk.new)) }
-    ensures few { D.calls disk.new ≤ D.calls disk.old + 3 }
+        → Rose (D.counts disk.old).faults (D.counts disk.new).faults) }
+    ensures few { (D.counts disk.new).calls ≤ (D.counts disk.old).calls + 3 }
 {
     disk.cut(size)?;
     disk.write_at(0, &[CLOSED])?;
@@ -64,14 +64,14 @@ pub(crate) fn write_batch<D: Disk>(disk: &mut D, gate: u64, batch: &[u8]) -> Res
     ensures any_moment { ForSome (D.told disk.old) (λ old. Only old (D.may_leave disk.old)
         → LeavesOnly D.moment D.left_since disk.old disk.new (HasGateOrBatch gate old batch.now)) }
     ensures telling { is_some (D.told disk.new) ≡ is_some (D.told disk.old) }
-    ensures faults { D.faults disk.old ≤ D.faults disk.new }
+    ensures faults { (D.counts disk.old).faults ≤ (D.counts disk.new).faults }
     ensures failed { IfErr result (λ stop. stop ≡ Stop.Failed
-        → Rose (D.faults disk.old) (D.faults disk.new)) }
-    ensures calls { OnOk result (RoseBy 4 (D.calls disk.old) (D.calls disk.new)) }
-    ensures few { D.calls disk.new ≤ D.calls disk.old + 4 }
-    ensures wants { D.wants disk.old ≤ D.wants disk.new }
-    ensures wanted { IfErr result (λ stop. stop ≡ Stop.Memory
-        → Rose (D.wants disk.old) (D.wants disk.new)) }
+        → Rose (D.counts disk.old).faults (D.counts disk.new).faults) }
+    ensures calls { OnOk result (RoseBy 4 (D.counts disk.old).calls (D.counts disk.new).calls) }
+    ensures few { (D.counts disk.new).calls ≤ (D.counts disk.old).calls + 4 }
+    ensures memory { (D.counts disk.old).out_of_memory ≤ (D.counts disk.new).out_of_memory }
+    ensures out_of_memory { IfErr result (λ stop. stop ≡ Stop.Memory
+        → Rose (D.counts disk.old).out_of_memory (D.counts disk.new).out_of_memory) }
 {
     disk.write_at(gate + 1, batch)?;
     disk.sync()?;

@@ -50,7 +50,7 @@ impl Journal {
         ensures ordered { IfOk result (λ got. IsOrdered got.1) }
         ensures low { IfOk result (λ got. AreLow got.1) }
 
-        // What the bytes stood for they stand for behind the call, and at each moment from some
+        // What the bytes stood for they stand for after the call, and at each moment from some
         // moment of it on.
         ensures read { ForSome (D.told disk.old) (λ old.
             ForSome (D.told disk.new) (StandsAs old)) }
@@ -66,11 +66,11 @@ impl Journal {
         ensures not_a_journal { (place : ℕ) → IsErrOf result (JournalError.NotAJournal place)
             → ForSome (D.told disk.old) (λ bytes. HasBadGate bytes place) }
         ensures disk { IsErrOf result JournalError.Disk
-            → Rose (D.faults disk.old) (D.faults disk.new) }
+            → Rose (D.counts disk.old).faults (D.counts disk.new).faults }
         ensures needs_start { result ≢ Err JournalError.NeedsStart }
         ensures telling { is_some (D.told disk.new) ≡ is_some (D.told disk.old) }
-        ensures faults { D.faults disk.old ≤ D.faults disk.new }
-        ensures few { D.calls disk.new ≤ D.calls disk.old + 6 }
+        ensures faults { (D.counts disk.old).faults ≤ (D.counts disk.new).faults }
+        ensures few { (D.counts disk.new).calls ≤ (D.counts disk.old).calls + 6 }
     {
         disk.sync()?;
         let read = recover(alloc, disk)?;
@@ -104,8 +104,8 @@ impl Journal {
     }
 
     /// Saves the entries of a part, in batches, each with four device calls; an empty part makes none. All
-    /// bytes are made before the first device call: where memory is wanting for them nothing has changed.
-    /// After `Disk`, or where the device wanted memory, some of the batches may be saved, from the front,
+    /// bytes are made before the first device call: where there is no memory for them nothing has changed.
+    /// After `Disk`, or where the device ran out of memory, some of the batches may be saved, from the front,
     /// each whole; then the journal has to be started anew, and answers `NeedsStart`.
     pub fn append<D: Disk>(
         &mut self,
@@ -131,20 +131,20 @@ impl Journal {
             AppendsWhole D.moment D.left_since D.told disk.old disk.new list part.now) }
 
         ensures disk { IsErrOf result JournalError.Disk
-            → Rose (D.faults disk.old) (D.faults disk.new) }
+            → Rose (D.counts disk.old).faults (D.counts disk.new).faults }
         ensures needs_start { IsErrOf result JournalError.NeedsStart
             ↔ (self.old.needs_start ≡ true) }
         ensures not_a_journal { (place : ℕ) → result ≢ Err (JournalError.NotAJournal place) }
         ensures telling { is_some (D.told disk.new) ≡ is_some (D.told disk.old) }
-        ensures faults { D.faults disk.old ≤ D.faults disk.new }
+        ensures faults { (D.counts disk.old).faults ≤ (D.counts disk.new).faults }
 
         // Four device calls for each batch, and after an error at most so many.
         ensures calls { OnOk result ((n : ℕ) × IsInBatches part.now n
-            × RoseBy (4 * n) (D.calls disk.old) (D.calls disk.new)) }
+            × RoseBy (4 * n) (D.counts disk.old).calls (D.counts disk.new).calls) }
         ensures few { self.old.needs_start ≡ false → (n : ℕ) × IsInBatches part.now n
-            × (D.calls disk.new ≤ D.calls disk.old + 4 * n) }
+            × ((D.counts disk.new).calls ≤ (D.counts disk.old).calls + 4 * n) }
 
-        // What stands after an error. Memory for the bytes is wanting before the first device call.
+        // What stands after an error. Memory for the bytes runs out before the first device call.
         ensures refused { IsErrOf result JournalError.NeedsStart
             → (self.new ≡ self.old) × (disk.new ≡ disk.old) }
         ensures stopped { IsErrOf result JournalError.Disk
@@ -152,7 +152,7 @@ impl Journal {
         ensures memory { IsErrOf result (JournalError.Memory alloc_error)
             → ((self.new ≡ self.old) × (disk.new ≡ disk.old))
             ⊎ ((self.new ≡ record self.old { needs_start = true })
-            × Rose (D.wants disk.old) (D.wants disk.new)) }
+            × Rose (D.counts disk.old).out_of_memory (D.counts disk.new).out_of_memory) }
         ensures empty { part.now ≡ [] → disk.new ≡ disk.old }
     {
         if self.needs_start {

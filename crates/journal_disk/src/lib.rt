@@ -1,8 +1,8 @@
 //! The journal of a data server on its disk: the entries of its list, in batches behind gates. A batch counts
 //! once its gate is open, and the gate is opened by a write of its own when the batch is on the disk, so a crash
 //! leaves each batch whole or not at all. Contracts see a journal as the place of its closed gate and whether it
-//! has to be started anew; what a disk stands for is `Stands`, in specs/Stands. No clause says when memory is
-//! wanting, nor how many device calls are made: four a batch.
+//! has to be started anew; what a disk stands for is `Stands`, in specs/Stands. The device calls are counted:
+//! four a batch, and at most six at a start. No clause says when there is no memory for the bytes.
 #![tactic(auto)]
 
 mod batch_reader;

@@ -35,15 +35,15 @@ pub(crate) fn write_batches<D: Disk>(
         AppendsWhole D.moment D.left_since D.told disk.old disk.new list part) }
     ensures none { staged.now.sizes.items ≡ [] → disk.new ≡ disk.old }
     ensures telling { is_some (D.told disk.new) ≡ is_some (D.told disk.old) }
-    ensures faults { D.faults disk.old ≤ D.faults disk.new }
+    ensures faults { (D.counts disk.old).faults ≤ (D.counts disk.new).faults }
     ensures failed { IfErr result (λ stop. stop ≡ Stop.Failed
-        → Rose (D.faults disk.old) (D.faults disk.new)) }
+        → Rose (D.counts disk.old).faults (D.counts disk.new).faults) }
     ensures calls { OnOk result (RoseBy (4 * length staged.now.sizes.items)
-        (D.calls disk.old) (D.calls disk.new)) }
-    ensures few { D.calls disk.new
-        ≤ D.calls disk.old + 4 * length staged.now.sizes.items }
-    ensures wanted { IfErr result (λ stop. stop ≡ Stop.Memory
-        → Rose (D.wants disk.old) (D.wants disk.new)) }
+        (D.counts disk.old).calls (D.counts disk.new).calls) }
+    ensures few { (D.counts disk.new).calls
+        ≤ (D.counts disk.old).calls + 4 * length staged.now.sizes.items }
+    ensures out_of_memory { IfErr result (λ stop. stop ≡ Stop.Memory
+        → Rose (D.counts disk.old).out_of_memory (D.counts disk.new).out_of_memory) }
 {
     let mut gate = gate;
     let mut rest = staged.bytes.as_slice();

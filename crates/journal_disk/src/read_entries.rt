@@ -2,13 +2,10 @@ ghost use Rattle.std.specs.Prelude.{◌≡◌, ◌↔◌, ◌++◌, ◌∷◌, [
 ghost use Rattle.journal_disk.specs.Stands.{IsLow};
 ghost use Rattle.journal_disk.specs.Reading.{MayBeRead};
 
-use plain_orders::{Entries, Entry};
+use plain_orders::{Entries, Entry, START_EPOCH_LIMIT};
 use plain_programs::OrderCheck;
 use std::alloc::{AllocError, Global};
 use std::marker::Model;
-
-/// The greatest number of an Epoch that a journal may have.
-const EPOCH_LIMIT: u32 = 2_147_483_648;
 
 /// The entries that were read so far, oldest first. Contracts see it as their list.
 #[derive(Drop)]
@@ -60,7 +57,7 @@ fn is_low(entry: &Entry) -> bool
     ensures { IsTrue result ↔ IsLow entry.now }
 {
     match entry {
-        Entry::Epoch { number } => *number <= EPOCH_LIMIT,
+        Entry::Epoch { number } => *number <= START_EPOCH_LIMIT,
         _ => true,
     }
 }

@@ -32,10 +32,10 @@ fn repair<D: Disk>(disk: &mut D, size: u64, gate: u64) -> Result<(), Stop>
         → (list : List Entry) → IsRead old list gate
         → LeavesOnly D.moment D.left_since disk.old disk.new (λ c. Stands c list)) }
     ensures telling { is_some (D.told disk.new) ≡ is_some (D.told disk.old) }
-    ensures faults { D.faults disk.old ≤ D.faults disk.new }
+    ensures faults { (D.counts disk.old).faults ≤ (D.counts disk.new).faults }
     ensures failed { IfErr result (λ stop. stop ≡ Stop.Failed
-        → Rose (D.faults disk.old) (D.faults disk.new)) }
-    ensures few { D.calls disk.new ≤ D.calls disk.old + 3 }
+        → Rose (D.counts disk.old).faults (D.counts disk.new).faults) }
+    ensures few { (D.counts disk.new).calls ≤ (D.counts disk.old).calls + 3 }
 {
     if size < 2 {
         put_gate(disk, size)
@@ -58,13 +58,13 @@ pub(crate) fn recover<D: Disk>(alloc: Global, disk: &mut D) -> Result<ReadJourna
     ensures kept { ForSome (D.told disk.old) (λ old. (place : ℕ) → HasBadGate old place
         → IsKept D.moment D.left_since D.may_leave D.told disk.old disk.new) }
     ensures telling { is_some (D.told disk.new) ≡ is_some (D.told disk.old) }
-    ensures faults { D.faults disk.old ≤ D.faults disk.new }
+    ensures faults { (D.counts disk.old).faults ≤ (D.counts disk.new).faults }
     ensures disk { IsErrOf result JournalError.Disk
-        → Rose (D.faults disk.old) (D.faults disk.new) }
+        → Rose (D.counts disk.old).faults (D.counts disk.new).faults }
     ensures not_a_journal { (place : ℕ) → result ≡ Err (JournalError.NotAJournal place)
         → ForSome (D.told disk.old) (λ bytes. HasBadGate bytes place) }
     ensures needs_start { result ≢ Err JournalError.NeedsStart }
-    ensures few { D.calls disk.new ≤ D.calls disk.old + 5 }
+    ensures few { (D.counts disk.new).calls ≤ (D.counts disk.old).calls + 5 }
 {
     let bytes = read_all(alloc, disk)?;
     let read = read_journal(alloc, &bytes)?;

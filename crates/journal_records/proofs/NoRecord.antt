@@ -1,5 +1,5 @@
 -- Where no part of an entry stands behind its kind, no record is ahead.
-use Rattle.std.proofs.Common.{◌≡◌, ◌≢◌, ℕ, List, ◌∷◌, ◌++◌, sym, ◌∙◌, subst, arith, append_assoc}
+use Rattle.std.proofs.Common.{◌≡◌, ℕ, List, ◌∷◌, ◌++◌, sym, ◌∙◌, subst, append_assoc}
 use Rattle.plain_orders.specs.declared.op.Op.{Op}
 use Rattle.plain_orders.specs.declared.entry.Entry.{Entry}
 use Rattle.plain_orders.specs.declared.entry.Entry.TheVariants.{Epoch, Opened, Closed, Update, Commit, Rollback}
@@ -45,16 +45,6 @@ no_closed bytes none (Closed session) r q f =
 no_closed bytes none (Update session w job txn op) r q f = absurd cc
 no_closed bytes none (Commit session w job txn) r q f = absurd cc
 no_closed bytes none (Rollback session w job txn) r q f = absurd cc
-
-pub no_update : (bytes : List ℕ) → NoItemAhead bytes → NoRecordAhead (4 ∷ bytes)
-no_update bytes none (Epoch number) r q f = absurd cc
-no_update bytes none (Opened session app) r q f = absurd cc
-no_update bytes none (Closed session) r q f = absurd cc
-no_update bytes none (Update session w job txn op) r q f =
-    let tail : bytes ≡ (item_bytes session w job txn ++ op_bytes op) ++ r = cc in
-    none session w job txn (op_bytes op ++ r) q.0 (tail ∙ append_assoc (item_bytes session w job txn) (op_bytes op) r)
-no_update bytes none (Commit session w job txn) r q f = absurd cc
-no_update bytes none (Rollback session w job txn) r q f = absurd cc
 
 pub no_op : (bytes rest : List ℕ) (s v j n : ℕ) → IsItem s v j n → bytes ≡ item_bytes s v j n ++ rest → NoneAhead op_bytes IsOpField rest → NoRecordAhead (4 ∷ bytes)
 no_op bytes rest s v j n p e none (Epoch number) r q f = absurd cc
@@ -113,22 +103,6 @@ no_rollback bytes none (Update session w job txn op) r q f = absurd cc
 no_rollback bytes none (Commit session w job txn) r q f = absurd cc
 no_rollback bytes none (Rollback session w job txn) r q f =
     none session w job txn r q cc
-
-pub no_kind : (bytes : List ℕ) → NoneAhead u8_bytes IsU8 bytes → NoRecordAhead bytes
-no_kind bytes none (Epoch number) r q f = none 1 _ (omega arith) f
-no_kind bytes none (Opened session app) r q f = none 2 _ (omega arith) f
-no_kind bytes none (Closed session) r q f = none 3 _ (omega arith) f
-no_kind bytes none (Update session w job txn op) r q f = none 4 _ (omega arith) f
-no_kind bytes none (Commit session w job txn) r q f = none 5 _ (omega arith) f
-no_kind bytes none (Rollback session w job txn) r q f = none 6 _ (omega arith) f
-
-pub other_kind : (kind : ℕ) (bytes rest : List ℕ) → bytes ≡ u8_bytes kind ++ rest → kind ≢ 1 → kind ≢ 2 → kind ≢ 3 → kind ≢ 4 → kind ≢ 5 → kind ≢ 6 → NoRecordAhead bytes
-other_kind kind bytes rest e a b c d g h (Epoch number) r q f = a cc
-other_kind kind bytes rest e a b c d g h (Opened session app) r q f = b cc
-other_kind kind bytes rest e a b c d g h (Closed session) r q f = c cc
-other_kind kind bytes rest e a b c d g h (Update session w job txn op) r q f = d cc
-other_kind kind bytes rest e a b c d g h (Commit session w job txn) r q f = g cc
-other_kind kind bytes rest e a b c d g h (Rollback session w job txn) r q f = h cc
 
 -- what was read is the entry whose record stands there
 pub read_again : (found entry : Entry) (bytes after rest : List ℕ) → IsRecord found → IsRecord entry → bytes ≡ entry_bytes found ++ after → bytes ≡ entry_bytes entry ++ rest → found ≡ entry

@@ -1,5 +1,6 @@
 -- The bytes of an entry's record, and which entries have one.
-use Rattle.std.specs.Prelude.{◌≡◌, ◌≢◌, ℕ, ◌^◌, ◌<◌, List, ◌∷◌, ◌++◌, unsigned_abs}
+use Rattle.std.specs.Prelude.{◌≡◌, ◌≢◌, ℕ, ◌<◌, List, ◌∷◌, ◌++◌, unsigned_abs}
+use Rattle.subscript_keys.specs.declared.limits.TheConstants.{NUMBER_LIMIT}
 use Rattle.plain_orders.specs.declared.op.Op.{Op}
 use Rattle.plain_orders.specs.declared.op.Op.TheVariants.{Set, Kill, Add}
 use Rattle.plain_orders.specs.declared.entry.Entry.{Entry}
@@ -23,11 +24,11 @@ entry_bytes (Rollback session w job txn) = 6 ∷ item_bytes session w job txn
 abbrev pub IsItem : ℕ → ℕ → ℕ → ℕ → Type 0
 IsItem session w job txn = IsU64 session × IsU64 w × IsU16 job × IsU32 txn
 
--- an operation's parts stand in fields, and an increment is in no transaction and of at most 18 digits
+-- an operation's parts stand in fields, and an increment is in no transaction and of at most DIGIT_LIMIT digits
 abbrev pub IsRecordOp : ℕ → Op → Type 0
 IsRecordOp txn (Set key value) = IsKeyField key × IsShortList value
 IsRecordOp txn (Kill key) = IsKeyField key
-IsRecordOp txn (Add key amount) = IsKeyField key × (txn ≡ 0) × (unsigned_abs amount < 10 ^ 18)
+IsRecordOp txn (Add key amount) = IsKeyField key × (txn ≡ 0) × (unsigned_abs amount < NUMBER_LIMIT)
 
 -- an entry that is no Update, or one with such an operation
 abbrev pub HasRecordOp : Entry → Type 0

@@ -8,7 +8,7 @@ use field_bytes::{put_op, put_u8, put_u32, put_u64};
 use plain_orders::Entry;
 use std::alloc::AllocError;
 
-/// Appends the record of an entry. Where memory is wanting, what was held stays in front.
+/// Appends the record of an entry. After an `Err` what was held stays in front.
 fn put_entry(to: &mut Vec<u8>, entry: &Entry) -> Result<(), AllocError>
     requires { HasRecordOp entry.now }
     ensures ok { OnOk result (to.new.items ≡ to.old.items ++ entry_bytes entry.now) }
@@ -61,7 +61,7 @@ fn put_entry(to: &mut Vec<u8>, entry: &Entry) -> Result<(), AllocError>
     }
 }
 
-/// Appends the record of an entry; unchanged where memory is wanting.
+/// Appends the record of an entry. After an `Err` nothing has changed.
 pub fn write_entry(entry: &Entry, to: &mut Vec<u8>) -> Result<(), AllocError>
     requires { HasRecordOp entry.now }
     ensures ok { OnOk result (to.new.items ≡ to.old.items ++ entry_bytes entry.now) }

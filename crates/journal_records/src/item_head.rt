@@ -31,7 +31,7 @@ impl ItemHead {
     }
 }
 
-/// Appends the four numbers. Where memory is wanting, what was held stays in front.
+/// Appends the four numbers. After an `Err` what was held stays in front.
 #[tactic(auto, unfolding(crate::specs::Records::item_bytes))]
 pub fn put_item_head(to: &mut Vec<u8>, head: ItemHead) -> Result<(), AllocError>
     ensures ok { OnOk result

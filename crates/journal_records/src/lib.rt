@@ -1,7 +1,7 @@
 //! The bytes of an entry's record, of which a journal consists. An entry has one record, and bytes that
 //! begin with a record do so in one way: `records_are_prefix_free`. `write_entry` appends a record, and
 //! `read_entry` reads the one that stands in front. What may follow an ordered list can be written:
-//! `ordered_entries_have_records`. No clause says when memory is wanting.
+//! `ordered_entries_have_records`. No clause says when memory runs out.
 #![tactic(auto)]
 
 mod entry_reader;

@@ -3,9 +3,7 @@ ghost use Rattle.field_bytes.specs.Fields.{IsOpField};
 ghost use Rattle.journal_records.specs.Records.{IsRecordOp};
 
 use plain_orders::Op;
-
-/// The least number of 19 digits.
-const AMOUNT_LIMIT: u64 = 1_000_000_000_000_000_000;
+use subscript_keys::NUMBER_LIMIT;
 
 /// Whether an operation whose parts stand in fields may stand in a record; `txn` is its transaction, 0
 /// being none.
@@ -14,7 +12,7 @@ pub fn is_record_op(txn: u32, op: &Op) -> bool
     ensures { IsTrue result ↔ IsRecordOp txn op.now }
 {
     match op {
-        Op::Add { amount, .. } => txn == 0 && amount.unsigned_abs() < AMOUNT_LIMIT,
+        Op::Add { amount, .. } => txn == 0 && amount.unsigned_abs() < NUMBER_LIMIT,
         Op::Set { .. } | Op::Kill { .. } => true,
     }
 }

@@ -5,7 +5,7 @@ use crate::link_event::LinkEvent;
 use plain_orders::Times;
 
 /// The application server's end. Moments are ticks.
-#[derive(Clone, Copy, Debug, PartialEq, Eq)]
+#[derive(Clone, Copy)]
 pub enum AppLink {
     NotConnected,
     Normal,
@@ -15,7 +15,7 @@ pub enum AppLink {
     Recovery,
 }
 
-/// The end behind an event at the moment `now`. An event that the table hasn't for a state leaves it.
+/// The end after an event at the moment `now`. An event that the table hasn't for a state leaves it.
 pub fn app_step(state: AppLink, event: LinkEvent, times: &Times, now: u64) -> AppLink
     ensures { result ≡ app_next times.now now state event }
 {

@@ -5,7 +5,7 @@ use crate::link_event::LinkEvent;
 use plain_orders::Times;
 
 /// The data server's end for one application server. Moments are ticks.
-#[derive(Clone, Copy, Debug, PartialEq, Eq)]
+#[derive(Clone, Copy)]
 pub enum DataLink {
     /// It has no session.
     Free,
@@ -16,7 +16,7 @@ pub enum DataLink {
     Recovering { due: u64 },
 }
 
-/// The end behind an event at the moment `now`. An event that the table hasn't for a state leaves it.
+/// The end after an event at the moment `now`. An event that the table hasn't for a state leaves it.
 pub fn data_step(state: DataLink, event: LinkEvent, times: &Times, now: u64) -> DataLink
     ensures { result ≡ data_next times.now now state event }
 {

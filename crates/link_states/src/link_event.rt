@@ -1,5 +1,5 @@
 /// What happens to an end of a pair.
-#[derive(Clone, Copy, Debug, PartialEq, Eq)]
+#[derive(Clone, Copy)]
 pub enum LinkEvent {
     /// A Welcome of a new session came.
     Welcomed,

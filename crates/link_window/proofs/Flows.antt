@@ -157,7 +157,7 @@ send_kept l body k = record {
   back = back_put (sender l.mine body) l.other l.joined _ (AcksUpTo-carried l.mine.window.taken l.mine.ready l.joined _ (AcksUpTo-numbered (sent_count l.mine.window) l.mine.window.taken (body ∷ []))) (back_sender l.mine l.other l.joined body k.back);
 }
 
--- a bare message stands behind the others and takes no place among them
+-- a bare message follows the others and takes no place among them
 bare_put : (m o : End) (ack : ℕ) → m.ready ≡ true → Flow m o true → Flow m (with_coming o (Bare ack ∷ [])) true
 bare_put m o ack r k = record {
   rest = k.rest;

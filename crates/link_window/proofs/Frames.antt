@@ -8,7 +8,7 @@ bodies [] = []
 bodies (Numbered s a b ∷ fs) = b ∷ bodies fs
 bodies (Bare a ∷ fs) = bodies fs
 
--- their numbers go on from behind n, one by one
+-- their numbers go on from n + 1, one by one
 abbrev pub InRow : ℕ → List Frame → Type 0
 InRow n [] = Unit {0}
 InRow n (Numbered s a b ∷ fs) = (s ≡ n + 1) × InRow (n + 1) fs

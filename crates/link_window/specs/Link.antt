@@ -19,7 +19,7 @@ pub record End : Type 0 where
   pub coming : List Frame  -- what is on its way to it, on the connection that it has
   pub away : Bool  -- it left its connection and has no other
   pub told : Option ℕ  -- how many messages the other end took, as that end told it
-  pub ready : Bool  -- it has sent again behind that number, and puts on its connection what it sends
+  pub ready : Bool  -- it has sent again what follows that number, and puts on its connection what it sends
   pub refused : Bool  -- it refused a number
 
 -- both ends, and whether they have the same connection
@@ -58,7 +58,7 @@ carried _ _ frames = []
 abbrev pub with_coming : End → List Frame → End
 with_coming e frames = record e { coming = e.coming ++ frames }
 
--- the messages of these bodies, numbered from behind n
+-- the messages of these bodies, numbered from n + 1
 abbrev pub numbered : ℕ → ℕ → List (List ℕ) → List Frame
 numbered n ack [] = []
 numbered n ack (b ∷ bs) = Numbered (n + 1) ack b ∷ numbered (n + 1) ack bs

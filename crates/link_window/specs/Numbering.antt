@@ -14,11 +14,11 @@ fresh_window = record { acked = 0; waiting = []; taken = 0 }
 abbrev pub sent_count : WindowState → ℕ
 sent_count w = w.acked + length w.waiting
 
--- one message more stands behind those that were sent
+-- one message more follows those that were sent
 abbrev pub after_send : WindowState → List ℕ → WindowState
 after_send w body = record w { waiting = w.waiting ++ body ∷ [] }
 
--- an acknowledgement past what was sent is refused, then a number behind a gap; a number above those taken is fresh
+-- an acknowledgement past what was sent is refused, then a number after a gap; a number above those taken is fresh
 abbrev pub answer_to : WindowState → ℕ → ℕ → Result Taken WindowError
 answer_to w seq ack =
     if nat_lt (sent_count w) ack then Err (AckPastSent (sent_count w) ack) else

@@ -73,7 +73,7 @@ impl Window {
     }
 
     /// Numbers a body and keeps it until it is acknowledged. Past the greatest u64 no number is left, and
-    /// it answers as where memory is wanting.
+    /// it answers as where there is no memory.
     pub fn send(&mut self, body: Bytes) -> Result<u64, AllocError>
         ensures number { IfOk result (λ seq. seq ≡ sent_count self.old + 1) }
         ensures ok { IfOk result (λ _. self.new ≡ after_send self.old body) }
@@ -127,13 +127,13 @@ impl Window {
         }
     }
 
-    /// The bodies behind the greater of `taken` and what the other end has acknowledged, oldest first; none
+    /// The bodies after the greater of `taken` and what the other end has acknowledged, oldest first; none
     /// where `taken` is past what was sent.
     pub fn resend(&self, taken: u64) -> &[Bytes]
         ensures { result.now ≡ drop (taken - self.now.acked) self.now.waiting }
     {
         let waiting = &self.bodies[self.given_up..];
-        let behind = taken.saturating_sub(self.acked).min(waiting.len() as u64) as usize;
-        &waiting[behind..]
+        let known = taken.saturating_sub(self.acked).min(waiting.len() as u64) as usize;
+        &waiting[known..]
     }
 }

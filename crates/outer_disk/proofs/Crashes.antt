@@ -24,7 +24,7 @@ synced_none synced bytes (Write at part ∷ calls) none = synced_none synced (af
 synced_none synced bytes (CutTo to ∷ calls) none = synced_none synced (after bytes (CutTo to)) calls none.1
 synced_none synced bytes (Sync ∷ calls) none = absurd (none.0 refl)
 
--- behind the last sync they are those that stood there
+-- after the last sync they are those that stood there
 synced_some : (synced bytes : List ℕ) (calls : List DiskCall) (n : ℕ) → HasNoSync (drop (suc n) calls) → slice_get calls n ≡ Some Sync
     → synced_after synced bytes calls ≡ bytes_after bytes (take (suc n) calls)
 synced_some synced bytes [] n none is = cc
@@ -120,7 +120,7 @@ picked_same pick f g bytes synced image same is = record { long = is.long; each 
         ap (λ b. if b then byte_by (number pick (suc (marked_below f p))) (slice_index bytes p) (slice_index synced p) else slice_index bytes p) (same p lt)
         ∙ ap (λ m. if g p then byte_by (number pick (suc m)) (slice_index bytes p) (slice_index synced p) else slice_index bytes p) (below_same f g p (λ q below. same q (omega arith)))
 
--- the image of a picked disk, as code finds it: by the calls up to the last sync, and marks for those behind it
+-- the image of a picked disk, as code finds it: by the calls up to the last sync, and marks for those after it
 pub image_is : (pick : ℕ) (first bytes synced image : List ℕ) (calls : List DiskCall) (n : ℕ) (marked : ℕ → Bool) → 1 < pick → bytes ≡ bytes_after first calls
     → HasNoSync (drop n calls) → (0 < n → slice_get calls (n - 1) ≡ Some Sync) → synced ≡ bytes_after first (take n calls)
     → ((p : ℕ) → p < length bytes → marked p ≡ is_unsynced false (drop n calls) p)

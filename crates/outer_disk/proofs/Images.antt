@@ -96,7 +96,7 @@ pub record Agrees (mark : ℕ → Type 0) (s c : List ℕ) : Type 0 where
   pub long : length c ≡ length s
   pub each : (p : ℕ) → (mark p → ⊥) → get_or c p 0 ≡ get_or s p 0
 
--- a place has a mark behind calls, where it had one before
+-- a place has a mark after calls, where it had one before
 abbrev pub Marked : (ℕ → Type 0) → List DiskCall → ℕ → Type 0
 Marked mark [] p = mark p
 Marked mark (Write at part ∷ calls) p = Marked (λ q. mark q ⊎ InRange at (length part) q) calls p
@@ -112,7 +112,7 @@ kept : (s part : List ℕ) (at p : ℕ) → at ≤ length s → (p < at) ⊎ (at
 kept s part at p le (inl front) = low s (part ++ drop (at + length part) s) at p le front
 kept s part at p le (inr back) = behind s part at (length part) p le refl back
 
--- an image of the bytes behind a write comes from one of those before it
+-- an image of the bytes after a write comes from one of those before it
 write_step : (s part : List ℕ) (at : ℕ) (mark : ℕ → Type 0) (c : List ℕ) → at ≤ length s → Agrees (λ q. mark q ⊎ InRange at (length part) q) (written s at part) c
     → Agrees mark s (within c s at (length part)) × Torn at (length part) (within c s at (length part)) c
 write_step s part at mark c le agrees = (record { long = length-within c s at n le long; each = each }, torn)
@@ -144,7 +144,7 @@ write_step s part at mark c le agrees = (record { long = length-within c s at n 
       no_longer = omega (arith, length-within c s at n le long, long);
     }
 
--- an image of the bytes behind a cut comes from one of those before it
+-- an image of the bytes after a cut comes from one of those before it
 cut_step : (s : List ℕ) (to : ℕ) (mark : ℕ → Type 0) (c : List ℕ) → to ≤ length s → Agrees mark (take to s) c
     → Agrees mark s (c ++ drop to s) × Cut to (c ++ drop to s) c
 cut_step s to mark c le agrees = (record { long = all; each = each }, record { no_shorter = omega (arith, all, long); front = take-append_seam c (drop to s) })

@@ -13,11 +13,6 @@ pub leaves_last : (bytes : List ℕ) (old : List ℕ → Type 0) (calls : List D
 leaves_last bytes old [] call c left = left
 leaves_last bytes old (first ∷ calls) call c left = leaves_last (after bytes first) (LeavesAfter bytes old first) calls call c left
 
--- no call leaves all as it was
-pub elapses_same : (first : List ℕ) (calls : List DiskCall)
-    → Elapses (length calls) (length calls) (LeftSince first calls) (LeftSince first calls) (MayLeave first calls)
-elapses_same first calls = record { later = omega arith; nothing_else = λ t c le left. inl left; keeps = λ t c le left. left }
-
 -- one call more is one moment more
 pub elapses_push : (first : List ℕ) (calls : List DiskCall) (call : DiskCall)
     → Elapses (length calls) (length (calls ++ call ∷ [])) (LeftSince first calls) (LeftSince first (calls ++ call ∷ [])) (MayLeave first (calls ++ call ∷ []))

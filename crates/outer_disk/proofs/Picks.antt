@@ -11,7 +11,7 @@ pub record IsPicking (pick : ℕ) (marked : ℕ → Bool) (bytes synced image : 
   pub last_is : last ≡ number pick (marked_below marked place)
   pub each : (p : ℕ) → p < place → slice_index image p ≡ image_byte pick marked bytes synced p
 
--- the number behind a place
+-- the number after a place
 number_step : (pick : ℕ) (marked : ℕ → Bool) (place last : ℕ) → last ≡ number pick (marked_below marked place)
     → (if marked place then next_number last else last) ≡ number pick (marked_below marked (suc place))
 number_step pick marked place last e = go (marked place)
@@ -31,11 +31,11 @@ byte_step pick marked bytes synced place last e = go (marked place)
     go false = refl
 
 -- one place more
-pub picking_step : (pick : ℕ) (marked : ℕ → Bool) (bytes synced image more : List ℕ) (last place behind byte : ℕ) → IsPicking pick marked bytes synced image last place
-    → behind ≡ (if marked place then next_number last else last)
+pub picking_step : (pick : ℕ) (marked : ℕ → Bool) (bytes synced image more : List ℕ) (last place next byte : ℕ) → IsPicking pick marked bytes synced image last place
+    → next ≡ (if marked place then next_number last else last)
     → byte ≡ (if marked place then byte_by (next_number last) (slice_index bytes place) (slice_index synced place) else slice_index bytes place)
-    → more ≡ image ++ byte ∷ [] → IsPicking pick marked bytes synced more behind (place + 1)
-picking_step pick marked bytes synced image more last place behind byte was e f g = record {
+    → more ≡ image ++ byte ∷ [] → IsPicking pick marked bytes synced more next (place + 1)
+picking_step pick marked bytes synced image more last place next byte was e f g = record {
   long = ap length g ∙ omega (arith, length-append image (byte ∷ []), was.long);
   last_is = e ∙ number_step pick marked place last was.last_is ∙ ap (λ n. number pick (marked_below marked n)) (sym (add-one place));
   each = λ p lt. ⊎_elim

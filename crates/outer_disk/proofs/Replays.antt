@@ -32,16 +32,16 @@ replay_push calls all call kept bytes first now was fit e f g =
       within = subst (λ b. AreWithin b all) (sym begin) (subst (λ (cs : List DiskCall). AreWithin first cs) (sym e) (AreWithin-push first calls call within (subst (λ b. IsWithin b call) same fit)));
     }
 
--- a disk behind one call more
+-- a disk after one call more
 abbrev pub Took : DiskState → DiskCall → DiskState → Type 0
 Took old call new = (new.first ≡ old.first) × (new.calls ≡ old.calls ++ call ∷ [])
 
--- what a read gives behind one call more
+-- what a read gives after one call more
 pub took_held : (old new : DiskState) (call : DiskCall) → Took old call new → held new ≡ after (held old) call
 took_held old new call (e, f) =
     ap (λ b. bytes_after b new.calls) e ∙ ap (λ (cs : List DiskCall). bytes_after old.first cs) f ∙ bytes_after-push old.first old.calls call
 
--- what a crash may leave behind one call more
+-- what a crash may leave after one call more
 pub took_leaves : (old new : DiskState) (call : DiskCall) (c : List ℕ) → Took old call new → MayLeaveOf new c → LeavesAfter (held old) (MayLeaveOf old) call c
 took_leaves old new call c (e, f) left =
     leaves_last old.first (λ d. d ≡ old.first) old.calls call c
@@ -54,7 +54,7 @@ took_elapses old new call (e, f) =
     (subst (λ (cs : List DiskCall). Elapses (length old.calls) (length cs) (LeftSince old.first old.calls) (LeftSince old.first cs) (MayLeave old.first cs)) (sym f)
     (elapses_push old.first old.calls call))
 
--- behind a sync a crash leaves what a read gives
+-- after a sync a crash leaves what a read gives
 pub synced_leaves : (old new : DiskState) (c : List ℕ) → Took old Sync new → MayLeaveOf new c → c ≡ held new
 synced_leaves old new c took left = took_leaves old new Sync c took left ∙ sym (took_held old new Sync took)
 

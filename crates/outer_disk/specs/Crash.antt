@@ -4,7 +4,7 @@ use Rattle.outer_disk.specs.Calls.{after, bytes_after}
 use Rattle.outer_disk.specs.declared.disk_call.DiskCall.{DiskCall}
 use Rattle.outer_disk.specs.declared.disk_call.DiskCall.TheVariants.{Write, Cut as CutTo, Sync}
 
--- the bytes of the last sync behind calls, by those of the last sync before them and those that stood there
+-- the bytes of the last sync after calls, by those of the last sync before them and those that stood there
 abbrev pub synced_after : List ℕ → List ℕ → List DiskCall → List ℕ
 synced_after synced bytes [] = synced
 synced_after synced bytes (Write at part ∷ calls) = synced_after synced (after bytes (Write at part)) calls
@@ -15,14 +15,14 @@ synced_after synced bytes (Sync ∷ calls) = synced_after bytes bytes calls
 abbrev pub is_in : ℕ → ℕ → ℕ → Bool
 is_in at n place = nat_le at place && nat_lt place (at + n)
 
--- whether a place was written since the last sync behind calls, by whether it was before them
+-- whether a place was written since the last sync after calls, by whether it was before them
 abbrev pub is_unsynced : Bool → List DiskCall → ℕ → Bool
 is_unsynced was [] place = was
 is_unsynced was (Write at part ∷ calls) place = is_unsynced (was || is_in at (length part) place) calls place
 is_unsynced was (CutTo to ∷ calls) place = is_unsynced was calls place
 is_unsynced was (Sync ∷ calls) place = is_unsynced false calls place
 
--- the number behind a number
+-- the number that follows a number
 abbrev pub next_number : ℕ → ℕ
 next_number x = (x * 6364136223846793005 + 1442695040888963407) % 2 ^ 64
 

@@ -1,7 +1,7 @@
 -- Which calls of a disk in memory fail, and how often one did.
 use Rattle.std.specs.Prelude.{ℕ, zero, suc, ◌+◌, Bool, true, false, ◌||◌, if◌then◌else◌, List, Option, Some, None}
 use Rattle.outer_io.specs.Plan.{Plan, is_due, after_call, one_more}
-use Rattle.outer_io.specs.Told.{fresh_plan}
+use Rattle.outer_io.specs.InMemory.{fresh_plan}
 use Rattle.outer_disk.specs.declared.halt.Halt.{Halt}
 use Rattle.outer_disk.specs.declared.halt.Halt.TheVariants.{Never, AtWrite, Now}
 
@@ -25,7 +25,7 @@ is_stopped Now = true
 abbrev pub fails : Faults → Bool
 fails f = is_due f.plan || is_stopped f.halt
 
--- the faults behind a call that is no write
+-- the faults after a call that is no write
 abbrev pub after_other : Faults → Faults
 after_other f = record { plan = after_call f.plan; halt = f.halt; stopped = (if is_stopped f.halt then one_more f.stopped else f.stopped) }
 
@@ -44,7 +44,7 @@ at_write f = record { plan = f.plan; halt = next_halt f.halt; stopped = f.stoppe
 abbrev pub write_fails : Faults → Bool
 write_fails f = fails (at_write f)
 
--- the faults behind a write
+-- the faults after a write
 abbrev pub after_write : Faults → Faults
 after_write f = after_other (at_write f)
 
@@ -54,7 +54,7 @@ halt_after_crash Never = Never
 halt_after_crash (AtWrite n) = AtWrite n
 halt_after_crash Now = Never
 
--- the faults behind a crash
+-- the faults after a crash
 abbrev pub after_crash : Faults → Faults
 after_crash f = record { plan = f.plan; halt = halt_after_crash f.halt; stopped = f.stopped }
 

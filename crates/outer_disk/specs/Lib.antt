@@ -1,8 +1,10 @@
 pub mod Calls
+pub mod Counts
 pub mod Crash
 pub mod Disk
 pub mod DiskSet
 pub mod Faults
 pub mod FileDisk
 pub mod MemDisk
+pub mod MemLaws
 pub mod Stops

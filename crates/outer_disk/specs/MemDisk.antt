@@ -1,25 +1,28 @@
 -- What a disk in memory tells.
-use Rattle.std.specs.Prelude.{◌≡◌, ℕ, ◌≤◌, List, [], ◌∷◌, length, take}
-use Rattle.std.proofs.Common.{sym, subst, arith}
-use Rattle.std.proofs.Math.Seq.{take-length}
+use Rattle.std.specs.Prelude.{◌≡◌, ℕ, List, [], ◌∷◌, length}
 use Rattle.outer_io.specs.Plan.{one_more}
 use Rattle.outer_io.specs.declared.stops.Stop.{Stop}
 use Rattle.outer_io.specs.declared.stops.Stop.TheVariants.{Failed, Memory}
 use Rattle.outer_disk.specs.Calls.{bytes_after, AreWithin, MayLeave, LeftSince}
-use Rattle.outer_disk.specs.Faults.{Faults}
+use Rattle.outer_disk.specs.Counts.{Counts}
+use Rattle.outer_disk.specs.Faults.{Faults, fault_count}
 use Rattle.outer_disk.specs.declared.disk_call.DiskCall.{DiskCall}
 
 -- the bytes that were on the disk at first, the calls that it has taken since, its faults, and how often it has
--- wanted memory
+-- run out of memory
 pub record DiskState : Type 0 where
   pub first : List ℕ
   pub calls : List DiskCall
   pub faults : Faults
-  pub wants : ℕ
+  pub out_of_memory : ℕ
 
 -- the bytes that a read gives
 abbrev pub held : DiskState → List ℕ
 held d = bytes_after d.first d.calls
+
+-- what it counts
+abbrev pub counts_of : DiskState → Counts
+counts_of d = record { faults = fault_count d.faults; out_of_memory = d.out_of_memory; calls = d.faults.plan.calls }
 
 -- what a crash may leave
 abbrev pub MayLeaveOf : DiskState → List ℕ → Type 0
@@ -33,10 +36,10 @@ moment_of d = length d.calls
 abbrev pub LeftSinceOf : DiskState → ℕ → List ℕ → Type 0
 LeftSinceOf d = LeftSince d.first d.calls
 
--- how often it has wanted memory behind a call that was stopped so
-abbrev pub wants_with : Stop → ℕ → ℕ
-wants_with Failed wants = wants
-wants_with Memory wants = one_more wants
+-- how often it has run out of memory after a call that was stopped so
+abbrev pub out_of_memory_with : Stop → ℕ → ℕ
+out_of_memory_with Failed out_of_memory = out_of_memory
+out_of_memory_with Memory out_of_memory = one_more out_of_memory
 
 -- the first bytes, where those that stand there are kept apart from the first call on
 abbrev pub first_of : List DiskCall → List ℕ → List ℕ → List ℕ
@@ -47,13 +50,3 @@ first_of (call ∷ calls) kept bytes = kept
 pub record IsReplay (calls : List DiskCall) (kept bytes : List ℕ) : Type 0 where
   pub same : bytes ≡ bytes_after (first_of calls kept bytes) calls
   pub within : AreWithin (first_of calls kept bytes) calls
-
--- what a crash may leave now it might have left since earlier
-pub counts_now_of : (d : DiskState) (t : ℕ) (c : List ℕ) → t ≤ moment_of d → MayLeaveOf d c → LeftSinceOf d t c
-counts_now_of d t c le now = (length d.calls, le, omega arith, subst (λ (cs : List DiskCall). MayLeave d.first cs c) (sym (take-length d.calls)) now)
-
--- since this moment it may leave only what it may leave now
-pub only_now_of : (d : DiskState) (c : List ℕ) → LeftSinceOf d (moment_of d) c → MayLeaveOf d c
-only_now_of d c (k, from, to, left) =
-    let all : k ≡ length d.calls = omega arith in
-    subst (λ (cs : List DiskCall). MayLeave d.first cs c) (take-length d.calls) (subst (λ n. MayLeave d.first (take n d.calls) c) all left)

@@ -1,6 +1,7 @@
 ghost use Rattle.std.specs.Prelude.{◌≡◌, ℕ, ◌+◌, ◌<◌, ◌≤◌, List, length, take, drop, Option, IfOk, IfErr, IfSome, OnOk, OnErr, option_map};
 ghost use Rattle.std.specs.Option.{ForSome};
 ghost use Rattle.outer_io.specs.Causes.{HasCause, Rose};
+ghost use Rattle.outer_disk.specs.Counts.{Counts};
 ghost use Rattle.outer_disk.specs.Disk.{written, Torn, Cut, Follows, LeavesNoMore, IsSynced, Matched, Elapses, RoseBy};
 
 use outer_io::{Failed, Stop};
@@ -20,14 +21,8 @@ pub trait Disk {
     /// What a crash at some moment from that one on might have left, during a call or between two.
     ghost left_since: { Self → ℕ → List ℕ → Type 0 };
 
-    /// How often it has failed. It never falls, and stays at the greatest u64.
-    ghost faults: { Self → ℕ };
-
-    /// How often it has wanted memory. It never falls, and stays at the greatest u64.
-    ghost wants: { Self → ℕ };
-
-    /// How many calls it has taken, those that failed with them. It stays at the greatest u64.
-    ghost calls: { Self → ℕ };
+    /// What it counts.
+    ghost counts: { Self → Counts };
 
     /// How many bytes it has.
     fn len(&mut self) -> Result<u64, Failed>
@@ -36,9 +31,9 @@ pub trait Disk {
         ensures crash { LeavesNoMore (may_leave self.old) (may_leave self.new) }
         ensures time { Elapses (moment self.old) (moment self.new)
             (left_since self.old) (left_since self.new) (may_leave self.new) }
-        ensures cause { HasCause (faults self.old) (faults self.new) result }
-        ensures wants { wants self.new ≡ wants self.old }
-        ensures counted { RoseBy 1 (calls self.old) (calls self.new) };
+        ensures cause { HasCause (counts self.old).faults (counts self.new).faults result }
+        ensures memory { (counts self.new).out_of_memory ≡ (counts self.old).out_of_memory }
+        ensures counted { RoseBy 1 (counts self.old).calls (counts self.new).calls };
 
     /// Fills `buf` with the bytes from `at` on. After an `Err` any bytes may stand in `buf`.
     fn read(&mut self, at: u64, buf: &mut [u8]) -> Result<(), Failed>
@@ -50,9 +45,9 @@ pub trait Disk {
         ensures crash { LeavesNoMore (may_leave self.old) (may_leave self.new) }
         ensures time { Elapses (moment self.old) (moment self.new)
             (left_since self.old) (left_since self.new) (may_leave self.new) }
-        ensures cause { HasCause (faults self.old) (faults self.new) result }
-        ensures wants { wants self.new ≡ wants self.old }
-        ensures counted { RoseBy 1 (calls self.old) (calls self.new) };
+        ensures cause { HasCause (counts self.old).faults (counts self.new).faults result }
+        ensures memory { (counts self.new).out_of_memory ≡ (counts self.old).out_of_memory }
+        ensures counted { RoseBy 1 (counts self.old).calls (counts self.new).calls };
 
     /// Writes over what is there, and past the end. After an `Err` any bytes may stand in the range, whole or
     /// cut short. Until a sync, a crash may leave any bytes there.
@@ -67,13 +62,13 @@ pub trait Disk {
             (may_leave self.old) (may_leave self.new) }
         ensures time { Elapses (moment self.old) (moment self.new)
             (left_since self.old) (left_since self.new) (may_leave self.new) }
-        ensures faults { faults self.old ≤ faults self.new }
+        ensures faults { (counts self.old).faults ≤ (counts self.new).faults }
         ensures failed { IfErr result (λ stop. stop ≡ Stop.Failed
-            → Rose (faults self.old) (faults self.new)) }
-        ensures wants { wants self.old ≤ wants self.new }
-        ensures wanted { IfErr result (λ stop. stop ≡ Stop.Memory
-            → Rose (wants self.old) (wants self.new)) }
-        ensures counted { RoseBy 1 (calls self.old) (calls self.new) };
+            → Rose (counts self.old).faults (counts self.new).faults) }
+        ensures memory { (counts self.old).out_of_memory ≤ (counts self.new).out_of_memory }
+        ensures out_of_memory { IfErr result (λ stop. stop ≡ Stop.Memory
+            → Rose (counts self.old).out_of_memory (counts self.new).out_of_memory) }
+        ensures counted { RoseBy 1 (counts self.old).calls (counts self.new).calls };
 
     /// Cuts it to a length. After an `Err` any part of what stood behind may be gone, from the end. Until a
     /// sync, a crash may leave any front of it.
@@ -84,13 +79,13 @@ pub trait Disk {
         ensures crash { Follows (Cut to) (may_leave self.old) (may_leave self.new) }
         ensures time { Elapses (moment self.old) (moment self.new)
             (left_since self.old) (left_since self.new) (may_leave self.new) }
-        ensures faults { faults self.old ≤ faults self.new }
+        ensures faults { (counts self.old).faults ≤ (counts self.new).faults }
         ensures failed { IfErr result (λ stop. stop ≡ Stop.Failed
-            → Rose (faults self.old) (faults self.new)) }
-        ensures wants { wants self.old ≤ wants self.new }
-        ensures wanted { IfErr result (λ stop. stop ≡ Stop.Memory
-            → Rose (wants self.old) (wants self.new)) }
-        ensures counted { RoseBy 1 (calls self.old) (calls self.new) };
+            → Rose (counts self.old).faults (counts self.new).faults) }
+        ensures memory { (counts self.old).out_of_memory ≤ (counts self.new).out_of_memory }
+        ensures out_of_memory { IfErr result (λ stop. stop ≡ Stop.Memory
+            → Rose (counts self.old).out_of_memory (counts self.new).out_of_memory) }
+        ensures counted { RoseBy 1 (counts self.old).calls (counts self.new).calls };
 
     /// After it a crash leaves what a read gives. One that fails loses nothing.
     fn sync(&mut self) -> Result<(), Stop>
@@ -99,13 +94,13 @@ pub trait Disk {
         ensures crash { LeavesNoMore (may_leave self.old) (may_leave self.new) }
         ensures time { Elapses (moment self.old) (moment self.new)
             (left_since self.old) (left_since self.new) (may_leave self.new) }
-        ensures faults { faults self.old ≤ faults self.new }
+        ensures faults { (counts self.old).faults ≤ (counts self.new).faults }
         ensures failed { IfErr result (λ stop. stop ≡ Stop.Failed
-            → Rose (faults self.old) (faults self.new)) }
-        ensures wants { wants self.old ≤ wants self.new }
-        ensures wanted { IfErr result (λ stop. stop ≡ Stop.Memory
-            → Rose (wants self.old) (wants self.new)) }
-        ensures counted { RoseBy 1 (calls self.old) (calls self.new) };
+            → Rose (counts self.old).faults (counts self.new).faults) }
+        ensures memory { (counts self.old).out_of_memory ≤ (counts self.new).out_of_memory }
+        ensures out_of_memory { IfErr result (λ stop. stop ≡ Stop.Memory
+            → Rose (counts self.old).out_of_memory (counts self.new).out_of_memory) }
+        ensures counted { RoseBy 1 (counts self.old).calls (counts self.new).calls };
 
     /// This moment is one of those since an earlier one.
     ghost counts_now: { (disk : Self) (t : ℕ) (c : List ℕ) → t ≤ moment disk

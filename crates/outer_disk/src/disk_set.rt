@@ -40,7 +40,7 @@ pub trait DiskSet {
     fn crash(&mut self, server: u8, pick: u64) -> Result<(), AllocError>
         requires within { server < 16 }
         requires there { IsSome (places self.old server) }
-        ensures ok { OnOk result (Matched (Crashes Self.D.told Self.D.may_leave Self.D.faults)
+        ensures ok { OnOk result (Matched (Crashes Self.D.told Self.D.may_leave Self.D.counts)
             (places self.old server) (places self.new server)) }
         ensures others { OthersStay server (places self.old) (places self.new) }
         ensures err { OnErr result (AllStay (places self.old) (places self.new)) };

@@ -12,7 +12,7 @@ use std::rt::Files;
 
 /// A disk over a file, which it opens at its first call and makes where it is missing. With no path each call
 /// fails. It tells nothing of what the file has, nor of what a crash leaves. Contracts see how often it failed,
-/// and how many calls it took.
+/// and how many calls it took. Where a signal interrupts a read, a write, a cut or a sync, std tries it again.
 #[derive(Drop)]
 pub struct FileDisk<R: Files> {
     rt: R,
@@ -123,7 +123,7 @@ fn sync_of<F: OpenFile>(file: &Option<F>) -> Result<(), Failed> {
     }
 }
 
-/// The same, as a call that may also want memory answers it.
+/// The same, as a call that may also run out of memory answers it.
 fn as_stop(answer: Result<(), Failed>) -> Result<(), Stop>
     ensures same { IsErr result ↔ IsErr answer }
     ensures failed { IfErr result (λ stop. stop ≡ Stop.Failed) }
@@ -136,6 +136,7 @@ fn as_stop(answer: Result<(), Failed>) -> Result<(), Stop>
 
 impl<R: Files> Disk for FileDisk<R> {
     ghost use Rattle.std.specs.Prelude.{⊤, None};
+    ghost use Rattle.outer_disk.specs.FileDisk.{file_counts};
 
     ghost told = { λ _. None };
 
@@ -145,11 +146,7 @@ impl<R: Files> Disk for FileDisk<R> {
 
     ghost left_since = { λ _ _ _. ⊤ };
 
-    ghost faults = { λ d. d.faults };
-
-    ghost wants = { λ _. 0 };
-
-    ghost calls = { λ d. d.calls };
+    ghost counts = { file_counts };
 
     ghost counts_now = { λ _ _ _ _ _. tt };
 

@@ -39,7 +39,7 @@ fn apply(bytes: &mut Vec<u8>, call: &DiskCall) -> Result<(), AllocError>
     }
 }
 
-/// The bytes behind the calls, made anew from the first ones.
+/// The bytes after the calls, made anew from the first ones.
 pub(crate) fn replayed(
     alloc: Global,
     first: &[u8],
@@ -58,7 +58,7 @@ pub(crate) fn replayed(
 /// How many calls there are up to the last sync, and with it; 0 where there is none.
 pub(crate) fn synced_calls(calls: &[DiskCall]) -> usize
     ensures within { result ≤ length calls.now }
-    ensures behind { HasNoSync (drop result calls.now) }
+    ensures none_later { HasNoSync (drop result calls.now) }
     ensures sync { 0 < result → slice_get calls.now (result - 1) ≡ Some DiskCall.Sync }
 {
     let mut count = calls.len();
@@ -101,8 +101,8 @@ pub(crate) fn marks_of(
     Ok(marks)
 }
 
-/// The number behind a number, by the rule of the picks.
-fn number_behind(number: u64) -> u64
+/// The number that follows a number, by the rule of the picks.
+fn next_number(number: u64) -> u64
     ensures { result ≡ next_number number }
 {
     number
@@ -121,7 +121,7 @@ fn chosen_byte(number: u64, written: u8, synced: u8) -> u8
     }
 }
 
-/// The number behind a place and the byte of the image there: a byte that isn't marked stays.
+/// The number after a place and the byte of the image there: a byte that isn't marked stays.
 fn picked_byte(number: u64, is_marked: bool, written: u8, synced: u8) -> (u64, u8)
     ensures number { result.0 ≡ (if is_marked then next_number number else number) }
     ensures byte { result.1
@@ -130,8 +130,8 @@ fn picked_byte(number: u64, is_marked: bool, written: u8, synced: u8) -> (u64, u
     if !is_marked {
         return (number, written);
     }
-    let behind = number_behind(number);
-    (behind, chosen_byte(behind, written, synced))
+    let next = next_number(number);
+    (next, chosen_byte(next, written, synced))
 }
 
 /// The byte at a place, or 0 past the end.
@@ -156,13 +156,8 @@ pub(crate) fn picked_image(
     let mut image = Vec::with_capacity(alloc, bytes.len())?;
     let mut number = pick;
     for place in 0..bytes.len() {
-        let (behind, byte) = picked_byte(
-            number,
-            marks[place],
-            bytes[place],
-            byte_at(synced, place),
-        );
-        number = behind;
+        let (next, byte) = picked_byte(number, marks[place], bytes[place], byte_at(synced, place));
+        number = next;
         image.push(byte)?;
     }
     Ok(image)

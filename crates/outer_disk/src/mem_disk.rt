@@ -20,7 +20,7 @@ pub struct MemDisk {
     first: Vec<u8>,
     calls: Vec<DiskCall>,
     faults: DiskFaults,
-    wants: u64,
+    out_of_memory: u64,
 }
 
 impl Model for MemDisk {
@@ -32,7 +32,7 @@ impl Model for MemDisk {
       first = first_of d.calls.items d.first.items d.bytes.items;
       calls = d.calls.items;
       faults = d.faults;
-      wants = d.wants;
+      out_of_memory = d.out_of_memory;
     } };
 
     ghost invariant = { λ d. IsReplay d.calls.items d.first.items d.bytes.items };
@@ -50,7 +50,7 @@ impl MemDisk {
         ensures bytes { result.first ≡ bytes.items }
         ensures calls { result.calls ≡ [] }
         ensures faults { result.faults ≡ fresh_faults fail.items stop }
-        ensures wants { result.wants ≡ 0 }
+        ensures memory { result.out_of_memory ≡ 0 }
     {
         MemDisk {
             alloc,
@@ -58,7 +58,7 @@ impl MemDisk {
             first: Vec::new(alloc),
             calls: Vec::new(alloc),
             faults: DiskFaults::new(fail, stop),
-            wants: 0,
+            out_of_memory: 0,
         }
     }
 
@@ -78,7 +78,7 @@ impl MemDisk {
         ensures allowed { OnOk result (MayLeaveOf self.old (held self.new)) }
         ensures synced { OnOk result (self.new.calls ≡ []) }
         ensures faults { OnOk result (self.new.faults ≡ after_crash self.old.faults) }
-        ensures wants { self.new.wants ≡ self.old.wants }
+        ensures memory { self.new.out_of_memory ≡ self.old.out_of_memory }
         ensures err { OnErr result (self.new ≡ self.old) }
     {
         let first = first_bytes(&self.calls, &self.first, &self.bytes);
@@ -89,12 +89,12 @@ impl MemDisk {
         Ok(())
     }
 
-    /// Counts a call that wanted memory.
-    fn count_want(&mut self)
-        ensures { self.new ≡ record self.old { wants = one_more self.old.wants } }
+    /// Counts a call that ran out of memory.
+    fn count_out_of_memory(&mut self)
+        ensures { self.new ≡ record self.old { out_of_memory = one_more self.old.out_of_memory } }
     {
-        let wants = self.wants;
-        self.wants = wants.saturating_add(1);
+        let out_of_memory = self.out_of_memory;
+        self.out_of_memory = out_of_memory.saturating_add(1);
     }
 
     /// Writes, and notes it. After an `Err` all is as it was.
@@ -142,7 +142,8 @@ impl Disk for MemDisk {
     ghost use Rattle.outer_io.specs.Causes.{HasCause, Rose};
     ghost use Rattle.outer_disk.specs.Disk.{written, Torn, Cut, Follows, LeavesNoMore, Only, Elapses, RoseBy};
     ghost use Rattle.outer_disk.specs.Faults.{fault_count, fails, write_fails, after_other, after_write};
-    ghost use Rattle.outer_disk.specs.MemDisk.{held, MayLeaveOf, moment_of, LeftSinceOf, counts_now_of, only_now_of, wants_with};
+    ghost use Rattle.outer_disk.specs.MemDisk.{held, counts_of, MayLeaveOf, moment_of, LeftSinceOf, out_of_memory_with};
+    ghost use Rattle.outer_disk.specs.MemLaws.{counts_now_of, only_now_of};
 
     ghost told = { λ d. Some (held d) };
 
@@ -152,11 +153,7 @@ impl Disk for MemDisk {
 
     ghost left_since = { LeftSinceOf };
 
-    ghost faults = { λ d. fault_count d.faults };
-
-    ghost wants = { λ d. d.wants };
-
-    ghost calls = { λ d. d.faults.plan.calls };
+    ghost counts = { counts_of };
 
     ghost counts_now = { counts_now_of };
 
@@ -171,7 +168,7 @@ impl Disk for MemDisk {
             (LeftSinceOf self.old) (LeftSinceOf self.new) (MayLeaveOf self.new) }
         ensures cause { HasCause (fault_count self.old.faults)
             (fault_count self.new.faults) result }
-        ensures wants { self.new.wants ≡ self.old.wants }
+        ensures memory { self.new.out_of_memory ≡ self.old.out_of_memory }
         ensures counted { RoseBy 1 self.old.faults.plan.calls
             self.new.faults.plan.calls }
     {
@@ -191,7 +188,7 @@ impl Disk for MemDisk {
             (LeftSinceOf self.old) (LeftSinceOf self.new) (MayLeaveOf self.new) }
         ensures cause { HasCause (fault_count self.old.faults)
             (fault_count self.new.faults) result }
-        ensures wants { self.new.wants ≡ self.old.wants }
+        ensures memory { self.new.out_of_memory ≡ self.old.out_of_memory }
         ensures counted { RoseBy 1 self.old.faults.plan.calls
             self.new.faults.plan.calls }
     {
@@ -213,7 +210,7 @@ impl Disk for MemDisk {
         }) }
         ensures err { IfErr result (λ stop. self.new ≡ record self.old {
           faults = after_write self.old.faults;
-          wants = wants_with stop self.old.wants;
+          out_of_memory = out_of_memory_with stop self.old.out_of_memory;
         }) }
         ensures due { (result ≡ Err Stop.Failed) ↔ IsTrue (write_fails self.old.faults) }
         ensures crash { Follows (Torn at (length part.now))
@@ -223,9 +220,9 @@ impl Disk for MemDisk {
         ensures faults { fault_count self.old.faults ≤ fault_count self.new.faults }
         ensures failed { IfErr result (λ stop. stop ≡ Stop.Failed
             → Rose (fault_count self.old.faults) (fault_count self.new.faults)) }
-        ensures wants { self.old.wants ≤ self.new.wants }
-        ensures wanted { IfErr result (λ stop. stop ≡ Stop.Memory
-            → Rose self.old.wants self.new.wants) }
+        ensures memory { self.old.out_of_memory ≤ self.new.out_of_memory }
+        ensures out_of_memory { IfErr result (λ stop. stop ≡ Stop.Memory
+            → Rose self.old.out_of_memory self.new.out_of_memory) }
         ensures counted { RoseBy 1 self.old.faults.plan.calls
             self.new.faults.plan.calls }
     {
@@ -235,7 +232,7 @@ impl Disk for MemDisk {
         match self.take_write(at, part) {
             Ok(()) => Ok(()),
             Err(_) => {
-                self.count_want();
+                self.count_out_of_memory();
                 Err(Stop::Memory)
             }
         }
@@ -250,7 +247,7 @@ impl Disk for MemDisk {
         }) }
         ensures err { IfErr result (λ stop. self.new ≡ record self.old {
           faults = after_other self.old.faults;
-          wants = wants_with stop self.old.wants;
+          out_of_memory = out_of_memory_with stop self.old.out_of_memory;
         }) }
         ensures due { (result ≡ Err Stop.Failed) ↔ IsTrue (fails self.old.faults) }
         ensures crash { Follows (Cut to) (MayLeaveOf self.old) (MayLeaveOf self.new) }
@@ -259,9 +256,9 @@ impl Disk for MemDisk {
         ensures faults { fault_count self.old.faults ≤ fault_count self.new.faults }
         ensures failed { IfErr result (λ stop. stop ≡ Stop.Failed
             → Rose (fault_count self.old.faults) (fault_count self.new.faults)) }
-        ensures wants { self.old.wants ≤ self.new.wants }
-        ensures wanted { IfErr result (λ stop. stop ≡ Stop.Memory
-            → Rose self.old.wants self.new.wants) }
+        ensures memory { self.old.out_of_memory ≤ self.new.out_of_memory }
+        ensures out_of_memory { IfErr result (λ stop. stop ≡ Stop.Memory
+            → Rose self.old.out_of_memory self.new.out_of_memory) }
         ensures counted { RoseBy 1 self.old.faults.plan.calls
             self.new.faults.plan.calls }
     {
@@ -271,7 +268,7 @@ impl Disk for MemDisk {
         match self.take_cut(to) {
             Ok(()) => Ok(()),
             Err(_) => {
-                self.count_want();
+                self.count_out_of_memory();
                 Err(Stop::Memory)
             }
         }
@@ -286,7 +283,7 @@ impl Disk for MemDisk {
         }) }
         ensures err { IfErr result (λ stop. self.new ≡ record self.old {
           faults = after_other self.old.faults;
-          wants = wants_with stop self.old.wants;
+          out_of_memory = out_of_memory_with stop self.old.out_of_memory;
         }) }
         ensures due { (result ≡ Err Stop.Failed) ↔ IsTrue (fails self.old.faults) }
         ensures crash { LeavesNoMore (MayLeaveOf self.old) (MayLeaveOf self.new) }
@@ -295,9 +292,9 @@ impl Disk for MemDisk {
         ensures faults { fault_count self.old.faults ≤ fault_count self.new.faults }
         ensures failed { IfErr result (λ stop. stop ≡ Stop.Failed
             → Rose (fault_count self.old.faults) (fault_count self.new.faults)) }
-        ensures wants { self.old.wants ≤ self.new.wants }
-        ensures wanted { IfErr result (λ stop. stop ≡ Stop.Memory
-            → Rose self.old.wants self.new.wants) }
+        ensures memory { self.old.out_of_memory ≤ self.new.out_of_memory }
+        ensures out_of_memory { IfErr result (λ stop. stop ≡ Stop.Memory
+            → Rose self.old.out_of_memory self.new.out_of_memory) }
         ensures counted { RoseBy 1 self.old.faults.plan.calls
             self.new.faults.plan.calls }
     {
@@ -307,7 +304,7 @@ impl Disk for MemDisk {
         match self.take_sync() {
             Ok(()) => Ok(()),
             Err(_) => {
-                self.count_want();
+                self.count_out_of_memory();
                 Err(Stop::Memory)
             }
         }
@@ -417,7 +414,7 @@ mod tests {
     }
 
     #[test]
-    fn a_crash_behind_a_cut(rt: HostRuntime) -> Result<(), Fail> {
+    fn a_crash_after_a_cut(rt: HostRuntime) -> Result<(), Fail> {
         let alloc = rt.alloc();
         let images: [(u64, &[u8]); 4] = [
             (0, b"abcdef"),
@@ -436,7 +433,7 @@ mod tests {
     }
 
     #[test]
-    fn listed_calls_and_those_behind_a_stop_do_nothing(rt: HostRuntime) -> Result<(), Fail> {
+    fn listed_calls_and_those_after_a_stop_do_nothing(rt: HostRuntime) -> Result<(), Fail> {
         let alloc = rt.alloc();
         let mut disk = disk_with(alloc, "abc", &[0, 2, 4, 6, 8], Some(2))?;
         assert_eq!(rt; len(&mut disk), Err(Failed));

@@ -51,7 +51,7 @@ fn empty(alloc: Global) -> MemDisk
     MemDisk::new(alloc, Vec::new(alloc), Vec::new(alloc), None)
 }
 
-/// Puts empty disks behind those that stand there, until there are 16.
+/// Puts empty disks after those that stand there, until there are 16.
 fn fill_up(alloc: Global, places: &mut Vec<Option<MemDisk>>) -> Result<(), AllocError>
     requires { vec_len places.old ≤ 16 }
     ensures { OnOk result (places.new.items
@@ -67,8 +67,7 @@ impl DiskSet for MemDisks {
     ghost use Rattle.std.specs.Prelude.{◌<◌, IsSome, OnErr};
     ghost use Rattle.outer_disk.specs.Disk.{Matched};
     ghost use Rattle.outer_disk.specs.DiskSet.{place_of, AllStay, OthersStay, Crashes, IsCrashed};
-    ghost use Rattle.outer_disk.specs.Faults.{fault_count};
-    ghost use Rattle.outer_disk.specs.MemDisk.{held, MayLeaveOf};
+    ghost use Rattle.outer_disk.specs.MemDisk.{held, counts_of, MayLeaveOf};
 
     type D = MemDisk;
 
@@ -95,8 +94,7 @@ impl DiskSet for MemDisks {
         requires there { IsSome (place_of self.old server) }
         ensures image { OnOk result (Matched (IsCrashed pick)
             (place_of self.old server) (place_of self.new server)) }
-        ensures ok { OnOk result (Matched (Crashes (λ d. Some (held d)) MayLeaveOf
-            (λ d. fault_count d.faults))
+        ensures ok { OnOk result (Matched (Crashes (λ d. Some (held d)) MayLeaveOf counts_of)
             (place_of self.old server) (place_of self.new server)) }
         ensures others { OthersStay server (place_of self.old) (place_of self.new) }
         ensures err { OnErr result (AllStay (place_of self.old) (place_of self.new)) }

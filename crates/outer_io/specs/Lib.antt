@@ -1,4 +1,5 @@
 pub mod Causes
+pub mod InMemory
 pub mod Plan
 pub mod Told
 pub mod Took

@@ -16,6 +16,6 @@ one_more n = min (n + 1) (2 ^ 64 - 1)
 abbrev pub is_due : Plan → Bool
 is_due p = list_any (λ call. call == p.calls) p.fail
 
--- the plan behind the next call
+-- the plan after the next call
 abbrev pub after_call : Plan → Plan
 after_call p = record { fail = p.fail; calls = one_more p.calls; faults = (if is_due p then one_more p.faults else p.faults) }

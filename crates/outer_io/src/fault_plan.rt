@@ -6,7 +6,7 @@ use std::marker::Model;
 
 /// Which calls of a device in memory are to fail, by their numbers from 0. It counts the calls, and those
 /// that failed.
-#[derive(Debug, Drop)]
+#[derive(Drop)]
 pub struct FaultPlan {
     fail: Vec<u64>,
     calls: u64,

@@ -1,7 +1,7 @@
 use crate::gate::Gate;
 
 /// A gate that holds nobody back.
-#[derive(Clone, Copy, Debug)]
+#[derive(Clone, Copy)]
 pub struct FreeGate;
 
 impl Gate for FreeGate {

@@ -1,10 +1,10 @@
 ghost use Rattle.std.specs.Prelude.{◌≤◌, IfOk, length};
 
+use crate::retrying::read_retrying;
 use crate::source::Source;
 use crate::stops::Failed;
 use crate::word::Word;
 use std::fs::File;
-use std::io::Read;
 use std::rt::Files;
 
 /// A source over the file of this name, which it opens at its first take; so one that can't be opened
@@ -59,7 +59,7 @@ fn read_from<R: Files>(
         *file = Some(File::open(rt, name).map_err(|_| Failed)?);
     }
     match file {
-        Some(file) => file.read(buf).map_err(|_| Failed),
+        Some(file) => read_retrying(file, buf).map_err(|_| Failed),
         None => Err(Failed),
     }
 }

@@ -13,6 +13,7 @@ mod mem_sink;
 mod mem_source;
 mod reader_source;
 mod real_clock;
+mod retrying;
 mod sink;
 mod source;
 mod stops;

@@ -1,6 +1,6 @@
 ghost use Rattle.std.specs.Prelude.{◌≡◌};
 ghost use Rattle.std.specs.List.Sorted.{IsNonDecreasing};
-ghost use Rattle.outer_io.specs.Told.{next_time};
+ghost use Rattle.outer_io.specs.InMemory.{next_time};
 
 use crate::clock::Clock;
 use std::marker::Model;
@@ -17,7 +17,7 @@ impl Model for MemClock {
     ghost use Rattle.std.specs.Prelude.{◌∷◌};
     ghost use Rattle.std.specs.Vec.Iter.{into_iter_items};
     ghost use Rattle.std.specs.List.Sorted.{IsNonDecreasing};
-    ghost use Rattle.outer_io.specs.Told.{ClockState};
+    ghost use Rattle.outer_io.specs.InMemory.{ClockState};
 
     ghost Value = { ClockState };
 

@@ -1,5 +1,5 @@
 ghost use Rattle.std.specs.Prelude.{◌≡◌, [], length};
-ghost use Rattle.outer_io.specs.Told.{fresh_plan};
+ghost use Rattle.outer_io.specs.InMemory.{fresh_plan};
 
 use crate::fault_plan::FaultPlan;
 use crate::sink::Sink;
@@ -8,14 +8,14 @@ use std::alloc::Global;
 use std::marker::Model;
 
 /// A sink over memory. It tells what it holds, takes each piece whole, and fails at the listed calls.
-#[derive(Debug, Drop)]
+#[derive(Drop)]
 pub struct MemSink {
     bytes: Vec<u8>,
     plan: FaultPlan,
 }
 
 impl Model for MemSink {
-    ghost use Rattle.outer_io.specs.Told.{SinkState};
+    ghost use Rattle.outer_io.specs.InMemory.{SinkState};
 
     ghost Value = { SinkState };
 

@@ -1,5 +1,5 @@
 ghost use Rattle.std.specs.Prelude.{◌≡◌, min, length, take};
-ghost use Rattle.outer_io.specs.Told.{fresh_plan};
+ghost use Rattle.outer_io.specs.InMemory.{fresh_plan};
 
 use crate::fault_plan::FaultPlan;
 use crate::source::Source;
@@ -7,7 +7,7 @@ use crate::stops::Failed;
 use std::marker::Model;
 
 /// A source over memory. It tells what it has left, and fails at the listed calls.
-#[derive(Debug, Drop)]
+#[derive(Drop)]
 pub struct MemSource {
     bytes: Vec<u8>,
     taken: usize,
@@ -16,7 +16,7 @@ pub struct MemSource {
 
 impl Model for MemSource {
     ghost use Rattle.std.specs.Prelude.{◌≤◌, drop, vec_len};
-    ghost use Rattle.outer_io.specs.Told.{SourceState};
+    ghost use Rattle.outer_io.specs.InMemory.{SourceState};
 
     ghost Value = { SourceState };
 

@@ -15,7 +15,7 @@ pub trait Sink {
     /// How often it took nothing of a piece that isn't empty. It never falls, and stays at the greatest u64.
     ghost refusals: { Self → ℕ };
 
-    /// Puts bytes from the front of `part` behind those that it holds, and answers how many. Where it stops it
+    /// Puts bytes from the front of `part` after those that it holds, and answers how many. Where it stops it
     /// may have taken some of them.
     fn put(&mut self, part: &[u8]) -> Result<usize, Stop>
         requires { 0 < length part.now }

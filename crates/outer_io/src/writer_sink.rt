@@ -1,9 +1,10 @@
+use crate::retrying::write_retrying;
 use crate::sink::Sink;
 use crate::stops::Stop;
 use std::io::{ErrorKind, Write};
 
-/// A sink over a writer. It tells nothing of what the writer holds.
-#[derive(Debug, Drop)]
+/// A sink over a writer, which it asks again after an interruption. It tells nothing of what the writer holds.
+#[derive(Drop)]
 pub struct WriterSink<W> {
     writer: W,
     faults: u64,
@@ -30,7 +31,7 @@ impl<W: Write> Sink for WriterSink<W> {
     ghost refusals = { λ s. s.refusals };
 
     fn put(&mut self, part: &[u8]) -> Result<usize, Stop> {
-        match self.writer.write(part) {
+        match write_retrying(&mut self.writer, part) {
             Ok(0) => {
                 self.refusals = self.refusals.saturating_add(1);
                 Ok(0)
@@ -62,9 +63,10 @@ mod tests {
             self.calls = call.saturating_add(1);
             match call {
                 0 => Ok(buf.len().min(2)),
-                1 => Ok(0),
-                2 => Err(io::Error::from(ErrorKind::OutOfMemory)),
-                3 => Err(io::Error::from(ErrorKind::BrokenPipe)),
+                1 => Err(io::Error::from(ErrorKind::Interrupted)),
+                2 => Ok(0),
+                3 => Err(io::Error::from(ErrorKind::OutOfMemory)),
+                4 => Err(io::Error::from(ErrorKind::BrokenPipe)),
                 _ => Ok(buf.len()),
             }
         }
@@ -75,7 +77,9 @@ mod tests {
     }
 
     #[test]
-    fn a_writer_that_stops_is_told_by_its_kind(rt: HostRuntime) {
+    fn a_writer_that_is_interrupted_is_asked_again_and_one_that_stops_is_told_by_its_kind(
+        rt: HostRuntime,
+    ) {
         let mut sink = WriterSink::new(Faltering { calls: 0 });
         let answers = [Ok(2), Ok(0), Err(Stop::Memory), Err(Stop::Failed), Ok(3)];
         for answer in answers {

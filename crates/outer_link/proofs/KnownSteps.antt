@@ -242,27 +242,6 @@ got_last : {A : Type 0} → (xs : List A) (y : A) → slice_get (xs ++ y ∷ [])
 got_last [] y = refl
 got_last (x ∷ xs) y = got_last xs y
 
-pub keeps_connect : (t : Told) (a s : ℕ) → Keeps (marks_of t) (marks_of (after_connect t a s))
-keeps_connect t a s = record {
-  known = λ k e. let short : k < length t.conns = ltb-true k (length t.conns) e in
-      rw (length_push t.conns (fresh_conn a s)) (lt-ltb k (length t.conns + 1) (omega arith));
-  accepted = λ k e. accepted k e;
-  app = λ k e. front (λ c. c.app) k 0 e;
-  server = λ k e. front (λ c. c.server) k 0 e;
-  cut = λ k e. front (λ c. c.is_cut) k false e;
-  parted = λ _ _. refl;
-}
-  where
-    front : {A : Type 0} → (g : ConnTold → A) (k : ℕ) (d : A) → nat_lt k (length t.conns) ≡ true → of_conn g (after_connect t a s) k d ≡ of_conn g t k d
-    front g k d e = rw (got_front t.conns (fresh_conn a s) k (ltb-true k (length t.conns) e)) refl
-
-    accepted : (k : ℕ) → of_conn (λ c. c.accepted) t k false ≡ true → of_conn (λ c. c.accepted) (after_connect t a s) k false ≡ true
-    accepted k e =
-        elim (slice_get t.conns k) as (λ o. slice_get t.conns k ≡ o → of_conn (λ c. c.accepted) (after_connect t a s) k false ≡ true) [
-          | None ↦ λ none. absurd (let no : false ≡ true = ap (λ o. option_map_or (λ (c : ConnTold). c.accepted) o false) (sym none) ∙ e in true≢false (sym no))
-          | Some c ↦ λ some. front (λ x. x.accepted) k false (lt-ltb k (length t.conns) (slice_get_within t.conns k c some)) ∙ e
-        ] refl
-
 pub is_connected : (t : Told) (a s n : ℕ) → n ≡ length t.conns → IsConnected (marks_of t) (marks_of (after_connect t a s)) a s n
 is_connected t a s n is =
     subst (λ k. IsConnected (marks_of t) (marks_of (after_connect t a s)) a s k) (sym is) (record {

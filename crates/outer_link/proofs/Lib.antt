@@ -1,7 +1,7 @@
 pub mod ChangedLemmas
 pub mod ListSteps
 pub mod CutSteps
-pub mod KeptSteps
+pub mod SoundSteps
 pub mod TableSteps
 pub mod PositionSteps
 pub mod KnownSteps

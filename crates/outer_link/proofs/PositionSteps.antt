@@ -10,7 +10,7 @@ use Rattle.std.proofs.lemmas.List.Elements.{All-head, All-tail, All-push, All-ta
 use Rattle.std.proofs.lemmas.List.Sums.{fails_before_first}
 use Rattle.std.proofs.lemmas.List.Quantifiers.{position-Some}
 use Rattle.outer_link.specs.Changed.{changed}
-use Rattle.outer_link.specs.TableState.{IsKept, NoneWaits, conn_told, told_of}
+use Rattle.outer_link.specs.TableState.{IsSound, NoneWaits, conn_told, told_of}
 use Rattle.outer_link.specs.ServerState.{ServerState}
 use Rattle.outer_link.specs.declared.connection.Connection.{Connection}
 use Rattle.outer_link.specs.Told.{ConnTold, Told, accepted_conn, is_waiting}
@@ -49,7 +49,7 @@ first_unseen p f k xs none =
 
 -- the oldest that waits for a data server is the first behind those that it has seen
 pub next_first : (apps : ℕ) (servers given : List ServerState) (conns unseen : List Connection) (t : Told) (s k : ℕ) (v : ServerState) (r : Option ℕ)
-    → IsKept apps servers conns → told_of servers conns ≡ t → slice_get servers s ≡ Some v → k ≡ v.seen → given ≡ servers → unseen ≡ drop k conns
+    → IsSound apps servers conns → told_of servers conns ≡ t → slice_get servers s ≡ Some v → k ≡ v.seen → given ≡ servers → unseen ≡ drop k conns
     → r ≡ position (λ c. is_waiting s (conn_told given c)) unseen → option_map (λ n. k + n) r ≡ position (is_waiting s) t.conns
 next_first apps servers given conns unseen t s k v r kept is at seen same rest first =
     ap (option_map (λ n. k + n)) (first ∙ rw (same, rest) refl)

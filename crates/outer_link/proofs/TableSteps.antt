@@ -10,13 +10,13 @@ use Rattle.outer_link.specs.Changed.{changed}
 use Rattle.outer_link.specs.declared.connection.Connection.{Connection}
 use Rattle.outer_link.specs.declared.data_server.Pair.{Pair}
 use Rattle.outer_link.specs.ServerState.{ServerState, fresh_pair, fresh_server, reach_of, has_cut, joined_pair, shut_server, parted_server, joined_server}
-use Rattle.outer_link.specs.TableState.{IsKept, CutsWithin, SeesNone, NoneWaits, conn_told, told_of, is_cut_together}
+use Rattle.outer_link.specs.TableState.{IsSound, CutsWithin, SeesNone, NoneWaits, conn_told, told_of, is_cut_together}
 use Rattle.outer_link.specs.Told.{ConnTold, ServerTold, Told, is_waiting, cut_where, is_of_server, is_of_pair, with_listening, with_parted, fresh_conn, fresh_told, conn_with, conn_without, coming, undelivered, is_cut_at, is_parted, after_take, after_listen, after_shut, after_part, after_join, after_connect, after_put}
 use Rattle.outer_link.specs.Lines.{fresh_lines, left, line_to, put_into, taken_from}
 use Rattle.outer_link.specs.declared.end.End.TheVariants.{App, Server}
 use Rattle.outer_link.specs.declared.end.End.{End}
 use Rattle.outer_link.proofs.ChangedLemmas.{changed_at}
-use Rattle.outer_link.proofs.KeptSteps.{kept_server, sees_map}
+use Rattle.outer_link.proofs.SoundSteps.{kept_server, sees_map}
 use Rattle.outer_link.proofs.ListSteps.{got_same, got_other, map_changed, changed_same, changed_nothing, all_at}
 use Rattle.outer_link.proofs.CutSteps.{cut_shut, cut_part, cut_none}
 
@@ -39,7 +39,7 @@ pub conn_at : (servers : List ServerState) (conns : List Connection) (t : Told) 
 conn_at servers conns t n c is within read = slice_get_read conns (length conns) n c refl (conn_within servers conns t n is within) read
 
 -- an application server has its pair with each data server
-pub pair_within : (apps : ℕ) (servers : List ServerState) (conns : List Connection) (a s : ℕ) (v : ServerState) → IsKept apps servers conns
+pub pair_within : (apps : ℕ) (servers : List ServerState) (conns : List Connection) (a s : ℕ) (v : ServerState) → IsSound apps servers conns
     → slice_get servers s ≡ Some v → a < apps → a < length v.pairs
 pair_within apps servers conns a s v kept at within = rw (all_at (λ x. length x.pairs ≡ apps) servers s v at kept.pairs) within
 
@@ -61,8 +61,8 @@ cut_waits true true = refl
 
 -- a change of a data server that cuts nothing
 kept_quiet : (apps : ℕ) (servers : List ServerState) (conns : List Connection) (s : ℕ) (v w : ServerState)
-    → IsKept apps servers conns → slice_get servers s ≡ Some v → length w.pairs ≡ length v.pairs → CutsWithin (length conns) w
-    → ((app made : ℕ) → has_cut w app made ≡ has_cut v app made) → SeesNone (map (conn_told servers) conns) s w → IsKept apps (set servers s w) conns
+    → IsSound apps servers conns → slice_get servers s ≡ Some v → length w.pairs ≡ length v.pairs → CutsWithin (length conns) w
+    → ((app made : ℕ) → has_cut w app made ≡ has_cut v app made) → SeesNone (map (conn_told servers) conns) s w → IsSound apps (set servers s w) conns
 kept_quiet apps servers conns s v w kept at pairs cuts same sees =
     kept_server apps servers conns s v w (λ c. c) kept at pairs cuts
     (cut_none servers conns s v w at same ∙ sym (map-id (map (conn_told servers) conns)))
@@ -70,7 +70,7 @@ kept_quiet apps servers conns s v w kept at pairs cuts same sees =
 
 -- the data server listens
 pub kept_listen : (apps : ℕ) (servers : List ServerState) (conns : List Connection) (s : ℕ) (v : ServerState)
-    → IsKept apps servers conns → slice_get servers s ≡ Some v → IsKept apps (set servers s (record v { listens = true })) conns
+    → IsSound apps servers conns → slice_get servers s ≡ Some v → IsSound apps (set servers s (record v { listens = true })) conns
 kept_listen apps servers conns s v kept at =
     kept_quiet apps servers conns s v (record v { listens = true }) kept at refl (all_at (CutsWithin (length conns)) servers s v at kept.cuts) (λ _ _. refl) (kept.seen s v at)
 
@@ -82,7 +82,7 @@ told_listen servers conns s v at =
 
 -- the data server is shut
 pub kept_shut : (apps : ℕ) (servers : List ServerState) (conns : List Connection) (s : ℕ) (v : ServerState)
-    → IsKept apps servers conns → slice_get servers s ≡ Some v → IsKept apps (set servers s (shut_server v (length conns))) conns
+    → IsSound apps servers conns → slice_get servers s ≡ Some v → IsSound apps (set servers s (shut_server v (length conns))) conns
 kept_shut apps servers conns s v kept at =
     let w : ServerState = shut_server v (length conns) in
     let still : (n : ℕ) (c : ConnTold) → is_waiting n c ≡ false → is_waiting n (cut_where (is_of_server s) c) ≡ false =
@@ -100,7 +100,7 @@ told_shut servers conns s v at made =
 
 -- the pair is parted
 pub kept_part : (apps : ℕ) (servers : List ServerState) (conns : List Connection) (a s : ℕ) (v : ServerState) → a < length v.pairs
-    → IsKept apps servers conns → slice_get servers s ≡ Some v → IsKept apps (set servers s (parted_server v a (length conns))) conns
+    → IsSound apps servers conns → slice_get servers s ≡ Some v → IsSound apps (set servers s (parted_server v a (length conns))) conns
 kept_part apps servers conns a s v within kept at =
     let w : ServerState = parted_server v a (length conns) in
     let cuts = all_at (CutsWithin (length conns)) servers s v at kept.cuts in
@@ -141,7 +141,7 @@ joined_cut v a app made within =
     ])
 
 pub kept_join : (apps : ℕ) (servers : List ServerState) (conns : List Connection) (a s : ℕ) (v : ServerState) → a < length v.pairs
-    → IsKept apps servers conns → slice_get servers s ≡ Some v → IsKept apps (set servers s (joined_server v a)) conns
+    → IsSound apps servers conns → slice_get servers s ≡ Some v → IsSound apps (set servers s (joined_server v a)) conns
 kept_join apps servers conns a s v within kept at =
     let d = get_or v.pairs a fresh_pair in
     let there : slice_get v.pairs a ≡ Some d = slice_get-get_or v.pairs a fresh_pair within in
@@ -163,8 +163,8 @@ told_join servers conns a s v within at =
 
 -- the data server has seen so many connections
 pub kept_see : (apps : ℕ) (servers : List ServerState) (conns : List Connection) (s k : ℕ) (v : ServerState)
-    → IsKept apps servers conns → slice_get servers s ≡ Some v → k ≤ length (map (conn_told servers) conns)
-    → NoneWaits s (take k (map (conn_told servers) conns)) → IsKept apps (set servers s (record v { seen = k })) conns
+    → IsSound apps servers conns → slice_get servers s ≡ Some v → k ≤ length (map (conn_told servers) conns)
+    → NoneWaits s (take k (map (conn_told servers) conns)) → IsSound apps (set servers s (record v { seen = k })) conns
 kept_see apps servers conns s k v kept at within none =
     kept_quiet apps servers conns s v (record v { seen = k }) kept at refl (all_at (CutsWithin (length conns)) servers s v at kept.cuts) (λ _ _. refl) (within, none)
 
@@ -206,7 +206,7 @@ unmarked servers c made cuts is =
         let low : v.cut_before ≤ made = within.0 in
         rw (le-ltb c.made v.cut_before (omega arith)) (no_pair v within.1)
 
-pub told_connect : (apps : ℕ) (servers : List ServerState) (conns : List Connection) (a s : ℕ) (c : Connection) → IsKept apps servers conns
+pub told_connect : (apps : ℕ) (servers : List ServerState) (conns : List Connection) (a s : ℕ) (c : Connection) → IsSound apps servers conns
     → c.app ≡ a → c.server ≡ s → c.made ≡ length conns → c.is_cut ≡ false → c.is_accepted ≡ false → c.lines ≡ fresh_lines
     → told_of servers (conns ++ c ∷ []) ≡ after_connect (told_of servers conns) a s
 told_connect apps servers conns a s c kept of_app of_server made uncut unaccepted lines =

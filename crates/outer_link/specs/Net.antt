@@ -54,6 +54,6 @@ TookWithin limit took.NotNow = Unit {0}
 TookWithin limit took.Ended = Unit {0}
 
 -- the node is one of those that the net joins
-abbrev pub IsNode : Shape → NodeName → Type 0
-IsNode shape (node.App app) = app < shape.apps
-IsNode shape (node.Server server) = server < shape.servers
+abbrev pub IsNodeOf : Shape → NodeName → Type 0
+IsNodeOf shape (node.App app) = app < shape.apps
+IsNodeOf shape (node.Server server) = server < shape.servers

@@ -23,7 +23,7 @@ fresh_server apps = record { listens = false; cut_before = 0; seen = 0; pairs = 
 abbrev pub reach_of : ServerState → ServerTold
 reach_of s = record { listens = s.listens; parted = map (λ p. p.parted) s.pairs }
 
--- a connection from this application server, behind so many others, was cut with its pair or its data server
+-- a connection from this application server, made after so many others, was cut with its pair or its data server
 abbrev pub has_cut : ServerState → ℕ → ℕ → Bool
 has_cut s app made = nat_lt made s.cut_before || option_map_or (λ p. nat_lt made p.cut_before) (slice_get s.pairs app) false
 

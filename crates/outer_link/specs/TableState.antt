@@ -43,7 +43,7 @@ abbrev pub SeesNone : List ConnTold → ℕ → ServerState → Type 0
 SeesNone conns server s = (s.seen ≤ length conns) × NoneWaits server (take s.seen conns)
 
 -- what is true of the table's parts
-pub record IsKept (apps : ℕ) (servers : List ServerState) (conns : List Connection) : Type 0 where
+pub record IsSound (apps : ℕ) (servers : List ServerState) (conns : List Connection) : Type 0 where
   pub pairs : All (λ s. length s.pairs ≡ apps) servers
   pub numbers : length conns ≤ 2 ^ 32
   pub made : All (λ c. c.made < length conns) conns

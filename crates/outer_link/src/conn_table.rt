@@ -13,7 +13,7 @@ use std::alloc::{AllocError, Global};
 use std::marker::Model;
 
 /// The connections of the net in memory, by number, and its data servers. Contracts see what it tells.
-#[derive(Debug, Drop)]
+#[derive(Drop)]
 pub struct ConnTable {
     alloc: Global,
     apps: u8,
@@ -22,13 +22,13 @@ pub struct ConnTable {
 }
 
 impl Model for ConnTable {
-    ghost use Rattle.outer_link.specs.TableState.{TableState, IsKept, told_of};
+    ghost use Rattle.outer_link.specs.TableState.{TableState, IsSound, told_of};
 
     ghost Value = { TableState };
 
     ghost view = { λ t. record { apps = t.apps; told = told_of t.servers.items t.conns.items } };
 
-    ghost invariant = { λ t. IsKept t.apps t.servers.items t.conns.items };
+    ghost invariant = { λ t. IsSound t.apps t.servers.items t.conns.items };
 }
 
 impl ConnTable {
@@ -112,7 +112,7 @@ impl ConnTable {
         server.is_open(app)
     }
 
-    /// Makes a connection, and answers its number. Where no number is left it answers as where memory is wanting.
+    /// Makes a connection, and answers its number. Where no number is left it answers as where there is no memory.
     pub fn connect(&mut self, app: u8, server: u8) -> Result<u32, AllocError>
         ensures number { IfOk result (λ n. n ≡ length self.old.told.conns) }
         ensures ok { OnOk result (self.new

@@ -1,7 +1,7 @@
 use crate::lines::Lines;
 
 /// A connection of the net in memory.
-#[derive(Debug, Drop)]
+#[derive(Drop)]
 pub struct Connection {
     pub app: u8,
     pub server: u8,

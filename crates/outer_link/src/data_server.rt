@@ -5,7 +5,7 @@ use std::alloc::{AllocError, Global};
 use std::marker::Model;
 
 /// A data server and one application server.
-#[derive(Clone, Copy, Debug)]
+#[derive(Clone, Copy)]
 pub struct Pair {
     parted: bool,
     /// How many connections had been made when those of this pair were last cut.
@@ -13,8 +13,8 @@ pub struct Pair {
 }
 
 /// What the net in memory keeps of a data server. Connections are cut all at once by a count: a connection
-/// behind fewer others than had been made at the last cut is one of those that were cut.
-#[derive(Debug, Drop)]
+/// made after fewer others than there were at the last cut is one of those that were cut.
+#[derive(Drop)]
 pub struct DataServer {
     listens: bool,
     cut_before: usize,
@@ -99,7 +99,7 @@ impl DataServer {
         self.listens && !pair.parted
     }
 
-    /// Whether a connection from this application server, made behind so many others, was cut with its pair
+    /// Whether a connection from this application server, made after so many others, was cut with its pair
     /// or with all of this data server.
     pub fn has_cut(&self, app: u8, made: usize) -> bool
         ensures { result ≡ has_cut self.now app made }

@@ -5,7 +5,7 @@ use std::alloc::{AllocError, Global};
 use std::marker::Model;
 
 /// One direction of a connection: the bytes that were put, and how many of them, from the front, were taken.
-#[derive(Debug, Drop)]
+#[derive(Drop)]
 pub struct Line {
     bytes: Vec<u8>,
     taken: usize,

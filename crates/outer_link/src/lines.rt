@@ -7,7 +7,7 @@ use std::alloc::{AllocError, Global};
 use std::marker::Model;
 
 /// The two directions of a connection, each named for the end where bytes are put.
-#[derive(Debug, Drop)]
+#[derive(Drop)]
 pub struct Lines {
     from_app: Line,
     from_server: Line,

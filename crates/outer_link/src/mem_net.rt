@@ -1,6 +1,6 @@
 ghost use Rattle.std.specs.Prelude.{◌≡◌, IfOk, if◌then◌else◌, length};
 ghost use Rattle.outer_io.specs.Plan.{is_due};
-ghost use Rattle.outer_io.specs.Told.{fresh_plan};
+ghost use Rattle.outer_io.specs.InMemory.{fresh_plan};
 ghost use Rattle.outer_link.specs.Counts.{NoneFell, no_counts, with_fault};
 ghost use Rattle.outer_link.specs.NetState.{called};
 ghost use Rattle.outer_link.specs.Told.{fresh_told};
@@ -16,7 +16,7 @@ use std::marker::Model;
 
 /// A net in memory, with both ends of each connection. It tells all, never holds back what is there, and
 /// fails at the listed calls, and at a connect that can't be made. The calls that may fail are counted from 0.
-#[derive(Debug, Drop)]
+#[derive(Drop)]
 pub struct MemNet {
     table: ConnTable,
     counts: NetCounts,

@@ -1,5 +1,5 @@
 /// What a put did.
-#[derive(Clone, Copy, Debug, PartialEq, Eq)]
+#[derive(Clone, Copy, Debug)]
 pub enum Put {
     /// It took so many bytes from the front, at least one.
     Bytes(usize),

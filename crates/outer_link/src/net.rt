@@ -69,7 +69,7 @@ pub trait Net {
         ensures shape { shape self.new ≡ shape self.old };
 
     /// Makes a connection, and answers its number, which no connect answered before. A pair that is parted and
-    /// a server that doesn't listen are refused. Where no number is left it answers as where memory is wanting.
+    /// a server that doesn't listen are refused. Where no number is left it answers as where there is no memory.
     fn connect(&mut self, app: u8, server: u8) -> Result<u32, Stop>
         requires app { app < (shape self.old).apps }
         requires server { server < (shape self.old).servers }
@@ -87,7 +87,7 @@ pub trait Net {
         ensures shape { shape self.new ≡ shape self.old };
 
     /// The number of the server's oldest connection that waits, where one is there; no accept answered it
-    /// before. Where no number is left it answers as where memory is wanting.
+    /// before. Where no number is left it answers as where there is no memory.
     fn accept(&mut self, server: u8) -> Result<Option<u32>, Stop>
         requires { server < (shape self.old).servers }
         ensures told { IfTold (told self.old) (told self.new) (λ t now. MatchResult result

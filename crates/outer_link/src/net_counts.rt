@@ -4,7 +4,7 @@ ghost use Rattle.outer_link.specs.Counts.{NoneFell, no_counts, with_fault, with_
 use std::marker::Model;
 
 /// What the net in memory counts. Each count stays at the greatest u64.
-#[derive(Debug, Drop)]
+#[derive(Drop)]
 pub struct NetCounts {
     faults: u64,
     failed: u64,

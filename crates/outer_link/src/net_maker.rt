@@ -1,7 +1,7 @@
 ghost use Rattle.std.specs.Prelude.{◌≡◌, ℕ, ◌≤◌, IfOk, IfErr};
 ghost use Rattle.outer_io.specs.Causes.{Rose};
 ghost use Rattle.outer_link.specs.Marks.{IsFresh};
-ghost use Rattle.outer_link.specs.Net.{Shape, IsNode};
+ghost use Rattle.outer_link.specs.Net.{Shape, IsNodeOf};
 
 use crate::net::Net;
 use crate::node_name::NodeName;
@@ -19,7 +19,7 @@ pub trait NetMaker {
 
     /// The net of this node. No connection is known on it yet.
     fn make(&mut self, node: NodeName) -> Result<Self::N, Stop>
-        requires { IsNode (shape self.old) node }
+        requires { IsNodeOf (shape self.old) node }
         ensures fresh { IfOk result (λ net. IsFresh (Self.N.marks net)) }
         ensures net_shape { IfOk result (λ net. Self.N.shape net ≡ shape self.old) }
         ensures failed { IfErr result (λ stop. stop ≡ Stop.Failed

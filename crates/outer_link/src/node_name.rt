@@ -1,5 +1,5 @@
 /// A node: an application server or a data server, by its number.
-#[derive(Clone, Copy, Debug, PartialEq, Eq)]
+#[derive(Clone, Copy)]
 pub enum NodeName {
     App(u8),
     Server(u8),

@@ -1,12 +1,13 @@
--- Whether a transaction is open behind an entry.
-use Rattle.std.proofs.Common.{◌≡◌, ℕ, List, [], ◌∷◌, refl, ap, ap₂, sym, ◌∙◌, Bool, true, false, cond, if◌then◌else◌, not, nat_eq, ◌&&◌, ◌||◌, Some}
+-- Whether a transaction is open after an entry.
+use Rattle.std.proofs.Common.{◌≡◌, ℕ, List, [], ◌∷◌, ◌++◌, refl, ap, ap₂, sym, ◌∙◌, Bool, true, false, cond, if◌then◌else◌, not, nat_eq, ◌&&◌, ◌||◌, Some}
 use Rattle.std.specs.List.{list_any, filter}
 use Rattle.std.proofs.lemmas.Bool.{eqb-true, eq-eqb, and_parts}
 use Rattle.plain_orders.specs.declared.op.Op.TheVariants.{Set, Kill, Add}
 use Rattle.plain_orders.specs.declared.entry.Entry.{Entry}
 use Rattle.plain_orders.specs.declared.entry.Entry.TheVariants.{Epoch, Opened, Closed, Update, Commit, Rollback}
-use Rattle.plain_orders.specs.Fold.{Undo, Transaction, Folded, is_it, is_begun, with_undo, undo_added, noted, is_other, ended, is_elsewhere, fold_step, fold_from}
+use Rattle.plain_orders.specs.Fold.{Undo, Transaction, Folded, is_it, is_begun, with_undo, undo_added, noted, is_other, ended, is_elsewhere, fold_step, fold}
 use Rattle.plain_orders.specs.Begun.{is_named, begun_after}
+use Rattle.plain_orders.proofs.FoldLemmas.{fold-push}
 
 module _ {X : Type 0} (p q : X → Bool) where
   -- a filter that keeps all that pass leaves whether one passes
@@ -57,7 +58,7 @@ module _ (s j t : ℕ) where
       let i = it_is x h in
       ap₂ (λ u v. u && v) (ap₂ (λ u v. u && v) (ap (λ n. nat_eq n a) i.0 ∙ eq_turned s a) (ap (λ n. nat_eq n b) i.1 ∙ eq_turned j b)) (ap (λ n. nat_eq n c) i.2 ∙ eq_turned t c)
 
-  -- behind a Close
+  -- after a Close
   begun-closed : (session : ℕ) (ts : List Transaction) → is_begun s j t (filter (is_elsewhere session) ts) ≡ (if nat_eq session s then false else is_begun s j t ts)
   begun-closed session ts = go (nat_eq session s) refl
     where
@@ -65,7 +66,7 @@ module _ (s j t : ℕ) where
       go true e = rw e (any_dropped (is_it s j t) (is_elsewhere session) (λ x h. ap not (eq-eqb x.session session ((it_is x h).0 ∙ sym (eqb-true session s e)))) ts)
       go false e = rw e (any_kept (is_it s j t) (is_elsewhere session) (λ x h. ap not (ap (λ n. nat_eq n session) (it_is x h).0 ∙ eq_turned s session ∙ e)) ts)
 
-  -- behind a Commit or Rollback
+  -- after a Commit or Rollback
   begun-ended : (a b c : ℕ) (ts : List Transaction) → is_begun s j t (ended a b c ts) ≡ (if is_named s j t a b c then false else is_begun s j t ts)
   begun-ended a b c ts = go (is_named s j t a b c) refl
     where
@@ -86,7 +87,7 @@ module _ (s j t : ℕ) where
   begun_named : (a b c : ℕ) (ts : List Transaction) → is_named s j t a b c ≡ true → is_begun a b c ts ≡ is_begun s j t ts
   begun_named a b c ts h = let n = named_is a b c h in ap (λ r. is_begun r b c ts) n.0 ∙ (ap (λ r. is_begun s r c ts) n.1 ∙ ap (λ r. is_begun s j r ts) n.2)
 
-  -- behind an item that is noted
+  -- after an item that is noted
   begun-noted : (a b c : ℕ) (u : Undo) (ts : List Transaction) → is_begun s j t (noted a b c (Some u) ts) ≡ (if is_named s j t a b c && (not (nat_eq c 0) && true) then true else is_begun s j t ts)
   begun-noted a b c u ts = go (nat_eq c 0) (is_named s j t a b c) (is_begun a b c ts) refl refl refl
     where
@@ -103,7 +104,7 @@ module _ (s j t : ℕ) where
   not_both true false x = refl
   not_both false b x = refl
 
-  -- behind any entry
+  -- after any entry
   pub begun-step : (f : Folded) (e : Entry) → is_begun s j t (fold_step f e).begun ≡ begun_after (is_begun s j t f.begun) e s j t
   begun-step f (Epoch number) = refl
   begun-step f (Opened session app) = refl
@@ -114,11 +115,6 @@ module _ (s j t : ℕ) where
   begun-step f (Commit a w b c) = begun-ended a b c f.begun
   begun-step f (Rollback a w b c) = begun-ended a b c f.begun
 
-  -- and behind several
-  abbrev pub begun_from : Bool → List Entry → Bool
-  begun_from b [] = b
-  begun_from b (e ∷ es) = begun_from (begun_after b e s j t) es
-
-  pub begun-from : (f : Folded) (es : List Entry) → begun_from (is_begun s j t f.begun) es ≡ is_begun s j t (fold_from f es).begun
-  begun-from f [] = refl
-  begun-from f (e ∷ es) = ap (λ b. begun_from b es) (sym (begun-step f e)) ∙ begun-from (fold_step f e) es
+-- whether a transaction is open after one entry more
+pub begun-push : (es : List Entry) (e : Entry) (s j t : ℕ) → is_begun s j t (fold (es ++ e ∷ [])).begun ≡ begun_after (is_begun s j t (fold es).begun) e s j t
+begun-push es e s j t = ap (λ (f : Folded). is_begun s j t f.begun) (fold-push es e) ∙ begun-step s j t (fold es) e

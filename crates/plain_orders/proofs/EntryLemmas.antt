@@ -15,7 +15,7 @@ pub live_from-append : (b : Bool) (es fs : List Entry) (s : ℕ) → live_from b
 live_from-append b [] fs s = refl
 live_from-append b (e ∷ es) fs s = live_from-append (live_after b e s) es fs s
 
--- whether a session is live behind one entry more
+-- whether a session is live after one entry more
 pub live-push : (es : List Entry) (e : Entry) (s : ℕ) → live (es ++ e ∷ []) s ≡ live_after (live es s) e s
 live-push es e s = live_from-append _ es (e ∷ []) s
 
@@ -23,7 +23,7 @@ pub live_session_from-append : (o : Option ℕ) (es fs : List Entry) (a : ℕ) �
 live_session_from-append o [] fs a = refl
 live_session_from-append o (e ∷ es) fs a = live_session_from-append (live_session_after o e a) es fs a
 
--- an application server's live session behind one entry more
+-- an application server's live session after one entry more
 pub live_session-push : (es : List Entry) (e : Entry) (a : ℕ) → live_session (es ++ e ∷ []) a ≡ live_session_after (live_session es a) e a
 live_session-push es e a = live_session_from-append _ es (e ∷ []) a
 
@@ -31,6 +31,6 @@ pub epoch_from-append : (n : ℕ) (es fs : List Entry) → epoch_from n (es ++ f
 epoch_from-append n [] fs = refl
 epoch_from-append n (e ∷ es) fs = epoch_from-append (epoch_after n e) es fs
 
--- the newest epoch behind one entry more
+-- the newest epoch after one entry more
 pub last_epoch-push : (es : List Entry) (e : Entry) → last_epoch (es ++ e ∷ []) ≡ epoch_after (last_epoch es) e
 last_epoch-push es e = epoch_from-append 0 es (e ∷ [])

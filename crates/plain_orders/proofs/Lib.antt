@@ -1,5 +1,13 @@
 pub mod EntryLemmas
+pub mod Places
 pub mod FoldLemmas
 pub mod OrderLemmas
 pub mod RisingLemmas
 pub mod BegunLemmas
+pub mod NodeKeys
+pub mod OrderKeys
+pub mod PastLemmas
+pub mod FrontLemmas
+pub mod Locality
+pub mod Values
+pub mod UndoValues

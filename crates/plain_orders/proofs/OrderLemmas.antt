@@ -1,5 +1,5 @@
 -- Ordered lists, cut and extended.
-use Rattle.std.proofs.Common.{◌≡◌, ◌∙◌, ap, Bool, true, ◌↔◌, List, [], ◌∷◌, ◌++◌, sym, subst, append_assoc}
+use Rattle.std.proofs.Common.{◌≡◌, ◌∙◌, Bool, true, ◌↔◌, List, [], ◌∷◌, ◌++◌, sym, subst, append_assoc}
 use Rattle.std.proofs.lemmas.List.{append-nil}
 use Rattle.plain_orders.specs.declared.entry.Entry.{Entry}
 use Rattle.plain_orders.specs.Ordered.{MayFollow, OrderedFrom, IsOrdered}
@@ -45,8 +45,3 @@ next_decides xs es e b d o same is test = (
   λ t. subst (λ (l : List Entry). IsOrdered (l ++ e ∷ [])) same (ordered-push xs e o (test.0 (is ∙ t))),
   λ m. sym is ∙ test.1 (ordered-last xs e (subst (λ (l : List Entry). IsOrdered (l ++ e ∷ [])) (sym same) m)),
 )
-
--- and then the list with it is ordered
-pub next_ordered : (xs ys : List Entry) (e x : Entry) (b : Bool) → IsOrdered xs → b ≡ true → ((b ≡ true) ↔ MayFollow xs e) → x ≡ e → ys ≡ xs ++ x ∷ [] → IsOrdered ys
-next_ordered xs ys e x b o is test same items =
-    subst IsOrdered (sym (items ∙ ap (λ y. xs ++ y ∷ []) same)) (ordered-push xs e o (test.0 is))

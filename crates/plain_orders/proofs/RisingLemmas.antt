@@ -25,7 +25,7 @@ before_put q k v (p ∷ ps) h b = go (key_cmp k p.0)
     go Greater = b
 
 -- a pair put in
-put_rises : (k v : List ℕ) (m : Map) → IsRising m → IsRising (put m k v)
+pub put_rises : (k v : List ℕ) (m : Map) → IsRising m → IsRising (put m k v)
 put_rises k v [] r = (tt, tt)
 put_rises k v (p ∷ ps) r = go (key_cmp k p.0) refl (put_rises k v ps r.1)
   where
@@ -34,7 +34,7 @@ put_rises k v (p ∷ ps) r = go (key_cmp k p.0) refl (put_rises k v ps r.1)
     go Equal e more = r
     go Greater e more = (before_put p.0 k v ps (nat_list_cmp_total.antisymm p.0 k ∙ ap ordering_reverse e) r.0, more)
 
-before_behind : (q k : List ℕ) (m : Map) → key_cmp q k ≡ Less → IsBeforeAll k m → IsBeforeAll q m
+pub before_behind : (q k : List ℕ) (m : Map) → key_cmp q k ≡ Less → IsBeforeAll k m → IsBeforeAll q m
 before_behind q k [] h b = tt
 before_behind q k (p ∷ ps) h b = nat_list_cmp_total.trans q k p.0 h b
 
@@ -92,11 +92,11 @@ back_rises : (m : Map) (key : List ℕ) (old : Option (List ℕ)) → IsRising m
 back_rises m key None r = remove_rises _ m r
 back_rises m key (Some value) r = put_rises key value m r
 
-undone_rises : (m : Map) (u : Undo) → IsRising m → IsRising (undone m u)
+pub undone_rises : (m : Map) (u : Undo) → IsRising m → IsRising (undone m u)
 undone_rises m (OldValue key old) r = back_rises m key old r
 undone_rises m (OldPairs key pairs) r = put_all_rises m pairs r
 
-all_undone_rises : (m : Map) (us : List Undo) → IsRising m → IsRising (all_undone m us)
+pub all_undone_rises : (m : Map) (us : List Undo) → IsRising m → IsRising (all_undone m us)
 all_undone_rises m [] r = r
 all_undone_rises m (u ∷ us) r = all_undone_rises (undone m u) us (undone_rises m u r)
 

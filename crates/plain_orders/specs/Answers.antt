@@ -11,10 +11,6 @@ use Rattle.plain_orders.specs.declared.sum.Sum.TheVariants.{Nothing}
 use Rattle.plain_orders.specs.PairMap.{Map, key_cmp, is_under, is_below, value_at}
 use Rattle.plain_orders.specs.Fold.{fold, op_sum}
 
--- the value of a node
-abbrev pub value_on : List Entry → List ℕ → Option (List ℕ)
-value_on es key = value_at (fold es).pairs key
-
 -- whether a pair is below the node
 abbrev pub is_descendant : List ℕ → List ℕ × List ℕ → Bool
 is_descendant node p = is_below node p.0
@@ -31,24 +27,24 @@ data_at m key = data_code (is_some (value_at m key)) (list_any (is_descendant ke
 abbrev pub data_on : List Entry → List ℕ → ℕ
 data_on es key = data_at (fold es).pairs key
 
--- whether a key is behind a subscript of the parent with all that is below it; each is behind none
+-- whether a key is after a subscript of the parent with all that is below it; each is after none
 abbrev pub is_behind : List ℕ → Option Sub → List ℕ → Bool
 is_behind parent None key = true
 is_behind parent (Some sub) key = is_lt (key_cmp (parent ++ sub_bytes sub) key) && not (is_under (parent ++ sub_bytes sub) key)
 
--- the key of the first pair below the parent and behind the subscript
+-- the key of the first pair below the parent and after the subscript
 abbrev pub next_key : Map → List ℕ → Option Sub → Option (List ℕ)
 next_key [] parent sub = None
 next_key (p ∷ ps) parent sub = if is_below parent p.0 && is_behind parent sub p.0 then Some p.0 else next_key ps parent sub
 
--- the subscript that stands in a key right behind the parent, if there is a key
+-- the subscript that stands in a key right after the parent, if there is a key
 abbrev pub IsSubIn : List ℕ → Option (List ℕ) → Option Sub → Type 0
 IsSubIn parent None None = Unit {0}
 IsSubIn parent None (Some sub) = ⊥
 IsSubIn parent (Some key) None = ⊥
 IsSubIn parent (Some key) (Some sub) = IsSub sub × (is_under (parent ++ sub_bytes sub) key ≡ true)
 
--- the next subscript on its level: of the first node below the parent that stands behind this subscript
+-- the next subscript on its level: of the first node below the parent that stands after this subscript
 abbrev pub IsNextOn : List Entry → List ℕ → Option Sub → Option Sub → Type 0
 IsNextOn es parent sub found = IsSubIn parent (next_key (fold es).pairs parent sub) found
 

@@ -19,7 +19,7 @@ is_of_one txn op = not (txn == 0) && can_be_undone op
 abbrev pub is_named : ℕ → ℕ → ℕ → ℕ → ℕ → ℕ → Bool
 is_named s j t session job txn = session == s && job == j && txn == t
 
--- whether a transaction is open behind an entry, where it was open before or not
+-- whether a transaction is open after an entry, where it was open before or not
 abbrev pub begun_after : Bool → Entry → ℕ → ℕ → ℕ → Bool
 begun_after b (Epoch number) s j t = b
 begun_after b (Opened session app) s j t = b

@@ -1,5 +1,5 @@
 -- Which two locks conflict.
-use Rattle.std.specs.Prelude.{◌≡◌, ℕ, Bool, true, false, ◌&&◌, ◌||◌, List}
+use Rattle.std.specs.Prelude.{ℕ, Bool, true, false, ◌&&◌, ◌||◌, List}
 use Rattle.plain_orders.specs.declared.mode.Mode.{Mode}
 use Rattle.plain_orders.specs.declared.mode.Mode.TheVariants.{Exclusive, Shared}
 use Rattle.plain_orders.specs.PairMap.{is_under}
@@ -18,7 +18,3 @@ names_overlap a b = is_under a b || is_under b a
 -- two locks of different holders can't both be held
 abbrev pub is_conflict : Mode → List ℕ → Mode → List ℕ → Bool
 is_conflict m a n b = modes_conflict m n && names_overlap a b
-
--- the same as a fact
-abbrev pub Conflicts : Mode → List ℕ → Mode → List ℕ → Type 0
-Conflicts m a n b = is_conflict m a n b ≡ true

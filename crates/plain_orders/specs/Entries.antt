@@ -1,5 +1,5 @@
 -- Lists of entries, oldest first: running numbers, live sessions, epochs.
-use Rattle.std.specs.Prelude.{◌≡◌, ℕ, zero, suc, Bool, true, false, ◌==◌, max, if◌then◌else◌, List, [], ◌∷◌, Option, Some, None, take, slice_get}
+use Rattle.std.specs.Prelude.{ℕ, zero, suc, Bool, true, false, ◌==◌, max, if◌then◌else◌, List, [], ◌∷◌, Option, Some, None, take, slice_get}
 use Rattle.std.specs.List.{list_any}
 use Rattle.plain_orders.specs.declared.entry.Entry.{Entry}
 use Rattle.plain_orders.specs.declared.entry.Entry.TheVariants.{Epoch, Opened, Closed, Update, Commit, Rollback}
@@ -27,7 +27,7 @@ count_from n (e ∷ es) s = count_from (max n (w_in s e)) es s
 abbrev pub count : List Entry → ℕ → ℕ
 count es s = count_from 0 es s
 
--- whether a session is live behind an entry, where it was live before or not
+-- whether a session is live after an entry, where it was live before or not
 abbrev pub live_after : Bool → Entry → ℕ → Bool
 live_after b (Epoch number) s = b
 live_after b (Opened session app) s = if session == s then true else b
@@ -36,12 +36,12 @@ live_after b (Update session w job txn op) s = b
 live_after b (Commit session w job txn) s = b
 live_after b (Rollback session w job txn) s = b
 
--- the same behind several
+-- the same after several
 abbrev pub live_from : Bool → List Entry → ℕ → Bool
 live_from b [] s = b
 live_from b (e ∷ es) s = live_from (live_after b e s) es s
 
--- a session is opened and not closed behind that
+-- a session is opened and not closed after that
 abbrev pub live : List Entry → ℕ → Bool
 live es s = live_from false es s
 
@@ -50,7 +50,7 @@ abbrev pub unless_closed : ℕ → Option ℕ → Option ℕ
 unless_closed session None = None
 unless_closed session (Some s) = if s == session then None else Some s
 
--- the live session of an application server behind an entry, where it had this or none before
+-- the live session of an application server after an entry, where it had this or none before
 abbrev pub live_session_after : Option ℕ → Entry → ℕ → Option ℕ
 live_session_after o (Epoch number) a = o
 live_session_after o (Opened session app) a = if app == a then Some session else o
@@ -59,7 +59,7 @@ live_session_after o (Update session w job txn op) a = o
 live_session_after o (Commit session w job txn) a = o
 live_session_after o (Rollback session w job txn) a = o
 
--- the same behind several
+-- the same after several
 abbrev pub live_session_from : Option ℕ → List Entry → ℕ → Option ℕ
 live_session_from o [] a = o
 live_session_from o (e ∷ es) a = live_session_from (live_session_after o e a) es a
@@ -77,7 +77,7 @@ epoch_after n (Update session w job txn op) = n
 epoch_after n (Commit session w job txn) = n
 epoch_after n (Rollback session w job txn) = n
 
--- the same behind several
+-- the same after several
 abbrev pub epoch_from : ℕ → List Entry → ℕ
 epoch_from n [] = n
 epoch_from n (e ∷ es) = epoch_from (epoch_after n e) es
@@ -98,7 +98,3 @@ closes s (Rollback session w job txn) = false
 -- a Close of the session stands among the first d entries
 abbrev pub closed_by : List Entry → ℕ → ℕ → Bool
 closed_by es s d = list_any (closes s) (take d es)
-
--- the same as a fact
-abbrev pub IsClosedBy : List Entry → ℕ → ℕ → Type 0
-IsClosedBy es s d = closed_by es s d ≡ true

@@ -1,4 +1,4 @@
--- What a list of entries makes of the map, with the transactions that are open behind it.
+-- What a list of entries makes of the map, with the transactions that are open after it.
 use Rattle.std.specs.Prelude.{ℕ, Bool, ◌==◌, ◌&&◌, not, if◌then◌else◌, List, [], ◌∷◌, Option, Some, None, filter, ℤ, ◌+ℤ◌}
 use Rattle.std.specs.List.{list_any}
 use Rattle.plain_orders.specs.declared.op.Op.{Op}
@@ -7,7 +7,7 @@ use Rattle.plain_orders.specs.declared.entry.Entry.{Entry}
 use Rattle.plain_orders.specs.declared.entry.Entry.TheVariants.{Epoch, Opened, Closed, Update, Commit, Rollback}
 use Rattle.plain_orders.specs.declared.sum.Sum.{Sum}
 use Rattle.plain_orders.specs.declared.sum.Sum.TheVariants.{Nothing, Whole, NotWhole, Range}
-use Rattle.plain_orders.specs.Numbers.{is_short, decimal_text, whole_of}
+use Rattle.plain_orders.specs.Numbers.{is_short, integer_text, whole_of}
 use Rattle.plain_orders.specs.PairMap.{Map, value_at, put, remove, remove_under, pairs_under, put_all}
 
 -- what one update of a transaction leaves to be put back
@@ -30,7 +30,7 @@ pub record Folded : Type 0 where
   -- the open transactions, the latest begun first
   pub begun : List Transaction
 
--- one more whole number on an amount: it has at most 18 digits or not
+-- one more whole number on an amount: it has at most DIGIT_LIMIT digits or not
 abbrev pub sum_of : ℤ → Sum
 sum_of n = if is_short n then Whole n else Range
 
@@ -50,10 +50,10 @@ op_sum m (Set key value) = Nothing
 op_sum m (Kill key) = Nothing
 op_sum m (Add key amount) = sum_with (value_at m key) amount
 
--- only a sum that is a whole number of at most 18 digits is written
+-- only a sum that is a whole number of at most DIGIT_LIMIT digits is written
 abbrev pub with_sum : Map → List ℕ → Sum → Map
 with_sum m key Nothing = m
-with_sum m key (Whole n) = put m key (decimal_text n)
+with_sum m key (Whole n) = put m key (integer_text n)
 with_sum m key NotWhole = m
 with_sum m key Range = m
 

@@ -1,6 +1,9 @@
 pub mod Entries
+pub mod Sessions
+pub mod ItemEntries
 pub mod PairMap
 pub mod Numbers
+pub mod Times
 pub mod Fold
 pub mod Begun
 pub mod Ordered
@@ -8,4 +11,5 @@ pub mod Answers
 pub mod Own
 pub mod Conflict
 pub mod Spans
+pub mod Keys
 pub mod Laws

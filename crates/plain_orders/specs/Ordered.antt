@@ -1,6 +1,8 @@
 -- Which lists of entries are ordered.
-use Rattle.std.specs.Prelude.{◌≡◌, ◌≢◌, ℕ, ◌+◌, ◌^◌, ◌<◌, ◌≤◌, true, List, [], ◌∷◌, ◌++◌, length, None, ℤ, unsigned_abs}
+use Rattle.std.specs.Prelude.{◌≡◌, ◌≢◌, ℕ, ◌+◌, ◌<◌, ◌≤◌, true, List, [], ◌∷◌, ◌++◌, length, None, ℤ, unsigned_abs}
+use Rattle.subscript_keys.specs.declared.limits.TheConstants.{VALUE_LIMIT, NUMBER_LIMIT}
 use Rattle.subscript_keys.specs.Key.{IsKey, IsWithinLimit}
+use Rattle.plain_orders.specs.declared.limits.TheConstants.{EPOCH_END}
 use Rattle.plain_orders.specs.declared.op.Op.{Op}
 use Rattle.plain_orders.specs.declared.op.Op.TheVariants.{Set, Kill, Add}
 use Rattle.plain_orders.specs.declared.entry.Entry.{Entry}
@@ -11,10 +13,10 @@ use Rattle.plain_orders.specs.Fold.{fold, is_begun}
 -- an Epoch: the first is 1 and each is one higher than the last
 pub record EpochMay (before : List Entry) (number : ℕ) : Type 0 where
   pub is_next : number ≡ last_epoch before + 1
-  pub in_range : number < 2 ^ 32
+  pub in_range : number < EPOCH_END
 
 -- an Open: not in front of the first Epoch, and its session is its position
-pub record OpenMay (before : List Entry) (session app : ℕ) : Type 0 where
+pub record OpenFollows (before : List Entry) (session app : ℕ) : Type 0 where
   pub is_started : last_epoch before ≢ 0
   pub is_position : session ≡ length before + 1
   pub is_free : live_session before app ≡ None
@@ -28,16 +30,16 @@ pub record KeyMay (key : List ℕ) : Type 0 where
   pub is_key : IsKey key
   pub within : IsWithinLimit key
 
--- a Set's value has at most 3000 bytes
+-- a Set's value is within the limit on values
 pub record SetMay (key value : List ℕ) : Type 0 where
   pub key_may : KeyMay key
-  pub within : length value ≤ 3000
+  pub within : length value ≤ VALUE_LIMIT
 
--- an increment is in no transaction, and its amount has at most 18 digits
+-- an increment is in no transaction, and its amount has at most DIGIT_LIMIT digits
 pub record AddMay (txn : ℕ) (key : List ℕ) (amount : ℤ) : Type 0 where
   pub key_may : KeyMay key
   pub is_alone : txn ≡ 0
-  pub within : unsigned_abs amount < 10 ^ 18
+  pub within : unsigned_abs amount < NUMBER_LIMIT
 
 -- an operation within the limits
 abbrev pub OpMay : ℕ → Op → Type 0
@@ -52,7 +54,7 @@ pub record UpdateMay (before : List Entry) (session w txn : ℕ) (op : Op) : Typ
   pub within : OpMay txn op
 
 -- a Commit or Rollback
-pub record EndMay (before : List Entry) (session w job txn : ℕ) : Type 0 where
+pub record EndFollows (before : List Entry) (session w job txn : ℕ) : Type 0 where
   pub is_live : live before session ≡ true
   pub is_next : w ≡ count before session + 1
   pub is_begun : is_begun session job txn (fold before).begun ≡ true
@@ -60,11 +62,11 @@ pub record EndMay (before : List Entry) (session w job txn : ℕ) : Type 0 where
 -- an entry may follow an ordered list
 abbrev pub MayFollow : List Entry → Entry → Type 0
 MayFollow before (Epoch number) = EpochMay before number
-MayFollow before (Opened session app) = OpenMay before session app
+MayFollow before (Opened session app) = OpenFollows before session app
 MayFollow before (Closed session) = CloseMay before session
 MayFollow before (Update session w job txn op) = UpdateMay before session w txn op
-MayFollow before (Commit session w job txn) = EndMay before session w job txn
-MayFollow before (Rollback session w job txn) = EndMay before session w job txn
+MayFollow before (Commit session w job txn) = EndFollows before session w job txn
+MayFollow before (Rollback session w job txn) = EndFollows before session w job txn
 
 -- entries may follow, one after the other
 abbrev pub OrderedFrom : List Entry → List Entry → Type 0

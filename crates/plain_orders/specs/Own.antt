@@ -54,6 +54,6 @@ abbrev pub ops_after : Map → List Op → Map
 ops_after m [] = m
 ops_after m (o ∷ os) = ops_after (op_after m o) os
 
--- the value of a node on a list of entries and own updates behind it
+-- the value of a node on a list of entries and own updates after it
 abbrev pub value_over : List Entry → List Op → List ℕ → Option (List ℕ)
 value_over es ops key = value_at (ops_after (fold es).pairs ops) key

@@ -8,7 +8,7 @@ use Rattle.plain_orders.specs.declared.entry.Entry.{Entry}
 use Rattle.plain_orders.specs.declared.entry.Entry.TheVariants.{Epoch, Opened, Closed, Update, Commit, Rollback}
 use Rattle.plain_orders.specs.Fold.{Undo, OldValue, OldPairs, Transaction, Folded, undo_in}
 
--- a node alone: only its own key is at or behind it and before its key with 00 behind
+-- a node alone: only its own key is at or after it and before its key followed by 00
 abbrev pub node_span : List ℕ → Span
 node_span key = record { lo = key; hi = key ++ 0 ∷ [] }
 

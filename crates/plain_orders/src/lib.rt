@@ -11,6 +11,7 @@ mod item;
 mod job_apps;
 mod laws;
 mod layout;
+mod limits;
 mod mode;
 mod name_list;
 mod op;
@@ -28,8 +29,11 @@ pub use entries::Entries;
 pub use entry::Entry;
 pub use item::Item;
 pub use job_apps::JobApps;
-pub use laws::{fold_goes_on, last_sum, map_rises, order_goes_on};
+pub use laws::{
+    fold_goes_on, last_sum, map_rises, order_goes_on, order_has_keys, under_is_at_or_below,
+};
 pub use layout::{Layout, Names, Times};
+pub use limits::{EPOCH_END, START_EPOCH_LIMIT};
 pub use mode::Mode;
 pub use name_list::NameList;
 pub use op::Op;

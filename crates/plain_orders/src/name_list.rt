@@ -46,7 +46,7 @@ impl NameList {
         self.items.as_slice()
     }
 
-    /// Puts one more at the end; it is let go where memory is wanting.
+    /// Puts one more at the end; out of memory it is let go.
     pub fn push(&mut self, item: Name) -> Result<(), AllocError>
         ensures ok { OnOk result (self.new ≡ self.old ++ item ∷ []) }
         ensures err { OnErr result (self.new ≡ self.old) }

@@ -6,6 +6,6 @@ pub enum Op {
     Set { key: KeyBytes, value: ValueBytes },
     /// The node and its descendants go.
     Kill { key: KeyBytes },
-    /// An increment by a whole number of at most 18 digits.
+    /// An increment by a whole number of at most `DIGIT_LIMIT` digits.
     Add { key: KeyBytes, amount: i64 },
 }

@@ -8,12 +8,12 @@ pub enum Question {
         value: Option<ValueBytes>,
     },
     /// `code` is 0, 1, 10 or 11.
-    Data {
+    Shape {
         key: KeyBytes,
         code: u8,
     },
-    /// The next subscript below `parent` behind `sub`, where none stands before the first, and at the end
-    /// behind the last.
+    /// The next subscript below `parent` after `sub`, where none stands before the first, and at the end
+    /// after the last.
     Next {
         parent: KeyBytes,
         sub: Option<Sub>,

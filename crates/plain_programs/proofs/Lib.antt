@@ -2,7 +2,5 @@ pub mod SearchLemmas
 pub mod NumberLemmas
 pub mod SpanLemmas
 pub mod KeyLemmas
-pub mod OrderKeys
-pub mod StandLemmas
-pub mod PastLemmas
+pub mod SessionLemmas
 pub mod IndexLemmas

@@ -3,7 +3,7 @@ use lib.Signed.{mag}
 use Rattle.std.specs.Fmt.{decimal, signed_decimal}
 use Rattle.std.proofs.lemmas.Fmt.{PrependsLastDigit, decimal_from_prepends, length-decimal-le_succ}
 use Rattle.std.proofs.lemmas.List.{append-nil}
-use Rattle.plain_orders.specs.Numbers.{digits_before, natural_text, decimal_text}
+use Rattle.plain_orders.specs.Numbers.{digits_before, natural_text, integer_text}
 use Rattle.std.proofs.Common.{[], ◌∷◌, ℤ, pos, negsuc, ap, ◌∙◌, rules, ◌≡◌, ℕ, suc, ◌^◌, ◌<◌, ◌≤◌, arith, lt_of_lt_of_le}
 use Rattle.std.proofs.Math.Nat.{pow-le-pow_right}
 
@@ -24,6 +24,6 @@ natural_text-decimal n h =
     decimal_from_prepends digits_before digits_prepend (suc n) n [] h (search (rules, length-decimal-le_succ n h)) ∙ append-nil (decimal n)
 
 -- and so is that of a whole number
-pub decimal_text-signed : (z : ℤ) → mag z < 2 ^ 63 → decimal_text z ≡ signed_decimal z
-decimal_text-signed (pos n) h = natural_text-decimal n (omega arith)
-decimal_text-signed (negsuc n) h = ap (λ t. 45 ∷ t) (natural_text-decimal (suc n) (omega arith))
+pub integer_text-signed : (z : ℤ) → mag z < 2 ^ 63 → integer_text z ≡ signed_decimal z
+integer_text-signed (pos n) h = natural_text-decimal n (omega arith)
+integer_text-signed (negsuc n) h = ap (λ t. 45 ∷ t) (natural_text-decimal (suc n) (omega arith))

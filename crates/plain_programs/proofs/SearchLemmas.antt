@@ -1,4 +1,4 @@
--- The first key behind some bytes is the first descendant behind them, or there is none.
+-- The first key after some bytes is the first descendant after them, or there is none.
 use Rattle.std.proofs.Common.{◌≡◌, ◌≢◌, ℕ, ◌<◌, List, [], ◌∷◌, refl, ap, sym, subst, ◌∙◌, Bool, true, false, length, nat_eq, nat_lt, ◌&&◌, if◌then◌else◌, arith, inl, inr, Option, Some, None, is_some, Bor}
 use Rattle.std.specs.Option.{option_copied}
 use Rattle.std.specs.declared.cmp.Ordering.{Ordering}
@@ -50,7 +50,7 @@ between (x ∷ n) (y ∷ b) (w ∷ p) (z ∷ q) h k l m =
     let rest : is_under n p ≡ true = between n b p q s.1 t.1 (u.1 (nat_cmp-eq y w here)) (v.1 (nat_cmp-eq w z (sym here ∙ sym first ∙ last))) in
     ap (λ t. t && is_under n p) (eq-eqb x w (first ∙ here)) ∙ rest
 
--- a byte string that begins with the node's key and stands behind another that does so is longer than the node's key
+-- a byte string that begins with the node's key and stands after another that does so is longer than the node's key
 longer : (n b k : List ℕ) → is_under n b ≡ true → is_under n k ≡ true → key_cmp b k ≡ Less → length n < length k
 longer [] [] [] h j l = cc
 longer [] (y ∷ b) [] h j l = absurd (no_less l)
@@ -64,7 +64,7 @@ longer (x ∷ n) (y ∷ b) (z ∷ k) h j l =
     let more = longer n b k s.1 t.1 ((less-first (nat_cmp y z) (key_cmp b k) l).1 (nat_cmp-eq y z same)) in
     omega arith
 
--- what the first of the keys behind the bytes tells of the first descendant behind them
+-- what the first of the keys after the bytes tells of the first descendant after them
 abbrev Tells : List ℕ → Option (List ℕ) → Map → Type 0
 Tells n o [] = o ≡ None
 Tells n o (e ∷ es) = o ≡ (if is_under n e.0 then Some e.0 else None)
@@ -74,7 +74,7 @@ no_more true x y = refl
 no_more false x y = refl
 
 module _ (n b : List ℕ) (under : is_under n b ≡ true) where
-  -- behind a key that does not begin with the node's, no key does
+  -- after a key that does not begin with the node's, no key does
   none_behind : (k : List ℕ) → is_under n k ≡ false → key_cmp b k ≡ Less → (m : Map) → AllByRecursion (λ q. key_cmp k q ≡ Less) (keys_of m) → descendant_behind m n b ≡ None
   none_behind k f l [] a = refl
   none_behind k f l (p ∷ ps) a = go (is_under n p.0) refl (none_behind k f l ps a.1)
@@ -119,7 +119,7 @@ pub under_itself : (k : List ℕ) → is_under k k ≡ true
 under_itself [] = refl
 under_itself (x ∷ k) = rw (eq-eqb x x refl) (under_itself k)
 
--- what is longer and begins with the node's key stands behind it
+-- what is longer and begins with the node's key stands after it
 pub below_behind : (n k : List ℕ) → is_under n k ≡ true → length n < length k → key_cmp n k ≡ Less
 below_behind [] [] h l = absurd (omega arith)
 below_behind [] (z ∷ k) h l = refl
@@ -128,7 +128,7 @@ below_behind (x ∷ n) (z ∷ k) h l =
     let s = and_parts (nat_eq x z) (is_under n k) h in
     ap (λ o. ordering_then o (key_cmp n k)) (nat_cmp-eq x z (eqb-true x z s.0)) ∙ below_behind n k s.1 (omega arith)
 
--- so each descendant stands behind the node
+-- so each descendant stands after the node
 is_below-behind : (n k : List ℕ) → (is_below n k && is_lt (key_cmp n k)) ≡ is_below n k
 is_below-behind n k = go (is_under n k) (nat_lt (length n) (length k)) refl refl
   where

@@ -3,7 +3,7 @@ use Rattle.std.specs.Prelude.{ℕ, List, [], ◌∷◌, Option, Some, None, ◌&
 use Rattle.std.specs.Ordering.{is_lt}
 use Rattle.plain_orders.specs.PairMap.{Map, key_cmp, is_below}
 
--- the first key of a node's descendants that stands behind these bytes
+-- the first key of a node's descendants that stands after these bytes
 abbrev pub descendant_behind : Map → List ℕ → List ℕ → Option (List ℕ)
 descendant_behind [] node bytes = None
 descendant_behind (p ∷ ps) node bytes =

@@ -18,7 +18,7 @@ pub fn end_of_child(alloc: Global, parent: &KeyBytes, sub: &Sub) -> Result<KeyBy
     Ok(KeyBytes::from_vec(end))
 }
 
-/// The subscript that stands right behind a node's key in that of a descendant.
+/// The subscript that stands right after a node's key in that of a descendant.
 pub fn sub_behind(
     alloc: Global,
     parent: &KeyBytes,

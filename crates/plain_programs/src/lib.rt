@@ -6,9 +6,8 @@
 #![tactic(auto)]
 
 mod child_keys;
-mod laws;
-mod limits;
 mod live_session;
+mod op_check;
 mod order_check;
 mod order_index;
 mod plain_store;
@@ -18,7 +17,6 @@ mod touched;
 mod transaction_name;
 mod whole_number;
 
-pub use laws::{order_has_keys, under_is_at_or_below};
 pub use order_check::OrderCheck;
 pub use plain_store::PlainStore;
 pub use touched::touches;

@@ -4,7 +4,7 @@ ghost use Rattle.plain_orders.specs.declared.entry.Entry.TheVariants.{Update, Co
 ghost use Rattle.plain_orders.specs.Begun.{is_of_one};
 ghost use Rattle.plain_orders.specs.Entries.{count};
 ghost use Rattle.std.specs.BTreeSet.{contains};
-ghost use Rattle.plain_programs.specs.Indexes.{name_cmp, Stands};
+ghost use Rattle.plain_programs.specs.Indexes.{name_cmp, IsIndexed};
 
 use crate::transaction_name::TransactionName;
 use plain_orders::Op;
@@ -48,11 +48,11 @@ impl LiveSession {
         self.begun.contains(&name)
     }
 
-    /// Takes an Update of the session. Where memory is wanting nothing changes.
+    /// Takes an Update of the session. Out of memory, nothing changes.
     pub fn take_update(&mut self, w: u64, name: TransactionName, op: &Op) -> Result<(), AllocError>
-        ensures ok { OnOk result ((es : List Entry) (s : ℕ) → Stands es s self.old → w ≡ count es s + 1
-            → Stands (es ++ Update s w name.job name.txn op.now ∷ []) s self.new) }
-        ensures err { OnErr result ((es : List Entry) (s : ℕ) → Stands es s self.old → Stands es s self.new) }
+        ensures ok { OnOk result ((es : List Entry) (s : ℕ) → IsIndexed es s self.old → w ≡ count es s + 1
+            → IsIndexed (es ++ Update s w name.job name.txn op.now ∷ []) s self.new) }
+        ensures err { OnErr result ((es : List Entry) (s : ℕ) → IsIndexed es s self.old → IsIndexed es s self.new) }
     {
         if is_of_one(name.txn, op) {
             self.begun.insert(name)?;
@@ -63,10 +63,10 @@ impl LiveSession {
 
     /// Takes a Commit or Rollback of the session.
     pub fn take_end(&mut self, w: u64, name: TransactionName)
-        ensures commit { (es : List Entry) (s : ℕ) → Stands es s self.old → w ≡ count es s + 1
-            → Stands (es ++ Commit s w name.job name.txn ∷ []) s self.new }
-        ensures rollback { (es : List Entry) (s : ℕ) → Stands es s self.old → w ≡ count es s + 1
-            → Stands (es ++ Rollback s w name.job name.txn ∷ []) s self.new }
+        ensures commit { (es : List Entry) (s : ℕ) → IsIndexed es s self.old → w ≡ count es s + 1
+            → IsIndexed (es ++ Commit s w name.job name.txn ∷ []) s self.new }
+        ensures rollback { (es : List Entry) (s : ℕ) → IsIndexed es s self.old → w ≡ count es s + 1
+            → IsIndexed (es ++ Rollback s w name.job name.txn ∷ []) s self.new }
     {
         self.begun.remove(&name);
         self.count = w;

@@ -1,7 +1,7 @@
 ghost use Rattle.std.specs.Prelude.{◌≡◌, ◌+◌, ◌↔◌, ◌++◌, ◌∷◌, [], IsTrue, IfOk, OnErr, if◌then◌else◌};
-ghost use Rattle.plain_orders.specs.Ordered.{EpochMay, OpenMay, CloseMay, EndMay, UpdateMay, MayFollow, IsOrdered};
+ghost use Rattle.plain_orders.specs.Ordered.{EpochMay, OpenFollows, CloseMay, EndFollows, UpdateMay, MayFollow, IsOrdered};
 
-use crate::limits::op_may;
+use crate::op_check::op_may;
 use crate::order_index::OrderIndex;
 use crate::transaction_name::TransactionName;
 use plain_orders::{Entries, Entry, Op};
@@ -48,7 +48,7 @@ impl OrderCheck {
     }
 
     /// Takes the entry where the entries taken so far and this one are an ordered list, and tells
-    /// whether they are. Else, and where memory is wanting, nothing changes.
+    /// whether they are. Else, and out of memory, nothing changes.
     pub fn next(&mut self, alloc: Global, entry: &Entry) -> Result<bool, AllocError>
         ensures exact { IfOk result (λ took. IsTrue took ↔ IsOrdered (self.old ++ entry.now ∷ [])) }
         ensures taken { IfOk result (λ took. self.new ≡ (if took then self.old ++ entry.now ∷ [] else self.old)) }
@@ -60,7 +60,7 @@ impl OrderCheck {
         let taken = entry.clone()?;
         self.entries.reserve(1)?;
         self.index.take(alloc, entry)?;
-        // There is room, so nothing fails behind the index's change.
+        // There is room, so nothing fails after the index's change.
         self.entries.push(taken)?;
         Ok(true)
     }
@@ -104,7 +104,7 @@ impl OrderCheck {
 
     /// Whether an Open may follow.
     fn open_may(&self, session: u64, app: u8) -> bool
-        ensures { IsTrue result ↔ OpenMay self.now session app }
+        ensures { IsTrue result ↔ OpenFollows self.now session app }
     {
         self.index.last_epoch() != 0
             && session > 0
@@ -138,7 +138,7 @@ impl OrderCheck {
 
     /// Whether a Commit or Rollback may follow.
     fn end_may(&self, session: u64, w: u64, name: TransactionName) -> bool
-        ensures { IsTrue result ↔ EndMay self.now session w name.job name.txn }
+        ensures { IsTrue result ↔ EndFollows self.now session w name.job name.txn }
     {
         match self.index.session(session) {
             Some(live) => live.is_next(w) && live.is_open(name),

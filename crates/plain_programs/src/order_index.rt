@@ -3,7 +3,7 @@ ghost use Rattle.std.specs.Option.{option_copied};
 ghost use Rattle.plain_orders.specs.declared.entry.Entry.{Entry};
 ghost use Rattle.plain_orders.specs.declared.entry.Entry.TheVariants.{Epoch, Opened, Closed, Update, Commit, Rollback};
 ghost use Rattle.plain_orders.specs.Entries.{last_epoch, live_session};
-ghost use Rattle.plain_programs.specs.Indexes.{StandsIf, Indexes, CanTake};
+ghost use Rattle.plain_programs.specs.Indexes.{IsIndexedIf, Indexes, CanTake};
 
 use crate::live_session::LiveSession;
 use crate::transaction_name::TransactionName;
@@ -50,12 +50,12 @@ impl OrderIndex {
 
     /// A session, if it is live.
     pub fn session(&self, session: u64) -> Option<&LiveSession>
-        ensures { (es : List Entry) → Indexes es self.now → StandsIf es session (option_copied result) }
+        ensures { (es : List Entry) → Indexes es self.now → IsIndexedIf es session (option_copied result) }
     {
         self.sessions.get(&session)
     }
 
-    /// Takes an entry that may follow. Where memory is wanting it says of the entries what it said before.
+    /// Takes an entry that may follow. Out of memory, it says of the entries what it said before.
     pub fn take(&mut self, alloc: Global, entry: &Entry) -> Result<(), AllocError>
         ensures ok { OnOk result ((es : List Entry) → CanTake es entry.now self.old
             → Indexes (es ++ entry.now ∷ []) self.new) }

@@ -6,7 +6,7 @@ ghost use Rattle.plain_orders.specs.PairMap.{value_at, put, remove_under, is_und
 ghost use Rattle.plain_orders.specs.Fold.{nothing_folded, sum_of, sum_with, with_sum, op_sum, op_after, fold_step};
 ghost use Rattle.plain_orders.specs.Answers.{entry_sum, data_at, data_code, is_descendant, next_key, IsSubIn};
 ghost use Rattle.plain_orders.specs.Spans.{entry_spans, IsAlone};
-ghost use Rattle.plain_programs.specs.Keys.{HasKeys};
+ghost use Rattle.plain_orders.specs.Keys.{HasKeys};
 ghost use Rattle.plain_programs.specs.Search.{descendant_behind};
 
 use crate::child_keys::{end_of_child, sub_behind};
@@ -17,10 +17,7 @@ use std::alloc::{AllocError, Global};
 use std::collections::BTreeMap;
 use std::marker::Model;
 use std::ops::Bound;
-use subscript_keys::{KeyBytes, Sub, ValueBytes};
-
-/// The least number with more than 18 digits.
-const LIMIT: i64 = 1_000_000_000_000_000_000;
+use subscript_keys::{KeyBytes, NUMBER_LIMIT, Sub, ValueBytes};
 
 /// The pairs that a list of entries makes, in the order of their keys. Contracts see it as the fold of
 /// that list.
@@ -70,7 +67,7 @@ impl PlainStore {
         self.descendant_behind(node, node).is_some()
     }
 
-    /// The next subscript below the parent: that of its first descendant, or of its first descendant behind
+    /// The next subscript below the parent: that of its first descendant, or of its first descendant after
     /// this subscript with all that is below it. None where there is no such descendant.
     pub fn next_sub(
         &self,
@@ -113,7 +110,7 @@ impl PlainStore {
         }
     }
 
-    /// The first key of the node's descendants that stands behind these bytes.
+    /// The first key of the node's descendants that stands after these bytes.
     fn descendant_behind(&self, node: &KeyBytes, bytes: &KeyBytes) -> Option<&KeyBytes>
         requires { IsTrue (is_under node.now bytes.now) }
         ensures { option_copied result ≡ descendant_behind self.now.pairs node.now bytes.now }
@@ -126,7 +123,7 @@ impl PlainStore {
         Some(key)
     }
 
-    /// Takes one entry more. Where memory is wanting nothing changes.
+    /// Takes one entry more. Out of memory, nothing changes.
     pub fn apply(&mut self, alloc: Global, entry: &Entry) -> Result<Applied, AllocError>
         requires { IsAlone entry.now }
         ensures next { OnOk result (self.new ≡ fold_step self.old entry.now) }
@@ -157,7 +154,7 @@ impl PlainStore {
         let _pairs = &self.pairs;
     }
 
-    /// Does an operation. Where memory is wanting nothing changes.
+    /// Does an operation. Out of memory, nothing changes.
     fn apply_op(&mut self, alloc: Global, op: &Op) -> Result<Sum, AllocError>
         ensures sum { IfOk result (λ sum. sum ≡ op_sum self.old.pairs op.now) }
         ensures ok { OnOk result (self.new ≡ record self.old { pairs = op_after self.old.pairs op.now }) }
@@ -206,7 +203,7 @@ impl PlainStore {
         }
     }
 
-    /// Increments a node. Where memory is wanting nothing changes.
+    /// Increments a node. Out of memory, nothing changes.
     fn add(&mut self, alloc: Global, key: &KeyBytes, amount: i64) -> Result<Sum, AllocError>
         ensures sum { IfOk result (λ sum. sum ≡ sum_with (value_at self.old.pairs key.now) amount) }
         ensures ok { IfOk result (λ sum. self.new ≡ record self.old { pairs = with_sum self.old.pairs key.now sum }) }
@@ -233,12 +230,12 @@ fn data_code(has_value: bool, has_descendants: bool) -> u8
     }
 }
 
-/// The sum of a whole number and an amount, if it has at most 18 digits.
+/// The sum of a whole number and an amount, if it has at most `DIGIT_LIMIT` digits.
 fn sum_of(number: i64, amount: i64) -> Sum
     ensures { result ≡ sum_of (number +ℤ amount) }
 {
     match number.checked_add(amount) {
-        Some(sum) if -LIMIT < sum && sum < LIMIT => Sum::Whole(sum),
+        Some(sum) if sum.unsigned_abs() < NUMBER_LIMIT => Sum::Whole(sum),
         _ => Sum::Range,
     }
 }

@@ -1,6 +1,6 @@
 ghost use Rattle.std.specs.Prelude.{◌≡◌, IfOk};
 ghost use Rattle.plain_orders.specs.Spans.{IsAlone};
-ghost use Rattle.plain_programs.specs.Keys.{HasKeys};
+ghost use Rattle.plain_orders.specs.Keys.{HasKeys};
 
 use super::*;
 use plain_orders::{Applied, Entry, Op, Spans, Sum};
@@ -93,7 +93,7 @@ fn a_store_answers_what_was_set_killed_and_incremented(rt: HostRuntime) -> Resul
 }
 
 /// Gives a node a value.
-#[tactic(auto, using(crate::proofs::OrderKeys::put_keys))]
+#[tactic(auto, using(plain_orders::proofs::OrderKeys::put_keys))]
 fn put(alloc: Global, store: &mut PlainStore, node: &[u8]) -> Result<(), AllocError>
     requires { HasKeys store.old.pairs }
     ensures { HasKeys store.new.pairs }
@@ -122,7 +122,7 @@ fn sub(alloc: Global, bytes: &[u8]) -> Result<Option<Sub>, AllocError> {
     }
 }
 
-/// The subscript behind the one that these bytes are, or the first.
+/// The subscript after the one that these bytes are, or the first.
 fn next(
     alloc: Global,
     store: &PlainStore,

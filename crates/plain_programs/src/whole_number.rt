@@ -1,12 +1,10 @@
 ghost use Rattle.std.specs.Prelude.{◌≡◌, ◌<◌, ◌≤◌, ◌^◌, IsTrue, IfOk, length, pos, if◌then◌else◌};
 ghost use Rattle.std.specs.List.{list_all};
-ghost use Rattle.plain_orders.specs.Numbers.{is_digit, is_natural, number_from, whole_of, decimal_text};
+ghost use Rattle.subscript_keys.specs.declared.limits.TheConstants.{DIGIT_LIMIT, NUMBER_LIMIT};
+ghost use Rattle.plain_orders.specs.Numbers.{is_digit, is_natural, number_from, whole_of, integer_text};
 
 use std::alloc::{AllocError, Global};
-use subscript_keys::ValueBytes;
-
-/// The most digits that a whole number of a value may have.
-const DIGITS: usize = 18;
+use subscript_keys::{DIGIT_LIMIT, ValueBytes};
 
 /// Whether all bytes are digits.
 fn are_digits(bytes: &[u8]) -> bool
@@ -15,22 +13,22 @@ fn are_digits(bytes: &[u8]) -> bool
     bytes.iter().all(|b| 48 <= *b && *b <= 57)
 }
 
-/// Whether the bytes write a natural number of at most 18 digits in its canonical spelling.
+/// Whether the bytes write a natural number of at most `DIGIT_LIMIT` digits in its canonical spelling.
 fn is_natural(bytes: &[u8]) -> bool
     ensures { result ≡ is_natural bytes.now }
 {
     let Some((first, rest)) = bytes.split_first() else {
         return false;
     };
-    are_digits(bytes) && bytes.len() <= DIGITS && (*first > 48 || rest.is_empty())
+    are_digits(bytes) && bytes.len() <= DIGIT_LIMIT && (*first > 48 || rest.is_empty())
 }
 
-/// The number that at most 18 digits write.
+/// The number that at most `DIGIT_LIMIT` digits write.
 fn number(digits: &[u8]) -> u64
     requires digits { IsTrue (list_all is_digit digits.now) }
-    requires few { length digits.now ≤ 18 }
+    requires few { length digits.now ≤ DIGIT_LIMIT }
     ensures value { result ≡ number_from 0 digits.now }
-    ensures small { result < 10 ^ 18 }
+    ensures small { result < NUMBER_LIMIT }
 {
     let mut number = 0u64;
     for digit in digits {
@@ -39,7 +37,7 @@ fn number(digits: &[u8]) -> u64
     number
 }
 
-/// The natural number of at most 18 digits of which the bytes are the canonical spelling.
+/// The natural number of at most `DIGIT_LIMIT` digits of which the bytes are the canonical spelling.
 fn natural_of(bytes: &[u8]) -> Option<i64>
     ensures { result ≡ (if is_natural bytes.now then Some (pos (number_from 0 bytes.now)) else None) }
 {
@@ -49,7 +47,7 @@ fn natural_of(bytes: &[u8]) -> Option<i64>
     Some(number(bytes) as i64)
 }
 
-/// The whole number of at most 18 digits of which the bytes are the canonical spelling.
+/// The whole number of at most `DIGIT_LIMIT` digits of which the bytes are the canonical spelling.
 pub fn whole_of(bytes: &[u8]) -> Option<i64>
     ensures value { result ≡ whole_of bytes.now }
 {
@@ -67,7 +65,7 @@ pub fn whole_of(bytes: &[u8]) -> Option<i64>
 
 /// The decimal text of a number as a value.
 pub fn decimal_value(alloc: Global, number: i64) -> Result<ValueBytes, AllocError>
-    ensures { IfOk result (λ value. value ≡ decimal_text number) }
+    ensures { IfOk result (λ value. value ≡ integer_text number) }
 {
     let text = format!(in alloc; "{number}")?;
     Ok(ValueBytes::from_vec(text.into_bytes()))

@@ -7,9 +7,10 @@ use Rattle.plain_orders.specs.declared.entry.Entry.TheVariants.{Epoch, Opened as
 use Rattle.plain_orders.specs.declared.layout.Layout.{Layout}
 use Rattle.plain_orders.specs.Entries.{live, live_from, live_after}
 use Rattle.plain_runs.specs.Plain.{Server, Session, Entered, Hold, app_of}
-use Rattle.plain_runs.specs.OrderRows.{EnterMay, entered, is_sent}
+use Rattle.plain_runs.specs.OrderRows.{EnterMay, entered}
 use Rattle.plain_runs.proofs.Orders.{Each}
 use Rattle.plain_runs.proofs.LockRows.{each_weaker}
+use Rattle.plain_runs.specs.Holds.{is_sent}
 
 abbrev pub told_in : Option Session → Option ℕ
 told_in None = None
@@ -226,10 +227,10 @@ closed_live false b e = e
 pub shut_row : (l : Layout) (s t : Server) (session : ℕ) → sight t ≡ record (sight s) { order = s.order ++ Closed session ∷ [] } → ToldKept l (sight s) → ToldKept l (sight t)
 shut_row l s t session same k = push_row l s t (Closed session) same (λ n e. closed_live (eqb session n) (live s.order n) e) k
 
-pub enter_row : (l : Layout) (s : Server) (x : Entry) → EnterMay s x → s.synced ≤ length s.order → ToldKept l (sight s) → ToldKept l (sight (entered s x))
-enter_row l s (Epoch number) may within k = absurd may
-enter_row l s (Closed session) may within k = absurd may
-enter_row l s (OpenedEntry session app) may within k = open_row l s session app may.place within k
-enter_row l s (Update session w job txn op) may within k = push_row l s (entered s (Update session w job txn op)) (Update session w job txn op) refl (λ n e. e) k
-enter_row l s (Commit session w job txn) may within k = push_row l s (entered s (Commit session w job txn)) (Commit session w job txn) refl (λ n e. e) k
-enter_row l s (Rollback session w job txn) may within k = push_row l s (entered s (Rollback session w job txn)) (Rollback session w job txn) refl (λ n e. e) k
+pub enter_row : (l : Layout) (clock : ℕ) (s : Server) (x : Entry) → EnterMay l clock s x → s.synced ≤ length s.order → ToldKept l (sight s) → ToldKept l (sight (entered s x))
+enter_row l clock s (Epoch number) may within k = absurd may
+enter_row l clock s (Closed session) may within k = absurd may
+enter_row l clock s (OpenedEntry session app) may within k = open_row l s session app may.place within k
+enter_row l clock s (Update session w job txn op) may within k = push_row l s (entered s (Update session w job txn op)) (Update session w job txn op) refl (λ n e. e) k
+enter_row l clock s (Commit session w job txn) may within k = push_row l s (entered s (Commit session w job txn)) (Commit session w job txn) refl (λ n e. e) k
+enter_row l clock s (Rollback session w job txn) may within k = push_row l s (entered s (Rollback session w job txn)) (Rollback session w job txn) refl (λ n e. e) k

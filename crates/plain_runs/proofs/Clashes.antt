@@ -19,15 +19,16 @@ use Rattle.plain_orders.specs.declared.causes.PairEnd.TheVariants.{App as AppEnd
 use Rattle.plain_orders.specs.declared.layout.Layout.{Layout}
 use Rattle.plain_orders.specs.Entries.{live}
 use Rattle.plain_runs.specs.Plain.{Plain, Server, Hold, Given, start}
-use Rattle.plain_runs.specs.OrderRows.{entered, hold_after_crash, hold_after_back, binds}
+use Rattle.plain_runs.specs.OrderRows.{entered}
 use Rattle.plain_runs.specs.EndRows.{broke, lost}
 use Rattle.plain_runs.specs.JobRows.{refused}
-use Rattle.plain_runs.specs.LockRows.{opposes, is_of, change_first, change_last, answered_hold, released_hold, given_up, freed_hold}
+use Rattle.plain_runs.specs.LockRows.{change_first, change_last}
 use Rattle.plain_runs.specs.Step.{MayCome, after}
 use Rattle.plain_runs.specs.Run.{RunFrom, after_all}
 use Rattle.plain_runs.specs.Laws.{NoConflict, server_after}
 use Rattle.plain_runs.proofs.RunLemmas.{at_put}
 use Rattle.plain_runs.proofs.Orders.{Each}
+use Rattle.plain_runs.specs.Holds.{hold_after_crash, hold_after_back, binds, opposes, is_of, answered_hold, released_hold, given_up, freed_hold}
 
 -- the first is in the way of the second
 pub record Clash (h k : Hold) : Type 0 where

@@ -3,7 +3,7 @@ use Rattle.plain_orders.specs.declared.act.Act.TheVariants.{Opened, Enter, Synce
 use Rattle.plain_orders.specs.declared.entry.Entry.TheVariants.{Epoch, Opened as OpenEntry, Closed, Update, Commit, Rollback}
 use Rattle.plain_orders.specs.declared.op.Op.TheVariants.{Set, Kill, Add}
 use Rattle.plain_orders.specs.declared.item.Item.TheVariants.{Op, Commit as CommitItem, Rollback as RollbackItem}
-use Rattle.plain_orders.specs.declared.question.Question.TheVariants.{Get, Data, Next}
+use Rattle.plain_orders.specs.declared.question.Question.TheVariants.{Get, Shape, Next}
 use Rattle.plain_orders.specs.declared.causes.ShutCause.TheVariants.{Trouble, Replaced, Round}
 use Rattle.plain_orders.specs.declared.causes.PairEnd.TheVariants.{App as AppEnd, Server as ServerEnd}
 use Rattle.plain_orders.specs.declared.causes.Loss.TheVariants.{Reset, Expired, NoWay}
@@ -37,7 +37,7 @@ none_is_left_out l p (Shut d session (Trouble time)) h = record { is_live = h.0;
 none_is_left_out l p (Shut d session Replaced) h = record { is_live = h.0 }
 none_is_left_out l p (Shut d session (Round time)) h = record { is_live = h.0; now = h.1.0; recovering = h.1.1.0; over = h.1.1.1.0 }
 none_is_left_out l p (Release d session) h = record { closed = h.0 }
-none_is_left_out l p (Met app d session) h = (h.0, record { place = h.1.0; synced = h.1.1.0; entered = h.1.1.1.0; behind = h.1.1.1.1.0; fresh = h.1.1.1.1.1.0; none = h.1.1.1.1.1.1.0 })
+none_is_left_out l p (Met app d session) h = (h.0, record { place = h.1.0; synced = h.1.1.0; entered = h.1.1.1.0; not_lost = h.1.1.1.1.0; fresh = h.1.1.1.1.1.0; none = h.1.1.1.1.1.1.0 })
 none_is_left_out l p (Told app d session epoch kept) h = (h.0, record { its = h.1.0; later = h.1.1.0; place = h.1.1.1.0 })
 none_is_left_out l p (Back d) h = record { recovering = h.0; told = h.1.0; counted = h.1.1.0; closes = h.1.1.1.0 }
 none_is_left_out l p (Crash d kept) h = record { opened = h.0; no_less = h.1.0; within = h.1.1.0; low = h.1.1.1.0 }
@@ -47,7 +47,7 @@ none_is_left_out l p (Issue job line d w (Op (Add key amount))) h = (record { kn
 none_is_left_out l p (Issue job line d w (CommitItem txn)) h = (record { known = h.0; alive = h.1.0; free = h.1.1.0 }, record { there = h.1.1.1.0; unbroken = h.1.1.1.1.0; next = h.1.1.1.1.1.0; its = record { positive = h.1.1.1.1.1.1.0; used = h.1.1.1.1.1.1.1.0; unended = h.1.1.1.1.1.1.1.1.0 } })
 none_is_left_out l p (Issue job line d w (RollbackItem txn)) h = (record { known = h.0; alive = h.1.0; free = h.1.1.0 }, record { there = h.1.1.1.0; unbroken = h.1.1.1.1.0; next = h.1.1.1.1.1.0; its = record { positive = h.1.1.1.1.1.1.0; used = h.1.1.1.1.1.1.1.0; unended = h.1.1.1.1.1.1.1.1.0 } })
 none_is_left_out l p (Read job line d at via (Get key value)) h = (record { known = h.0; alive = h.1.0; free = h.1.1.0 }, record { there = h.1.1.1.0; no_less = h.1.1.1.1.0; within = h.1.1.1.1.1.0; answer = record { result = h.1.1.1.1.1.1.0; by = h.1.1.1.1.1.1.1.0; node = record { is_key = h.1.1.1.1.1.1.1.1.0; within = h.1.1.1.1.1.1.1.1.1.0 } } })
-none_is_left_out l p (Read job line d at via (Data key code)) h = (record { known = h.0; alive = h.1.0; free = h.1.1.0 }, record { there = h.1.1.1.0; no_less = h.1.1.1.1.0; within = h.1.1.1.1.1.0; answer = record { result = h.1.1.1.1.1.1.0; by = h.1.1.1.1.1.1.1.0; entered = h.1.1.1.1.1.1.1.1.0; node = record { is_key = h.1.1.1.1.1.1.1.1.1.0; within = h.1.1.1.1.1.1.1.1.1.1.0 } } })
+none_is_left_out l p (Read job line d at via (Shape key code)) h = (record { known = h.0; alive = h.1.0; free = h.1.1.0 }, record { there = h.1.1.1.0; no_less = h.1.1.1.1.0; within = h.1.1.1.1.1.0; answer = record { result = h.1.1.1.1.1.1.0; by = h.1.1.1.1.1.1.1.0; entered = h.1.1.1.1.1.1.1.1.0; node = record { is_key = h.1.1.1.1.1.1.1.1.1.0; within = h.1.1.1.1.1.1.1.1.1.1.0 } } })
 none_is_left_out l p (Read job line d at via (Next parent sub found)) h = (record { known = h.0; alive = h.1.0; free = h.1.1.0 }, record { there = h.1.1.1.0; no_less = h.1.1.1.1.0; within = h.1.1.1.1.1.0; answer = record { result = h.1.1.1.1.1.1.0; by = h.1.1.1.1.1.1.1.0; entered = h.1.1.1.1.1.1.1.1.0; node = h.1.1.1.1.1.1.1.1.1.0; within = h.1.1.1.1.1.1.1.1.1.1.0 } })
 none_is_left_out l p (Grant d session job mode key at) h = record { is_live = h.0; up = h.1.0; here = h.1.1.0; free = h.1.1.1.0; node = record { is_key = h.1.1.1.1.0; within = h.1.1.1.1.1.0 } }
 none_is_left_out l p (Granted job line d at) h = (record { known = h.0; alive = h.1.0; free = h.1.1.0 }, record { session = h.1.1.1.0; sent = h.1.1.1.1.0; synced = h.1.1.1.1.1.0 })

@@ -24,7 +24,7 @@ use Rattle.plain_runs.specs.Plain.{issued_in, Plain, Server, Session, Hold, Know
 use Rattle.plain_runs.specs.OrderRows.{entered, crashed, came_back}
 use Rattle.plain_runs.specs.EndRows.{broke, lost, told_of, begun_by, knows_noway}
 use Rattle.plain_runs.specs.JobRows.{is_answered_item, refused, told_loss, txn_of, acts, sees, sees_up}
-use Rattle.plain_runs.specs.LockRows.{is_kept, grants, gives_up, quits, releases, frees}
+use Rattle.plain_runs.specs.LockRows.{grants, gives_up, quits, releases, frees}
 use Rattle.plain_runs.specs.Step.{MayCome, after}
 use Rattle.plain_runs.specs.Run.{IsRun, RunFrom, after_all}
 use Rattle.plain_runs.specs.Laws.{server_after}
@@ -38,6 +38,7 @@ use Rattle.plain_runs.proofs.HoldRows.{issued_of}
 use Rattle.plain_runs.proofs.LockRows.{LocksKept, HoldOf, locks, each_weaker, each_map, each_push, each_first, each_last}
 use Rattle.plain_runs.proofs.LockLaws.{row_locks, start_locks}
 use Rattle.plain_runs.proofs.Deeds.{DeedsKept, DeedSteps, OfAnother, OfLayout, deeds, act_steps, granted_steps, issue_steps, met_steps, lose_steps, know_steps, pair_steps, hold_steps, same_holders}
+use Rattle.plain_runs.specs.Holds.{is_kept}
 
 deeds_same : (l : Layout) (s : Server) → DeedSteps l s s
 deeds_same l s k = k

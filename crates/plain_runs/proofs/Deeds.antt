@@ -8,15 +8,15 @@ use Rattle.plain_orders.specs.declared.layout.Layout.{Layout}
 use Rattle.plain_orders.specs.declared.refused.ReasonName.{ReasonName}
 use Rattle.plain_orders.specs.Own.{Issued}
 use Rattle.plain_runs.specs.Plain.{Server, Session, Pair, Hold, Known, put, app_of, runs_on, pair_session}
-use Rattle.plain_runs.specs.OrderRows.{is_sent}
 use Rattle.plain_runs.specs.EndRows.{MetMay, met_by, without_session, knows_loss}
 use Rattle.plain_runs.specs.JobRows.{issues}
-use Rattle.plain_runs.specs.LockRows.{is_of, is_sent_at, answered_hold, granted}
+use Rattle.plain_runs.specs.LockRows.{granted}
 use Rattle.plain_runs.proofs.RunLemmas.{at_put}
 use Rattle.plain_runs.proofs.Orders.{Each, each-append}
 use Rattle.plain_runs.proofs.Lists.{both_ways}
 use Rattle.plain_runs.proofs.HoldRows.{issued_of, of_facts}
 use Rattle.plain_runs.proofs.LockRows.{HoldOf, each_first, each_weaker, locks}
+use Rattle.plain_runs.specs.Holds.{is_sent, is_of, is_sent_at, answered_hold}
 
 -- what these facts see of a server
 pub record Deeds : Type 0 where

@@ -47,7 +47,7 @@ refused_epochs p j (Network d state reason) e = at_put EpochSteps p.server_at d 
 
 row_epochs : (l : Layout) (p : Plain) (a : Act) → MayCome l p a → ((d : ℕ) → OrdersKept (facet (p.server_at d))) → (e : ℕ) → EpochSteps (p.server_at e) ((after l p a).server_at e)
 row_epochs l p (Opened d entries) may os e = at_put EpochSteps p.server_at d _ epochs_same (opened_epochs p.clock l.times.round (p.server_at d) entries may (os d)) e
-row_epochs l p (Enter d x) may os e = at_put EpochSteps p.server_at d _ epochs_same (enter_epochs (p.server_at d) x may (os d).within) e
+row_epochs l p (Enter d x) may os e = at_put EpochSteps p.server_at d _ epochs_same (enter_epochs l p.clock (p.server_at d) x may (os d).within) e
 row_epochs l p (Synced d n) may os e = at_put EpochSteps p.server_at d _ epochs_same (saved_epochs (p.server_at d) n may) e
 row_epochs l p (Shut d session cause) may os e = at_put EpochSteps p.server_at d _ epochs_same (shut_epochs (p.server_at d) session (os d).within) e
 row_epochs l p (Release d session) may os e = at_put EpochSteps p.server_at d _ epochs_same (epochs_same (p.server_at d)) e

@@ -5,13 +5,15 @@ use Rattle.std.proofs.lemmas.Bool.{ltb-true}
 use Rattle.std.proofs.lemmas.List.{append-nil, get_or_append_left, length-take-le, take-append-le, take_all, take_at}
 use Rattle.plain_orders.specs.declared.entry.Entry.{Entry}
 use Rattle.plain_orders.specs.declared.entry.Entry.TheVariants.{Epoch, Opened as OpenedEntry, Closed, Update, Commit, Rollback}
+use Rattle.plain_orders.specs.declared.layout.Layout.{Layout}
 use Rattle.plain_orders.specs.Entries.{epoch_after, epoch_from, last_epoch}
 use Rattle.plain_orders.specs.Ordered.{MayFollow, OrderedFrom}
 use Rattle.plain_runs.specs.Plain.{Server}
 use Rattle.plain_runs.specs.OrderRows.{CrashMay, EnterMay, OpenedMay, SyncedMay, crashed, entered, opened_with}
-use Rattle.plain_runs.specs.EndRows.{place_of_epoch, shut}
+use Rattle.plain_runs.specs.EndRows.{shut}
 use Rattle.plain_runs.proofs.Orders.{Facet, OrdersKept, facet}
 use Rattle.plain_runs.proofs.ToldItems.{before_stays, here_or_before, last_nth, nth}
+use Rattle.plain_orders.specs.Sessions.{place_of_epoch}
 
 -- an Epoch is no lower than this number
 abbrev RiseAt : ℕ → Entry → Type 0
@@ -121,13 +123,13 @@ push_epochs s t e same stays high within k = subst EpochsKept (sym same) (record
     lasts j low (inl now) = old_last j low now (here_or_before s.past s.order j low)
     lasts j low (inr under) = ap last_epoch (before_stays s.past s.order new j under)
 
-pub enter_epochs : (s : Server) (x : Entry) → EnterMay s x → s.synced ≤ length s.order → EpochSteps s (entered s x)
-enter_epochs s (Epoch number) may within = absurd may
-enter_epochs s (Closed session) may within = absurd may
-enter_epochs s (OpenedEntry session app) may within = push_epochs s (entered s (OpenedEntry session app)) (OpenedEntry session app) refl (λ m. refl) (λ m. tt) within
-enter_epochs s (Update session w job txn op) may within = push_epochs s (entered s (Update session w job txn op)) (Update session w job txn op) refl (λ m. refl) (λ m. tt) within
-enter_epochs s (Commit session w job txn) may within = push_epochs s (entered s (Commit session w job txn)) (Commit session w job txn) refl (λ m. refl) (λ m. tt) within
-enter_epochs s (Rollback session w job txn) may within = push_epochs s (entered s (Rollback session w job txn)) (Rollback session w job txn) refl (λ m. refl) (λ m. tt) within
+pub enter_epochs : (l : Layout) (clock : ℕ) (s : Server) (x : Entry) → EnterMay l clock s x → s.synced ≤ length s.order → EpochSteps s (entered s x)
+enter_epochs l clock s (Epoch number) may within = absurd may
+enter_epochs l clock s (Closed session) may within = absurd may
+enter_epochs l clock s (OpenedEntry session app) may within = push_epochs s (entered s (OpenedEntry session app)) (OpenedEntry session app) refl (λ m. refl) (λ m. tt) within
+enter_epochs l clock s (Update session w job txn op) may within = push_epochs s (entered s (Update session w job txn op)) (Update session w job txn op) refl (λ m. refl) (λ m. tt) within
+enter_epochs l clock s (Commit session w job txn) may within = push_epochs s (entered s (Commit session w job txn)) (Commit session w job txn) refl (λ m. refl) (λ m. tt) within
+enter_epochs l clock s (Rollback session w job txn) may within = push_epochs s (entered s (Rollback session w job txn)) (Rollback session w job txn) refl (λ m. refl) (λ m. tt) within
 
 pub shut_epochs : (s : Server) (session : ℕ) → s.synced ≤ length s.order → EpochSteps s (shut s session)
 shut_epochs s session within = push_epochs s (shut s session) (Closed session) refl (λ m. refl) (λ m. tt) within

@@ -18,7 +18,7 @@ use Rattle.plain_runs.specs.OrderRows.{entered}
 use Rattle.plain_runs.specs.EndRows.{broke, lost, knows_loss, knows_noway}
 use Rattle.plain_runs.specs.JobRows.{refused}
 use Rattle.plain_runs.specs.Step.{MayCome, after}
-use Rattle.plain_runs.specs.Laws.{Extended, Framed, SeenNeverFalls, server_of, may_fall}
+use Rattle.plain_runs.specs.Laws.{Extended, Framed, SeenNeverFalls, act_server, may_fall}
 use Rattle.plain_runs.proofs.RunLemmas.{run_more, after_all-more, at_put}
 
 pub extended : Extended
@@ -28,7 +28,7 @@ extended l acts a run may = (run_more l start acts a run may, after_all-more l s
 put_other : {X : Type 0} (f : ℕ → X) (k : ℕ) (x : X) (d : ℕ) → Some k ≢ Some d → put f k x d ≡ f d
 put_other f k x d other = ap (λ (b : Bool). if b then x else f d) (ne_eqb d k (λ e. other (ap Some (sym e))))
 
-framed_refusal : (p : Plain) (j : ℕ) (r : Refusal) (l line : ℕ) (d : ℕ) → server_of (Refused j line r) ≢ Some d → (refused p j r).server_at d ≡ p.server_at d
+framed_refusal : (p : Plain) (j : ℕ) (r : Refusal) (l line : ℕ) (d : ℕ) → act_server (Refused j line r) ≢ Some d → (refused p j r).server_at d ≡ p.server_at d
 framed_refusal p j NoTransaction l line d other = refl
 framed_refusal p j TooDeep l line d other = refl
 framed_refusal p j RollbackOnly l line d other = refl
@@ -78,9 +78,6 @@ record Rises (s t : Server) : Type 0 where
 
 rises_same : (s : Server) → Rises s s
 rises_same s = record { low = λ j. omega arith }
-
-NoLess : Known → Known → Type 0
-NoLess k l = k.seen ≤ l.seen
 
 known_rises : (f : ℕ → Known) (j : ℕ) (k : Known) → (f j).seen ≤ k.seen → (i : ℕ) → (f i).seen ≤ (put f j k i).seen
 known_rises f j k low i = go (eqb i j) refl

@@ -11,11 +11,10 @@ use Rattle.plain_orders.specs.Entries.{live, count, closes, closed_by}
 use Rattle.plain_orders.specs.Own.{Issued}
 use Rattle.plain_runs.specs.Plain.{Session, Hold, Given}
 use Rattle.plain_runs.specs.Items.{all_stand}
-use Rattle.plain_runs.specs.OrderRows.{is_sent, binds, hold_after_crash, hold_after_back}
-use Rattle.plain_runs.specs.LockRows.{is_of, is_lock, is_sent_at, given_hold, given_before, is_same_given, answered_hold, released_hold, given_up, freed_hold}
-use Rattle.plain_runs.specs.Laws.{touched}
+use Rattle.plain_runs.specs.LockRows.{given_before}
 use Rattle.plain_runs.proofs.Numbers.{InOrder, has_counted}
 use Rattle.plain_runs.proofs.Lists.{both_ways, any_front, any_take, any_wider, any_grown, opens, is_open, opened_closes, stand_more, stand_all, item_more}
+use Rattle.plain_runs.specs.Holds.{is_sent, binds, hold_after_crash, hold_after_back, is_of, is_lock, is_sent_at, given_hold, is_same_given, answered_hold, released_hold, given_up, freed_hold, touched}
 
 abbrev pub issued_of : Option Session → List Issued
 issued_of o = (unwrap_or o (record { app = 0; issued = []; told = 0 })).issued

@@ -20,7 +20,7 @@ use Rattle.plain_orders.specs.declared.causes.PairEnd.{PairEnd}
 use Rattle.plain_orders.specs.declared.causes.PairEnd.TheVariants.{App as AppEnd, Server as ServerEnd}
 use Rattle.plain_orders.specs.declared.layout.Layout.{Layout}
 use Rattle.plain_runs.specs.Plain.{Plain, Server, Session, Entered, start, app_of, with_session, pair_session}
-use Rattle.plain_runs.specs.Items.{entry_of, is_item_of, w_of}
+use Rattle.plain_runs.specs.Items.{entry_of}
 use Rattle.plain_runs.specs.OrderRows.{OpenedMay, EnterMay, CrashMay, entered, opened_with, crashed}
 use Rattle.plain_runs.specs.EndRows.{MetMay, broke, lost, shut, met_by, told_of, begun_by, new_session, since_loss, without_session}
 use Rattle.plain_runs.specs.JobRows.{refused, issues, txn_of}
@@ -33,8 +33,10 @@ use Rattle.plain_runs.proofs.OrderLaws.{shut_live}
 use Rattle.plain_runs.proofs.Lists.{both_ways, opens, is_open, live_opens}
 use Rattle.plain_runs.proofs.HoldRows.{issued_of}
 use Rattle.plain_runs.proofs.LockRows.{each_at}
+use Rattle.plain_orders.specs.ItemEntries.{is_item_of, w_of}
+use Rattle.plain_orders.proofs.Places.{get_append}
 
--- where an entry may stand, counted from 0: a session's items behind its Open, which stands at its number; no Close is of session 0
+-- where an entry may stand, counted from 0: a session's items after its Open, which stands at its number; no Close is of session 0
 abbrev pub PlacedAt : ℕ → Entry → Type 0
 PlacedAt k (Epoch number) = Unit {0}
 PlacedAt k (OpenedEntry session app) = session ≡ k + 1
@@ -47,14 +49,14 @@ abbrev pub PlacedFrom : ℕ → List Entry → Type 0
 PlacedFrom k [] = Unit {0}
 PlacedFrom k (e ∷ es) = PlacedAt k e × PlacedFrom (k + 1) es
 
-placed-append : (k : ℕ) (xs ys : List Entry) → PlacedFrom k xs → PlacedFrom (k + length xs) ys → PlacedFrom k (xs ++ ys)
+pub placed-append : (k : ℕ) (xs ys : List Entry) → PlacedFrom k xs → PlacedFrom (k + length xs) ys → PlacedFrom k (xs ++ ys)
 placed-append k [] ys p q = subst (λ n. PlacedFrom n ys) (omega arith) q
 placed-append k (x ∷ xs) ys p q = (p.0, placed-append (k + 1) xs ys p.1 (subst (λ n. PlacedFrom n ys) (omega arith) q))
 
-placed_push : (es : List Entry) (e : Entry) → PlacedFrom 0 es → PlacedAt (length es) e → PlacedFrom 0 (es ++ e ∷ [])
+pub placed_push : (es : List Entry) (e : Entry) → PlacedFrom 0 es → PlacedAt (length es) e → PlacedFrom 0 (es ++ e ∷ [])
 placed_push es e p q = placed-append 0 es (e ∷ []) p (subst (λ n. PlacedAt n e) (omega arith) q, tt)
 
-placed-take : (k n : ℕ) (xs : List Entry) → PlacedFrom k xs → PlacedFrom k (take n xs)
+pub placed-take : (k n : ℕ) (xs : List Entry) → PlacedFrom k xs → PlacedFrom k (take n xs)
 placed-take k zero xs p = tt
 placed-take k (suc n) [] p = tt
 placed-take k (suc n) (x ∷ xs) p = (p.0, placed-take (k + 1) n xs p.1)
@@ -67,7 +69,7 @@ open_here k (Update session w job txn op) s p o = absurd (cc (o))
 open_here k (Commit session w job txn) s p o = absurd (cc (o))
 open_here k (Rollback session w job txn) s p o = absurd (cc (o))
 
-opens_low : (k : ℕ) (es : List Entry) (s : ℕ) → PlacedFrom k es → opens es s ≡ true → s ≤ k + length es
+pub opens_low : (k : ℕ) (es : List Entry) (s : ℕ) → PlacedFrom k es → opens es s ≡ true → s ≤ k + length es
 opens_low k [] s p o = absurd (cc (o))
 opens_low k (x ∷ es) s p o = go (is_open s x) refl (opens_low (k + 1) es s p.1) o
   where
@@ -83,13 +85,13 @@ opens_high k (x ∷ es) s p o = go (is_open s x) refl (opens_high (k + 1) es s p
     go true e f h = omega (arith, open_here k x s p.0 e)
     go false e f h = omega (arith, f h)
 
-live_high : (es : List Entry) (s : ℕ) → PlacedFrom 0 es → live es s ≡ true → 0 < s
+pub live_high : (es : List Entry) (s : ℕ) → PlacedFrom 0 es → live es s ≡ true → 0 < s
 live_high es s p l = opens_high 0 es s p (live_opens es s l)
 
 pub live_low : (es : List Entry) (s : ℕ) → PlacedFrom 0 es → live es s ≡ true → s ≤ length es
 live_low es s p l = omega (arith, opens_low 0 es s p (live_opens es s l))
 
-item_here : (k : ℕ) (e : Entry) (n : ℕ) → PlacedAt k e → is_item_of n e ≡ true → n ≤ k
+pub item_here : (k : ℕ) (e : Entry) (n : ℕ) → PlacedAt k e → is_item_of n e ≡ true → n ≤ k
 item_here k (Epoch number) n p i = absurd (cc (i))
 item_here k (OpenedEntry session app) n p i = absurd (cc (i))
 item_here k (Closed session) n p i = absurd (cc (i))
@@ -109,7 +111,7 @@ placed_next before (Update session w job txn op) p m = live_low before session p
 placed_next before (Commit session w job txn) p m = live_low before session p m.is_live
 placed_next before (Rollback session w job txn) p m = live_low before session p m.is_live
 
-placed_from : (before es : List Entry) → PlacedFrom 0 before → OrderedFrom before es → PlacedFrom 0 (before ++ es)
+pub placed_from : (before es : List Entry) → PlacedFrom 0 before → OrderedFrom before es → PlacedFrom 0 (before ++ es)
 placed_from before [] p o = subst (PlacedFrom 0) (sym (append-nil before)) p
 placed_from before (e ∷ es) p o = subst (PlacedFrom 0) (append_assoc before (e ∷ []) es) (placed_from (before ++ e ∷ []) es (placed_push before e p (placed_next before e p o.0)) o.1)
 
@@ -121,7 +123,7 @@ each_both : {X : Type 0} (P Q R : X → Type 0) → ((x : X) → P x → Q x →
 each_both P Q R f [] p q = tt
 each_both P Q R f (x ∷ xs) p q = (f x p.0 q.0, each_both P Q R f xs p.1 q.1)
 
-each_map : {X : Type 0} (P R : X → Type 0) → ((x : X) → P x → R x) → (xs : List X) → Each P xs → Each R xs
+pub each_map : {X : Type 0} (P R : X → Type 0) → ((x : X) → P x → R x) → (xs : List X) → Each P xs → Each R xs
 each_map P R f [] p = tt
 each_map P R f (x ∷ xs) p = (f x p.0, each_map P R f xs p.1)
 
@@ -187,17 +189,17 @@ open_steps s session app opened place k = record {
     go e old low n true q ent i = absurd (omega (arith, low n i, eqb-true n session q, place))
     go e old low n false q ent i = old n (subst (λ (b : Bool). is_some (if b then Some (record { app = app; in_order = length s.past; lost_since = false }) else s.entered_at n) ≡ true) q ent) i
 
-enter_steps : (s : Server) (x : Entry) → EnterMay s x → IssuedSteps s (entered s x)
-enter_steps s (Epoch number) may = absurd may
-enter_steps s (Closed session) may = absurd may
-enter_steps s (OpenedEntry session app) may = open_steps s session app may.opened may.place
-enter_steps s (Update session w job txn op) may =
+enter_steps : (l : Layout) (clock : ℕ) (s : Server) (x : Entry) → EnterMay l clock s x → IssuedSteps s (entered s x)
+enter_steps l clock s (Epoch number) may = absurd may
+enter_steps l clock s (Closed session) may = absurd may
+enter_steps l clock s (OpenedEntry session app) may = open_steps s session app may.opened may.place
+enter_steps l clock s (Update session w job txn op) may =
     push s (entered s (Update session w job txn op)) (Update session w job txn op) refl (λ k. live_low s.order session k.placed may.is_live)
     (λ n ent i. subst (λ m. StandsAsIssued (issued_of (s.session_at m)) m (Update session w job txn op)) (eqb-true session n i) may.issued)
-enter_steps s (Commit session w job txn) may =
+enter_steps l clock s (Commit session w job txn) may =
     push s (entered s (Commit session w job txn)) (Commit session w job txn) refl (λ k. live_low s.order session k.placed may.is_live)
     (λ n ent i. subst (λ m. StandsAsIssued (issued_of (s.session_at m)) m (Commit session w job txn)) (eqb-true session n i) may.issued)
-enter_steps s (Rollback session w job txn) may =
+enter_steps l clock s (Rollback session w job txn) may =
     push s (entered s (Rollback session w job txn)) (Rollback session w job txn) refl (λ k. live_low s.order session k.placed may.is_live)
     (λ n ent i. subst (λ m. StandsAsIssued (issued_of (s.session_at m)) m (Rollback session w job txn)) (eqb-true session n i) may.issued)
 
@@ -209,17 +211,12 @@ crash_steps clock round s kept may k = record {
   as_issued = each-append (AsIssued s.session_at s.entered_at) (take kept s.order) _ (each-take (AsIssued s.session_at s.entered_at) kept s.order k.as_issued) ((λ n ent i. absurd (cc (i))), tt);
 }
 
-get_more : (xs ys : List Issued) (i : ℕ) (x : Issued) → slice_get xs i ≡ Some x → slice_get (xs ++ ys) i ≡ Some x
-get_more [] ys i x e = absurd (cc (e))
-get_more (y ∷ xs) ys zero x e = e
-get_more (y ∷ xs) ys (suc i) x e = get_more xs ys i x e
-
 as_more : (xs ys : List Issued) (n : ℕ) (e : Entry) → StandsAsIssued xs n e → StandsAsIssued (xs ++ ys) n e
 as_more xs ys n e h = go (slice_get xs (w_of e - 1)) refl h
   where
     go : (o : Option Issued) → slice_get xs (w_of e - 1) ≡ o → option_map (entry_of n (w_of e)) o ≡ Some e → option_map (entry_of n (w_of e)) (slice_get (xs ++ ys) (w_of e - 1)) ≡ Some e
     go None is h = absurd (cc (h))
-    go (Some x) is h = ap (option_map (entry_of n (w_of e))) (get_more xs ys (w_of e - 1) x is) ∙ h
+    go (Some x) is h = ap (option_map (entry_of n (w_of e))) (get_append xs ys x (w_of e - 1) is) ∙ h
 
 abbrev Grown : Option Session → Option Session → Type 0
 Grown o r = (more : List Issued) × (issued_of r ≡ issued_of o ++ more)
@@ -299,7 +296,7 @@ refused_steps p j (Network d state reason) e = at_put IssuedSteps p.server_at d 
 
 pub row_steps : (l : Layout) (p : Plain) (a : Act) → MayCome l p a → (e : ℕ) → IssuedSteps (p.server_at e) ((after l p a).server_at e)
 row_steps l p (Opened d entries) may e = at_put IssuedSteps p.server_at d _ issued_same (opened_steps p.clock l.times.round (p.server_at d) entries may) e
-row_steps l p (Enter d x) may e = at_put IssuedSteps p.server_at d _ issued_same (enter_steps (p.server_at d) x may) e
+row_steps l p (Enter d x) may e = at_put IssuedSteps p.server_at d _ issued_same (enter_steps l p.clock (p.server_at d) x may) e
 row_steps l p (Synced d n) may e = at_put IssuedSteps p.server_at d _ issued_same (issued_same (p.server_at d)) e
 row_steps l p (Shut d session cause) may e = at_put IssuedSteps p.server_at d _ issued_same (push (p.server_at d) (shut (p.server_at d) session) (Closed session) refl (λ k. live_high (p.server_at d).order session k.placed (shut_live l p (p.server_at d) session cause may)) (λ n ent i. absurd (cc (i)))) e
 row_steps l p (Release d session) may e = at_put IssuedSteps p.server_at d _ issued_same (issued_same (p.server_at d)) e

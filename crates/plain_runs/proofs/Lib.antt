@@ -1,18 +1,5 @@
 pub mod RunLemmas
-mod FirstRun
 mod Frame
-mod LongKeys
-mod FrontRuns
-mod LockFrontRuns
-mod JobFrontRuns
-mod ChangeFrontRuns
-mod EntryCases
-mod OrderCases
-mod EndCases
-mod LockCases
-mod JobCases
-mod AnswerCases
-mod ChangeCases
 mod ConditionLaws
 pub mod Numbers
 pub mod Orders
@@ -38,3 +25,6 @@ mod EpochLaws
 pub mod MetOnce
 mod MetLaws
 mod OpenTransactions
+pub mod BegunItems
+pub mod Ordered
+pub mod PairReads

@@ -8,8 +8,10 @@ use Rattle.plain_orders.specs.declared.entry.Entry.TheVariants.{Epoch, Opened, C
 use Rattle.plain_orders.specs.Entries.{live, live_from, closes}
 use Rattle.plain_orders.specs.Own.{Issued}
 use Rattle.plain_runs.specs.Plain.{until}
-use Rattle.plain_runs.specs.Items.{all_stand, has_item, is_item_at}
-use Rattle.plain_runs.specs.OrderRows.{opened_sessions, live_sessions, due_of}
+use Rattle.plain_runs.specs.Items.{all_stand}
+use Rattle.plain_runs.specs.OrderRows.{due_of}
+use Rattle.plain_orders.specs.ItemEntries.{has_item, is_item_at}
+use Rattle.plain_orders.specs.Sessions.{opened_sessions, live_sessions}
 
 pub both_ways : (b : Bool) → b ≡ true → b ≡ false → ⊥
 both_ways b t f = absurd (cc (t, f))

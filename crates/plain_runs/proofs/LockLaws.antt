@@ -50,7 +50,7 @@ refused_steps p j (Network d state reason) e = at_put LockSteps p.server_at d _ 
 
 pub row_locks : (l : Layout) (p : Plain) (a : Act) → MayCome l p a → ((d : ℕ) → PairsKept (p.server_at d).session_at (p.server_at d).pair_at) → (e : ℕ) → LockSteps (p.server_at e) ((after l p a).server_at e)
 row_locks l p (Opened d entries) may pairs e = at_put LockSteps p.server_at d _ steps_same (opened_steps p.clock l.times.round (p.server_at d) entries may) e
-row_locks l p (Enter d x) may pairs e = at_put LockSteps p.server_at d _ steps_same (enter_steps (p.server_at d) x may) e
+row_locks l p (Enter d x) may pairs e = at_put LockSteps p.server_at d _ steps_same (enter_steps l p.clock (p.server_at d) x may) e
 row_locks l p (Synced d n) may pairs e = at_put LockSteps p.server_at d _ steps_same (saved_steps (p.server_at d) n may) e
 row_locks l p (Shut d session cause) may pairs e = at_put LockSteps p.server_at d _ steps_same (entry_steps (p.server_at d) (shut (p.server_at d) session) (Closed session) refl) e
 row_locks l p (Release d session) may pairs e = at_put LockSteps p.server_at d _ steps_same (release_steps (p.server_at d) session may) e

@@ -14,13 +14,14 @@ use Rattle.plain_orders.specs.declared.entry.Entry.TheVariants.{Epoch, Opened as
 use Rattle.plain_orders.specs.declared.layout.Layout.{Layout}
 use Rattle.plain_orders.specs.Entries.{live, count, last_epoch}
 use Rattle.plain_runs.specs.Plain.{Server, Session, Hold, Given, Quitted, with_session, pair_session, issued_in}
-use Rattle.plain_runs.specs.OrderRows.{OpenedMay, EnterMay, SyncedMay, CrashMay, BackMay, entered, opened_with, crashed, came_back, saved, due_of, is_sent, hold_after_crash, hold_after_back}
+use Rattle.plain_runs.specs.OrderRows.{OpenedMay, EnterMay, SyncedMay, CrashMay, BackMay, entered, opened_with, crashed, came_back, saved, due_of}
 use Rattle.plain_runs.specs.EndRows.{MetMay, met_by, new_session}
-use Rattle.plain_runs.specs.LockRows.{GrantMay, ReleaseMay, FreeMay, is_quit, is_kept, is_asked, is_of, is_lock, is_sent_at, first_quit, drop_quit, change_first, change_last, new_hold, given_now, answered_hold, released_hold, given_up, freed_hold, first_given, grants, granted, releases, gives_up, quits, frees}
+use Rattle.plain_runs.specs.LockRows.{GrantMay, ReleaseMay, FreeMay, is_quit, first_quit, drop_quit, change_first, change_last, given_now, first_given, grants, granted, releases, gives_up, quits, frees}
 use Rattle.plain_runs.proofs.RunLemmas.{at_put}
 use Rattle.plain_runs.proofs.Orders.{Each, facet, OrdersKept, order_in_order}
 use Rattle.plain_runs.proofs.Lists.{both_ways, any_take, any_wider, opens, is_open, live_opens, live_has, none_live}
 use Rattle.plain_runs.proofs.HoldRows.{HoldKept, IssuedGrows, issued_of, grow_hold, sent_facts, of_facts, answer_hold, give_hold, free_hold, back_hold, release_hold, crash_hold}
+use Rattle.plain_runs.specs.Holds.{is_sent, hold_after_crash, hold_after_back, is_kept, is_asked, is_of, is_lock, is_sent_at, new_hold, answered_hold, released_hold, given_up, freed_hold}
 
 -- lists of holds, changed one by one
 pub each_map : (P Q : Hold → Type 0) (f : Hold → Hold) → ((h : Hold) → P h → Q (f h)) → (hs : List Hold) → Each P hs → Each Q (map f hs)
@@ -146,13 +147,13 @@ pub entry_steps : (s t : Server) (e : Entry) → locks t ≡ record (locks s) { 
 entry_steps s t e same o k =
     subst LocksKept (sym same) (grown (locks s) (record (locks s) { order = s.order ++ e ∷ [] }) (e ∷ []) refl (omega arith) (λ x. x) (λ n. issued_same (s.session_at n)) refl refl (λ x. x) (λ n m. inl m) o.within k)
 
-pub enter_steps : (s : Server) (x : Entry) → EnterMay s x → LockSteps s (entered s x)
-enter_steps s (Epoch number) may = absurd may
-enter_steps s (Closed session) may = absurd may
-enter_steps s (OpenedEntry session app) may = entry_steps s (entered s (OpenedEntry session app)) (OpenedEntry session app) refl
-enter_steps s (Update session w job txn op) may = entry_steps s (entered s (Update session w job txn op)) (Update session w job txn op) refl
-enter_steps s (Commit session w job txn) may = entry_steps s (entered s (Commit session w job txn)) (Commit session w job txn) refl
-enter_steps s (Rollback session w job txn) may = entry_steps s (entered s (Rollback session w job txn)) (Rollback session w job txn) refl
+pub enter_steps : (l : Layout) (clock : ℕ) (s : Server) (x : Entry) → EnterMay l clock s x → LockSteps s (entered s x)
+enter_steps l clock s (Epoch number) may = absurd may
+enter_steps l clock s (Closed session) may = absurd may
+enter_steps l clock s (OpenedEntry session app) may = entry_steps s (entered s (OpenedEntry session app)) (OpenedEntry session app) refl
+enter_steps l clock s (Update session w job txn op) may = entry_steps s (entered s (Update session w job txn op)) (Update session w job txn op) refl
+enter_steps l clock s (Commit session w job txn) may = entry_steps s (entered s (Commit session w job txn)) (Commit session w job txn) refl
+enter_steps l clock s (Rollback session w job txn) may = entry_steps s (entered s (Rollback session w job txn)) (Rollback session w job txn) refl
 
 pub saved_steps : (s : Server) (n : ℕ) → SyncedMay s n → LockSteps s (saved s n)
 saved_steps s n may o k = grown (locks s) (locks (saved s n)) [] (sym (append-nil s.order)) may.no_less (λ x. x) (λ m. issued_same (s.session_at m)) refl refl (λ x. x) (λ m e. inl e) o.within k
@@ -262,10 +263,6 @@ grant_steps s session job mode key at may o =
   where
     its : (q : Quitted) → is_quit session job mode key q ≡ true → q.session ≡ session
     its q p = eqb-true q.session session (and_parts (q.session == session) (q.job == job) (and_parts (q.session == session && q.job == job) _ p).0).0
-
-    before_of : Option Given → ℕ
-    before_of None = 0
-    before_of (Some g) = g.before
 
     new : LocksKept (locks s) → (o : Option Quitted) → first_quit (is_quit session job mode key) s.quits ≡ o → HoldOf (locks s) (new_hold session job mode key at o)
     new k None e = record {

@@ -47,7 +47,7 @@ refused_met p j (Network d state reason) e = at_put MetSteps p.server_at d _ met
 
 row_met : (l : Layout) (p : Plain) (a : Act) → MayCome l p a → ((d : ℕ) → OrdersKept (facet (p.server_at d))) → ((d : ℕ) → IssuedKept (view (p.server_at d))) → ((d : ℕ) → MetLow (p.server_at d)) → (e : ℕ) → MetSteps (p.server_at e) ((after l p a).server_at e)
 row_met l p (Opened d entries) may os is low e = at_put MetSteps p.server_at d _ met_same (opened_met p.clock l.times.round (p.server_at d) entries may (os d) (is d)) e
-row_met l p (Enter d x) may os is low e = at_put MetSteps p.server_at d _ met_same (enter_met (p.server_at d) x may (os d).within (low d)) e
+row_met l p (Enter d x) may os is low e = at_put MetSteps p.server_at d _ met_same (enter_met l p.clock (p.server_at d) x may (os d).within (low d)) e
 row_met l p (Synced d n) may os is low e = at_put MetSteps p.server_at d _ met_same (met_same (p.server_at d)) e
 row_met l p (Shut d session cause) may os is low e = at_put MetSteps p.server_at d _ met_same (shut_met (p.server_at d) session) e
 row_met l p (Release d session) may os is low e = at_put MetSteps p.server_at d _ met_same (met_same (p.server_at d)) e

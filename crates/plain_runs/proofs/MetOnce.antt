@@ -1,5 +1,5 @@
--- A session is met once: while its pair has it, or behind the loss of its pair.
-use Rattle.std.proofs.Common.{◌≡◌, ℕ, zero, suc, ◌+◌, ◌≤◌, List, [], ◌∷◌, ◌++◌, length, take, refl, subst, sym, ap, ◌∙◌, Bool, true, false, eqb, ◌==◌, ◌||◌, if◌then◌else◌, arith, ◌⊎◌, inl, inr, Option, Some, None, slice_get}
+-- A session is met once: while its pair has it, or after the loss of its pair.
+use Rattle.std.proofs.Common.{◌≡◌, ℕ, zero, suc, ◌+◌, ◌≤◌, List, [], ◌∷◌, ◌++◌, length, take, refl, subst, sym, ap, ◌∙◌, Bool, true, false, eqb, ◌==◌, ◌||◌, if◌then◌else◌, arith, ◌⊎◌, inl, inr, Option, Some, None}
 use Rattle.std.specs.Prelude.{is_some}
 use Rattle.std.specs.Option.{option_map}
 use Rattle.std.proofs.lemmas.Bool.{eq-eqb, eqb-true}
@@ -9,6 +9,7 @@ use Rattle.plain_orders.specs.declared.entry.Entry.TheVariants.{Epoch, Opened as
 use Rattle.plain_orders.specs.declared.layout.Layout.{Layout}
 use Rattle.plain_orders.specs.declared.refused.ReasonName.{ReasonName}
 use Rattle.plain_orders.specs.Entries.{entry_at, last_epoch}
+use Rattle.plain_orders.proofs.Places.{entry_more, entry_pushed, entry_take, entry_taken, entry_last}
 use Rattle.plain_runs.specs.Plain.{Entered, Pair, Server, Session, put}
 use Rattle.plain_runs.specs.OrderRows.{CrashMay, EnterMay, OpenedMay, crashed, entered, opened_with}
 use Rattle.plain_runs.specs.EndRows.{MetMay, met_by, new_session, shut, since_loss, without_session}
@@ -17,7 +18,6 @@ use Rattle.plain_runs.proofs.Lists.{both_ways}
 use Rattle.plain_runs.proofs.Orders.{OrdersKept, facet}
 use Rattle.plain_runs.proofs.Bases.{owner_in}
 use Rattle.plain_runs.proofs.Issued.{IssuedKept, view}
-use Rattle.plain_runs.proofs.ToldItems.{pushed, taken}
 
 -- what this sees of a server
 pub record Meetings : Type 0 where
@@ -29,7 +29,7 @@ pub record Meetings : Type 0 where
 abbrev pub meetings : Server → Meetings
 meetings s = record { order = s.order; owner = λ n. owner_in (s.session_at n); ent = s.entered_at; pair = λ a. (s.pair_at a).session }
 
--- an Open is behind a loss of its pair
+-- an Open is after a loss of its pair
 abbrev pub lost_of : Option Entered → Bool
 lost_of None = false
 lost_of (Some e) = e.lost_since
@@ -57,43 +57,6 @@ calm_met v w same owner pair k = subst MetKept (sym same) (record {
     kept : (n a : ℕ) → (v.pair a ≡ Some n) ⊎ (lost_of (v.ent n) ≡ true) → (w.pair a ≡ Some n) ⊎ (lost_of (v.ent n) ≡ true)
     kept n a (inl p) = inl (pair a n p)
     kept n a (inr e) = inr e
-
--- an entry stands where it stood
-get_more : (es : List Entry) (e x : Entry) (i : ℕ) → slice_get es i ≡ Some x → slice_get (es ++ e ∷ []) i ≡ Some x
-get_more [] e x i h = absurd (cc (h))
-get_more (y ∷ es) e x zero h = h
-get_more (y ∷ es) e x (suc i) h = get_more es e x i h
-
-entry_more : (es : List Entry) (e x : Entry) (n : ℕ) → entry_at es n ≡ Some x → entry_at (es ++ e ∷ []) n ≡ Some x
-entry_more es e x zero h = absurd (cc (h))
-entry_more es e x (suc i) h = get_more es e x i h
-
-entry_pushed : (es : List Entry) (e x : Entry) (n : ℕ) → entry_at (es ++ e ∷ []) n ≡ Some x → (entry_at es n ≡ Some x) ⊎ (e ≡ x)
-entry_pushed es e x zero h = absurd (cc (h))
-entry_pushed es e x (suc i) h = pushed es e i x h
-
-get_take : (m : ℕ) (es : List Entry) (i : ℕ) → i + 1 ≤ m → slice_get (take m es) i ≡ slice_get es i
-get_take zero es i low = absurd (omega arith)
-get_take (suc m) [] i low = refl
-get_take (suc m) (x ∷ es) zero low = refl
-get_take (suc m) (x ∷ es) (suc i) low = get_take m es i (omega arith)
-
-entry_take : (m : ℕ) (es : List Entry) (n : ℕ) → n ≤ m → entry_at (take m es) n ≡ entry_at es n
-entry_take m es zero low = refl
-entry_take m es (suc i) low = get_take m es i (omega arith)
-
-entry_taken : (m : ℕ) (es : List Entry) (x : Entry) (n : ℕ) → entry_at (take m es) n ≡ Some x → entry_at es n ≡ Some x
-entry_taken m es x zero h = absurd (cc (h))
-entry_taken m es x (suc i) h = taken m es i x h
-
-entry_last : (es : List Entry) (e : Entry) (n : ℕ) → n ≡ length es + 1 → entry_at (es ++ e ∷ []) n ≡ Some e
-entry_last es e zero same = absurd (omega (arith, same))
-entry_last es e (suc i) same = go es i (omega (arith, same))
-  where
-    go : (es : List Entry) (i : ℕ) → i ≡ length es → slice_get (es ++ e ∷ []) i ≡ Some e
-    go [] i same = subst (λ j. slice_get (e ∷ []) j ≡ Some e) (sym same) refl
-    go (x ∷ es) zero same = absurd (omega (arith, same))
-    go (x ∷ es) (suc i) same = go es i (omega (arith, same))
 
 -- an entry at the end that opens no session
 pub push_met : (s t : Server) (e : Entry) → meetings t ≡ record (meetings s) { order = s.order ++ e ∷ [] } → ((n a : ℕ) → e ≡ OpenedEntry n a → ⊥) → MetSteps s t
@@ -135,13 +98,13 @@ open_met s session app place within low k = record {
     lost n a (inl p) false e low = inl p
     lost n a (inr h) false e low = inr (subst (λ (b : Bool). lost_of (if b then Some fresh else s.entered_at n) ≡ true) (sym e) h)
 
-pub enter_met : (s : Server) (x : Entry) → EnterMay s x → s.synced ≤ length s.order → MetLow s → MetSteps s (entered s x)
-enter_met s (Epoch number) may within low = absurd may
-enter_met s (Closed session) may within low = absurd may
-enter_met s (OpenedEntry session app) may within low = open_met s session app may.place within low
-enter_met s (Update session w job txn op) may within low = push_met s (entered s (Update session w job txn op)) (Update session w job txn op) refl (λ n a e. absurd (cc (e)))
-enter_met s (Commit session w job txn) may within low = push_met s (entered s (Commit session w job txn)) (Commit session w job txn) refl (λ n a e. absurd (cc (e)))
-enter_met s (Rollback session w job txn) may within low = push_met s (entered s (Rollback session w job txn)) (Rollback session w job txn) refl (λ n a e. absurd (cc (e)))
+pub enter_met : (l : Layout) (clock : ℕ) (s : Server) (x : Entry) → EnterMay l clock s x → s.synced ≤ length s.order → MetLow s → MetSteps s (entered s x)
+enter_met l clock s (Epoch number) may within low = absurd may
+enter_met l clock s (Closed session) may within low = absurd may
+enter_met l clock s (OpenedEntry session app) may within low = open_met s session app may.place within low
+enter_met l clock s (Update session w job txn op) may within low = push_met s (entered s (Update session w job txn op)) (Update session w job txn op) refl (λ n a e. absurd (cc (e)))
+enter_met l clock s (Commit session w job txn) may within low = push_met s (entered s (Commit session w job txn)) (Commit session w job txn) refl (λ n a e. absurd (cc (e)))
+enter_met l clock s (Rollback session w job txn) may within low = push_met s (entered s (Rollback session w job txn)) (Rollback session w job txn) refl (λ n a e. absurd (cc (e)))
 
 pub shut_met : (s : Server) (session : ℕ) → MetSteps s (shut s session)
 shut_met s session = push_met s (shut s session) (Closed session) refl (λ n a e. absurd (cc (e)))

@@ -11,10 +11,8 @@ use Rattle.plain_orders.specs.Entries.{entry_at}
 use Rattle.plain_orders.specs.Own.{Issued}
 use Rattle.plain_runs.specs.Plain.{Server, Session, Hold, pair_session, issued_in}
 use Rattle.plain_runs.specs.Items.{is_update_of}
-use Rattle.plain_runs.specs.OrderRows.{is_sent}
-use Rattle.plain_runs.specs.LockRows.{is_of, is_lock, is_kept, is_sent_at}
 use Rattle.plain_runs.specs.JobRows.{has_session, is_answered_item}
-use Rattle.plain_runs.specs.Laws.{server_after, touched}
+use Rattle.plain_runs.specs.Laws.{server_after}
 use Rattle.plain_runs.specs.Together.{NoneWithoutSession}
 use Rattle.plain_runs.proofs.Orders.{Each}
 use Rattle.plain_runs.proofs.Lists.{any_take, opens}
@@ -22,6 +20,7 @@ use Rattle.plain_runs.proofs.HoldRows.{issued_of, of_facts, sent_facts}
 use Rattle.plain_runs.proofs.LockRows.{LocksKept, HoldOf, locks}
 use Rattle.plain_runs.proofs.LockLaws.{locks_kept}
 use Rattle.plain_runs.proofs.Issued.{PlacedFrom, PlacedAt, issued_kept, opens_high}
+use Rattle.plain_runs.specs.Holds.{is_sent, is_of, is_lock, is_kept, is_sent_at, touched}
 
 -- no hold passes a test that no hold passes
 pub none_any : (P : Hold → Type 0) (q : Hold → Bool) → ((h : Hold) → P h → q h ≡ true → ⊥) → (hs : List Hold) → Each P hs → list_any q hs ≡ false

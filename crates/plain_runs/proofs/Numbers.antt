@@ -7,8 +7,8 @@ use Rattle.plain_orders.specs.declared.entry.Entry.{Entry}
 use Rattle.plain_orders.specs.declared.entry.Entry.TheVariants.{Epoch, Opened, Closed, Update, Commit, Rollback}
 use Rattle.plain_orders.specs.Entries.{count, count_from, w_in}
 use Rattle.plain_orders.specs.Ordered.{MayFollow, OrderedFrom, IsOrdered}
-use Rattle.plain_runs.specs.Items.{is_item_of, is_item_at, has_item, w_of, numbers}
 use Rattle.plain_runs.specs.Laws.{count_up}
+use Rattle.plain_orders.specs.ItemEntries.{is_item_of, is_item_at, has_item, w_of, numbers}
 
 -- each session's items stand in the order of their running numbers
 abbrev pub InOrder : List Entry → Type 0
@@ -21,7 +21,7 @@ max_from : ℕ → List ℕ → ℕ
 max_from n [] = n
 max_from n (w ∷ ws) = max_from (max n w) ws
 
-w_is : (s : ℕ) (e : Entry) → w_in s e ≡ (if is_item_of s e then w_of e else 0)
+pub w_is : (s : ℕ) (e : Entry) → w_in s e ≡ (if is_item_of s e then w_of e else 0)
 w_is s (Epoch number) = refl
 w_is s (Opened session app) = refl
 w_is s (Closed session) = refl

@@ -32,13 +32,13 @@ use Rattle.plain_runs.specs.EndRows.{ShutMay, shut}
 unopened : (s : Server) (session : ℕ) → live s.order session ≡ true → OrdersKept (facet s) → s.opened ≡ false → ⊥
 unopened s session is k f = absurd (cc (subst (λ (es : List Entry). live es session ≡ true) (k.fresh f).0 is))
 
-enter_steps : (s : Server) (x : Entry) → EnterMay s x → OrderSteps s (entered s x)
-enter_steps s (Epoch number) may = absurd may
-enter_steps s (Closed session) may = absurd may
-enter_steps s (OpenedEntry session app) may = longer s (entered s (OpenedEntry session app)) (OpenedEntry session app) refl refl refl (λ _ f. absurd (cc (f, may.opened))) refl (λ k n is. absurd (cc (is)))
-enter_steps s (Update session w job txn op) may = longer s (entered s (Update session w job txn op)) (Update session w job txn op) refl refl refl (unopened s session may.is_live) refl (λ k n is. may.next ∙ ap (λ m. count s.order m + 1) (eqb-true session n is))
-enter_steps s (Commit session w job txn) may = longer s (entered s (Commit session w job txn)) (Commit session w job txn) refl refl refl (unopened s session may.is_live) refl (λ k n is. may.next ∙ ap (λ m. count s.order m + 1) (eqb-true session n is))
-enter_steps s (Rollback session w job txn) may = longer s (entered s (Rollback session w job txn)) (Rollback session w job txn) refl refl refl (unopened s session may.is_live) refl (λ k n is. may.next ∙ ap (λ m. count s.order m + 1) (eqb-true session n is))
+enter_steps : (l : Layout) (clock : ℕ) (s : Server) (x : Entry) → EnterMay l clock s x → OrderSteps s (entered s x)
+enter_steps l clock s (Epoch number) may = absurd may
+enter_steps l clock s (Closed session) may = absurd may
+enter_steps l clock s (OpenedEntry session app) may = longer s (entered s (OpenedEntry session app)) (OpenedEntry session app) refl refl refl (λ _ f. absurd (cc (f, may.opened))) refl (λ k n is. absurd (cc (is)))
+enter_steps l clock s (Update session w job txn op) may = longer s (entered s (Update session w job txn op)) (Update session w job txn op) refl refl refl (unopened s session may.is_live) refl (λ k n is. may.next ∙ ap (λ m. count s.order m + 1) (eqb-true session n is))
+enter_steps l clock s (Commit session w job txn) may = longer s (entered s (Commit session w job txn)) (Commit session w job txn) refl refl refl (unopened s session may.is_live) refl (λ k n is. may.next ∙ ap (λ m. count s.order m + 1) (eqb-true session n is))
+enter_steps l clock s (Rollback session w job txn) may = longer s (entered s (Rollback session w job txn)) (Rollback session w job txn) refl refl refl (unopened s session may.is_live) refl (λ k n is. may.next ∙ ap (λ m. count s.order m + 1) (eqb-true session n is))
 
 pub shut_live : (l : Layout) (p : Plain) (s : Server) (session : ℕ) (cause : ShutCause) → ShutMay l p s session cause → live s.order session ≡ true
 shut_live l p s session (ByTrouble time) may = may.is_live
@@ -66,7 +66,7 @@ refused_steps p j (Network d state reason) e = at_put OrderSteps p.server_at d _
 
 pub row_steps : (l : Layout) (p : Plain) (a : Act) → MayCome l p a → (e : ℕ) → OrderSteps (p.server_at e) ((after l p a).server_at e)
 row_steps l p (Opened d entries) may e = at_put OrderSteps p.server_at d _ orders_same (opened_steps p.clock l.times.round (p.server_at d) entries may) e
-row_steps l p (Enter d x) may e = at_put OrderSteps p.server_at d _ orders_same (enter_steps (p.server_at d) x may) e
+row_steps l p (Enter d x) may e = at_put OrderSteps p.server_at d _ orders_same (enter_steps l p.clock (p.server_at d) x may) e
 row_steps l p (Synced d n) may e = at_put OrderSteps p.server_at d _ orders_same (saved_steps (p.server_at d) n may) e
 row_steps l p (Shut d session cause) may e = at_put OrderSteps p.server_at d _ orders_same (shut_steps (p.server_at d) session (shut_live l p (p.server_at d) session cause may)) e
 row_steps l p (Release d session) may e = at_put OrderSteps p.server_at d _ orders_same (orders_same (p.server_at d)) e

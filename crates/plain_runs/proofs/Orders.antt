@@ -6,10 +6,10 @@ use Rattle.plain_orders.specs.declared.entry.Entry.{Entry}
 use Rattle.plain_orders.specs.declared.entry.Entry.TheVariants.{Epoch}
 use Rattle.plain_orders.specs.Entries.{count, last_epoch}
 use Rattle.plain_runs.specs.Plain.{Server}
-use Rattle.plain_runs.specs.Items.{is_item_of, w_of}
 use Rattle.plain_runs.specs.OrderRows.{OpenedMay, SyncedMay, CrashMay, opened_with, crashed}
 use Rattle.plain_runs.specs.Laws.{IsNextOrder}
 use Rattle.plain_runs.proofs.Numbers.{InOrder, in_order_push, in_order_take, ordered_in_order}
+use Rattle.plain_orders.specs.ItemEntries.{is_item_of, w_of}
 
 -- P holds of each
 abbrev pub Each : {X : Type 0} → (X → Type 0) → List X → Type 0
@@ -20,7 +20,7 @@ pub each-append : {X : Type 0} (P : X → Type 0) (xs ys : List X) → Each P xs
 each-append P [] ys p q = q
 each-append P (x ∷ xs) ys p q = (p.0, each-append P xs ys p.1 q)
 
-each_front : {X : Type 0} (P : X → Type 0) (xs ys : List X) → Each P (xs ++ ys) → Each P xs
+pub each_front : {X : Type 0} (P : X → Type 0) (xs ys : List X) → Each P (xs ++ ys) → Each P xs
 each_front P [] ys p = tt
 each_front P (x ∷ xs) ys p = (p.0, each_front P xs ys p.1)
 

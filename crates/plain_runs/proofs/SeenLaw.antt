@@ -23,10 +23,9 @@ use Rattle.plain_orders.specs.declared.layout.Layout.{Layout}
 use Rattle.plain_orders.specs.Entries.{entry_at}
 use Rattle.plain_runs.specs.Plain.{Plain, Server, Session, Entered, Pair, Hold, Given, Quitted, Known, put, start, app_of, runs_on, pair_session, session_in, told_order}
 use Rattle.plain_runs.specs.Items.{entry_of}
-use Rattle.plain_runs.specs.OrderRows.{is_sent}
 use Rattle.plain_runs.specs.EndRows.{broke, mended, lost, shut, since_loss, without_session, knows_loss, knows_noway}
 use Rattle.plain_runs.specs.JobRows.{AnswerMay, refused, told_loss, issues, txn_of, acts, sees, sees_up, item_at, is_answered_item, w_at}
-use Rattle.plain_runs.specs.LockRows.{GrantMay, GrantedMay, is_of, is_quit, is_kept, is_asked, is_sent_at, first_quit, change_first, change_last, new_hold, given_now, given_up, answered_hold, released_hold, freed_hold, first_given, grants, granted, gives_up, quits, releases, frees}
+use Rattle.plain_runs.specs.LockRows.{GrantMay, GrantedMay, is_quit, first_quit, change_first, change_last, given_now, first_given, grants, granted, gives_up, quits, releases, frees}
 use Rattle.plain_runs.specs.Step.{MayCome, after}
 use Rattle.plain_runs.specs.Run.{IsRun, RunFrom, after_all}
 use Rattle.plain_runs.specs.Laws.{SeenIsTold, server_after}
@@ -38,13 +37,14 @@ use Rattle.plain_runs.proofs.LockRows.{each_map, each_push, each_first, each_las
 use Rattle.plain_runs.proofs.Issued.{IssuedKept, view, live_low, row_steps as issued_rows}
 use Rattle.plain_runs.proofs.Bases.{SentKept, ToldKept, sight, base, len, told_in, owner_in, place_in, or_else, quiet, grow, get_last, enter_row, shut_row}
 use Rattle.plain_runs.proofs.SeenTold.{less_gone, opened_row, crash_row, back_row, told_row, met_row}
+use Rattle.plain_runs.specs.Holds.{is_sent, is_of, is_kept, is_asked, is_sent_at, new_hold, given_up, answered_hold, released_hold, freed_hold}
 
 abbrev Steps : Layout → Server → Server → Type 0
 Steps l s t = ToldKept l (sight s) → ToldKept l (sight t)
 
 -- what holds of the pair's session
-pub told_is : (s : Server) (app n b : ℕ) → (s.pair_at app).session ≡ Some n → told_in (s.session_at n) ≡ Some b → (session_in s (pair_session s app)).told ≡ b
-told_is s app n b p t = ap (λ (o : Option ℕ). (session_in s (unwrap_or o 0)).told) p ∙ go (s.session_at n) t
+pub told_place_is : (s : Server) (app n b : ℕ) → (s.pair_at app).session ≡ Some n → told_in (s.session_at n) ≡ Some b → (session_in s (pair_session s app)).told ≡ b
+told_place_is s app n b p t = ap (λ (o : Option ℕ). (session_in s (unwrap_or o 0)).told) p ∙ go (s.session_at n) t
   where
     go : (o : Option Session) → told_in o ≡ Some b → (unwrap_or o (record { app = 0; issued = []; told = 0 })).told ≡ b
     go None e = absurd (cc (e))
@@ -68,10 +68,10 @@ known_row l s t job x holds same hs here k =
     (λ e. here k n b (subst (λ i. (s.pair_at (app_of l i)).session ≡ Some n) e p) t (subst (λ i. (s.known_at i).seen ≤ len s.past s.order b) e y)) y) k)
 
 up_row : (l : Layout) (s : Server) (job at : ℕ) → at ≤ length (told_order s (app_of l job)) → Steps l s (sees_up s job at)
-up_row l s job at within = known_row l s (sees_up s job at) job _ s.holds refl (λ k. k.sent) (λ k n b p t y. omega (arith, y, subst (λ i. at ≤ len s.past s.order i) (told_is s (app_of l job) n b p t) within))
+up_row l s job at within = known_row l s (sees_up s job at) job _ s.holds refl (λ k. k.sent) (λ k n b p t y. omega (arith, y, subst (λ i. at ≤ len s.past s.order i) (told_place_is s (app_of l job) n b p t) within))
 
 read_row : (l : Layout) (s : Server) (job at : ℕ) → at ≤ length (told_order s (app_of l job)) → Steps l s (sees s job at)
-read_row l s job at within = known_row l s (sees s job at) job _ s.holds refl (λ k. k.sent) (λ k n b p t y. subst (λ i. at ≤ len s.past s.order i) (told_is s (app_of l job) n b p t) within)
+read_row l s job at within = known_row l s (sees s job at) job _ s.holds refl (λ k. k.sent) (λ k n b p t y. subst (λ i. at ≤ len s.past s.order i) (told_place_is s (app_of l job) n b p t) within)
 
 entry_low : (es : List Entry) (at : ℕ) (e : Entry) → entry_at es at ≡ Some e → at ≤ length es
 entry_low es zero e h = omega arith
@@ -233,7 +233,7 @@ refused_row l p j (Network d state reason) e = at_server l p d _ (known_row l (p
 
 pub told_rows : (l : Layout) (p : Plain) (a : Act) → MayCome l p a → ((d : ℕ) → OrdersKept (facet (p.server_at d))) → ((d : ℕ) → IssuedKept (view (p.server_at d))) → (e : ℕ) → Steps l (p.server_at e) ((after l p a).server_at e)
 told_rows l p (Opened d entries) may os is e = at_server l p d _ (opened_row l p.clock l.times.round (p.server_at d) entries ((os d).fresh may.fresh).0 (os d).within) e
-told_rows l p (Enter d x) may os is e = at_server l p d _ (enter_row l (p.server_at d) x may (os d).within) e
+told_rows l p (Enter d x) may os is e = at_server l p d _ (enter_row l p.clock (p.server_at d) x may (os d).within) e
 told_rows l p (Synced d n) may os is e = at_server l p d _ (λ k. grow l (sight (p.server_at d)) (record (sight (p.server_at d)) { synced = n }) refl (λ i. omega arith) (omega arith) may.no_less k.up k.sent k) e
 told_rows l p (Shut d session cause) may os is e = at_server l p d _ (shut_row l (p.server_at d) (shut (p.server_at d) session) session refl) e
 told_rows l p (Release d session) may os is e = at_server l p d _ (release_row l (p.server_at d) session) e
@@ -300,4 +300,4 @@ seen_is_told l acts d j run there has = go (s.pair_at (app_of l j)).session refl
     go None e h = absurd (cc (h))
     go (Some n) e h =
         let b = told_of (s.session_at n) (kept.its (app_of l j) n e) in
-        subst (λ i. (s.known_at j).seen ≤ len s.past s.order i) (sym (told_is s (app_of l j) n b.0 e b.1)) (kept.seen j n b.0 there e b.1)
+        subst (λ i. (s.known_at j).seen ≤ len s.past s.order i) (sym (told_place_is s (app_of l j) n b.0 e b.1)) (kept.seen j n b.0 there e b.1)

@@ -5,17 +5,19 @@ use Rattle.std.specs.Option.{option_map}
 use Rattle.std.proofs.lemmas.Bool.{eqb-true, eq-eqb, or_parts, ltb-false, cases_lt}
 use Rattle.std.proofs.lemmas.List.{length-take-le}
 use Rattle.plain_orders.specs.declared.entry.Entry.{Entry}
-use Rattle.plain_orders.specs.declared.entry.Entry.TheVariants.{Epoch, Opened as OpenedEntry, Closed, Update, Commit, Rollback}
+use Rattle.plain_orders.specs.declared.entry.Entry.TheVariants.{Epoch}
 use Rattle.plain_orders.specs.declared.layout.Layout.{Layout}
 use Rattle.plain_orders.specs.Entries.{live, last_epoch}
 use Rattle.plain_runs.specs.Plain.{Server, Session, Entered, Hold, app_of, runs_on, current, orders, order_at, session_in}
-use Rattle.plain_runs.specs.OrderRows.{CrashMay, BackMay, opened_with, crashed, came_back, due_of, is_sent, is_told, hold_after_crash, hold_after_back}
-use Rattle.plain_runs.specs.EndRows.{MetMay, ToldMay, met_by, told_of, begun_from, begun_by, place_of_epoch, entered_in}
+use Rattle.plain_runs.specs.OrderRows.{CrashMay, BackMay, opened_with, crashed, came_back, due_of, is_told}
+use Rattle.plain_runs.specs.EndRows.{MetMay, ToldMay, met_by, told_of, begun_from, begun_by, entered_in}
 use Rattle.plain_runs.proofs.RunLemmas.{at_put}
 use Rattle.plain_runs.proofs.Lists.{both_ways, none_live, live_has}
 use Rattle.plain_runs.proofs.HoldRows.{sent_facts}
 use Rattle.plain_runs.proofs.LockRows.{each_weaker, each_map}
 use Rattle.plain_runs.proofs.Bases.{Sight, SentKept, ToldKept, sight, base, len, told_in, owner_in, place_in, or_else, grow, long_last, long_more, live_push, get_last}
+use Rattle.plain_runs.specs.Holds.{is_sent, hold_after_crash, hold_after_back}
+use Rattle.plain_orders.proofs.Places.{place_low}
 
 -- a hold that is sent though some holds go was sent
 pub less_gone : (a g n c : Bool) → (not a && (not g && not (n || c))) ≡ true → (not a && (not g && not n)) ≡ true
@@ -107,19 +109,6 @@ begun_low epoch found i c (es ∷ more) low high = begun_low epoch (if last_epoc
     go true = omega arith
     go false = low
 
-place_low : (n i : ℕ) (es : List Entry) (kept : ℕ) → place_of_epoch n i es ≡ Some kept → kept ≤ i + length es
-place_low n i [] kept e = absurd (cc (e))
-place_low n i (Epoch number ∷ es) kept e = go (nat_lt n number) (place_low n (i + 1) es kept) e
-  where
-    go : (b : Bool) → (place_of_epoch n (i + 1) es ≡ Some kept → kept ≤ i + 1 + length es) → (if b then Some i else place_of_epoch n (i + 1) es) ≡ Some kept → kept ≤ i + length (Epoch number ∷ es)
-    go true f h = let same : i ≡ kept = cc (h) in omega (arith, same)
-    go false f h = omega (arith, f h)
-place_low n i (OpenedEntry session app ∷ es) kept e = omega (arith, place_low n (i + 1) es kept e)
-place_low n i (Closed session ∷ es) kept e = omega (arith, place_low n (i + 1) es kept e)
-place_low n i (Update session w job txn op ∷ es) kept e = omega (arith, place_low n (i + 1) es kept e)
-place_low n i (Commit session w job txn ∷ es) kept e = omega (arith, place_low n (i + 1) es kept e)
-place_low n i (Rollback session w job txn ∷ es) kept e = omega (arith, place_low n (i + 1) es kept e)
-
 runs_here : (l : Layout) (app j : ℕ) → j < length l.job_apps → app_of l j ≡ app → runs_on l app j ≡ true
 runs_here l app j there same = go (nat_lt j (length l.job_apps)) refl
   where
@@ -206,7 +195,7 @@ told_row l s app session epoch kept may k = record {
         reach y b i e lo hi (inr z) = x.reaches y b i (sym (ap (λ o. or_else o (place_in (s.entered_at h.session))) z) ∙ e) lo hi
 
     kept_low : kept ≤ len s.past s.order goal
-    kept_low = omega (arith, place_low _ 0 (order_at s goal) kept may.place)
+    kept_low = omega (arith, place_low _ 0 kept (order_at s goal) may.place)
 
     seen : (j n b : ℕ) → j < length l.job_apps → (s.pair_at (app_of l j)).session ≡ Some n → w.told n ≡ Some b → Facts n → w.seen j ≤ len s.past s.order b
     seen j n b there p t (inl x) =

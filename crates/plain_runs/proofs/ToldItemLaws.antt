@@ -20,7 +20,7 @@ use Rattle.plain_orders.specs.declared.layout.Layout.{Layout}
 use Rattle.plain_orders.specs.Entries.{entry_at}
 use Rattle.plain_orders.specs.Own.{Issued}
 use Rattle.plain_runs.specs.Plain.{Plain, Server, Session, start, app_of, pair_session, told_order}
-use Rattle.plain_runs.specs.Items.{entry_of, entry_of_item, is_item_at, is_item_of}
+use Rattle.plain_runs.specs.Items.{entry_of, entry_of_item}
 use Rattle.plain_runs.specs.EndRows.{broke, lost}
 use Rattle.plain_runs.specs.JobRows.{has_session, is_answered_item, issues, item_at, pair_issued, refused, txn_of, w_at}
 use Rattle.plain_runs.specs.Step.{MayCome, after}
@@ -33,9 +33,10 @@ use Rattle.plain_runs.proofs.OrderLaws.{row_steps, start_kept}
 use Rattle.plain_runs.proofs.Lists.{both_ways, stand_more}
 use Rattle.plain_runs.proofs.Issued.{IssuedKept, view, row_steps as issued_rows}
 use Rattle.plain_runs.proofs.Bases.{ToldKept, sight, or_else, owner_in, place_in, told_in}
-use Rattle.plain_runs.proofs.SeenLaw.{told_is, told_kept}
+use Rattle.plain_runs.proofs.SeenLaw.{told_place_is, told_kept}
 use Rattle.plain_runs.proofs.NoSession.{none_without_session}
 use Rattle.plain_runs.proofs.ToldItems.{StandsKept, StandSteps, standing, nth, later_told, enter_stands, shut_stands, opened_stands, crash_stands, met_stands, told_stands}
+use Rattle.plain_orders.specs.ItemEntries.{is_item_at, is_item_of}
 
 stands_same : (s : Server) → StandSteps s s
 stands_same s k = k
@@ -68,7 +69,7 @@ refused_stands p j (Network d state reason) e = at_put StandSteps p.server_at d 
 
 row_stands : (l : Layout) (p : Plain) (a : Act) → MayCome l p a → ((d : ℕ) → OrdersKept (facet (p.server_at d))) → ((d : ℕ) → IssuedKept (view (p.server_at d))) → (e : ℕ) → StandSteps (p.server_at e) ((after l p a).server_at e)
 row_stands l p (Opened d entries) may os is e = at_put StandSteps p.server_at d _ stands_same (opened_stands p.clock l.times.round (p.server_at d) entries may (os d)) e
-row_stands l p (Enter d x) may os is e = at_put StandSteps p.server_at d _ stands_same (enter_stands (p.server_at d) x may) e
+row_stands l p (Enter d x) may os is e = at_put StandSteps p.server_at d _ stands_same (enter_stands l p.clock (p.server_at d) x may) e
 row_stands l p (Synced d n) may os is e = at_put StandSteps p.server_at d _ stands_same (stands_same (p.server_at d)) e
 row_stands l p (Shut d session cause) may os is e = at_put StandSteps p.server_at d _ stands_same (shut_stands (p.server_at d) session) e
 row_stands l p (Release d session) may os is e = at_put StandSteps p.server_at d _ stands_same (stands_same (p.server_at d)) e
@@ -130,7 +131,7 @@ stands_told l acts d app run has i e at is = go (s.pair_at app).session refl has
         let b : (b : ℕ) × (told_in (s.session_at n) ≡ Some b) = told (s.session_at n) (kept.its app n p) in
         let its : pair_session s app ≡ n = ap (λ (o : Option ℕ). unwrap_or o 0) p in
         let low : b.0 ≤ length s.past = kept.low n b.0 (ap (λ o. or_else o (place_in (s.entered_at n))) b.1) in
-        ap (λ k. slice_get (nth s.past s.order k) i) (told_is s app n b.0 p b.1)
+        ap (λ k. slice_get (nth s.past s.order k) i) (told_place_is s app n b.0 p b.1)
         ∙ (stands_kept l acts d run).stands n b.0 b.0 i e b.1 (omega arith) low at (subst (λ m. is_item_of m e ≡ true) its is)
 
 of_session : (session w job txn : ℕ) (x : Item) → is_item_of session (entry_of_item session w job txn x) ≡ true

@@ -1,5 +1,5 @@
 -- The items of a session stand in each order from the one that it is told of.
-use Rattle.std.proofs.Common.{◌≡◌, ℕ, zero, suc, ◌+◌, ◌<◌, ◌≤◌, List, [], ◌∷◌, ◌++◌, length, take, refl, subst, sym, ap, ◌∙◌, Bool, true, false, eqb, if◌then◌else◌, arith, length-append, get_or, ◌⊎◌, inl, inr, Option, Some, None, slice_get}
+use Rattle.std.proofs.Common.{◌≡◌, ℕ, ◌+◌, ◌<◌, ◌≤◌, List, [], ◌∷◌, ◌++◌, length, take, refl, subst, sym, ap, ◌∙◌, Bool, true, false, eqb, if◌then◌else◌, arith, length-append, get_or, ◌⊎◌, inl, inr, Option, Some, None, slice_get, ◌&&◌, ◌==◌}
 use Rattle.std.specs.Prelude.{is_some, unwrap_or}
 use Rattle.std.specs.Option.{option_map}
 use Rattle.std.proofs.lemmas.Bool.{cases_lt, eqb-true}
@@ -9,7 +9,6 @@ use Rattle.plain_orders.specs.declared.entry.Entry.TheVariants.{Epoch, Opened as
 use Rattle.plain_orders.specs.declared.layout.Layout.{Layout}
 use Rattle.plain_orders.specs.Entries.{last_epoch}
 use Rattle.plain_runs.specs.Plain.{Server, Session}
-use Rattle.plain_runs.specs.Items.{is_item_of}
 use Rattle.plain_runs.specs.OrderRows.{OpenedMay, EnterMay, ItemMay, entered, opened_with, crashed}
 use Rattle.plain_runs.specs.EndRows.{MetMay, ToldMay, met_by, told_of, begun_by, entered_in, shut}
 use Rattle.plain_runs.specs.Laws.{StandsAsIssued}
@@ -18,6 +17,8 @@ use Rattle.plain_runs.proofs.Bases.{told_in}
 use Rattle.plain_runs.proofs.HoldRows.{issued_of}
 use Rattle.plain_runs.proofs.LockRows.{each_at}
 use Rattle.plain_runs.proofs.Issued.{AsIssued, IssuedKept, view}
+use Rattle.plain_orders.specs.ItemEntries.{is_item_of}
+use Rattle.plain_orders.proofs.Places.{get_pushed, get_taken}
 
 -- what this sees of a server
 pub record Standing : Type 0 where
@@ -53,20 +54,6 @@ here_or_before past order k low = go (cases_lt k (length past))
 pub before_stays : (past : List (List Entry)) (o p : List Entry) (k : ℕ) → k < length past → nth past p k ≡ nth past o k
 before_stays past o p k low = get_or_append_left past (p ∷ []) [] k low ∙ sym (get_or_append_left past (o ∷ []) [] k low)
 
--- what stands in a list with one entry more
-pub pushed : (es : List Entry) (e : Entry) (i : ℕ) (x : Entry) → slice_get (es ++ e ∷ []) i ≡ Some x → (slice_get es i ≡ Some x) ⊎ (e ≡ x)
-pushed [] e zero x h = inr (cc (h))
-pushed [] e (suc i) x h = absurd (cc (h))
-pushed (y ∷ es) e zero x h = inl h
-pushed (y ∷ es) e (suc i) x h = pushed es e i x h
-
--- what stands in a front
-pub taken : (m : ℕ) (es : List Entry) (i : ℕ) (x : Entry) → slice_get (take m es) i ≡ Some x → slice_get es i ≡ Some x
-taken zero es i x h = absurd (cc (h))
-taken (suc m) [] i x h = absurd (cc (h))
-taken (suc m) (y ∷ es) zero x h = h
-taken (suc m) (y ∷ es) (suc i) x h = taken m es i x h
-
 -- sessions are told of the same order or a later one
 pub later_told : (v w : Standing) → w ≡ record v { told = w.told } → ((n b : ℕ) → w.told n ≡ Some b → (c : ℕ) × ((v.told n ≡ Some c) × (c ≤ b))) → StandsKept v → StandsKept w
 later_told v w same told k = subst StandsKept (sym same) (record {
@@ -82,7 +69,7 @@ push_stands s t x same new k = subst StandsKept (sym same) (record {
     go : (n b j i : ℕ) (e : Entry) → told_in (s.session_at n) ≡ Some b → b ≤ j → j ≤ length s.past → slice_get (s.order ++ x ∷ []) i ≡ Some e → is_item_of n e ≡ true
         → (nth s.past (s.order ++ x ∷ []) j ≡ s.order ++ x ∷ []) ⊎ (j < length s.past) → slice_get (nth s.past (s.order ++ x ∷ []) j) i ≡ Some e
     go n b j i e told low high at is (inl now) = ap (λ (es : List Entry). slice_get es i) now ∙ at
-    go n b j i e told low high at is (inr under) = old (pushed s.order x i e at)
+    go n b j i e told low high at is (inr under) = old (get_pushed s.order x i e at)
       where
         old : (slice_get s.order i ≡ Some e) ⊎ (x ≡ e) → slice_get (nth s.past (s.order ++ x ∷ []) j) i ≡ Some e
         old (inl was) = ap (λ (es : List Entry). slice_get es i) (before_stays s.past s.order (s.order ++ x ∷ []) j under) ∙ k.stands n b j i e told low high was is
@@ -91,17 +78,17 @@ push_stands s t x same new k = subst StandsKept (sym same) (record {
 told_of_item : (s : Server) (session w : ℕ) (x : Entry) → ItemMay s session w x → (n b : ℕ) → session ≡ n → told_in (s.session_at n) ≡ Some b → b ≡ length s.past
 told_of_item s session w x may n b same told = subst (λ m. told_in (s.session_at m) ≡ Some b → b ≡ length s.past) same (go (s.session_at session) may.told) told
   where
-    go : (o : Option Session) → (unwrap_or o (record { app = 0; issued = []; told = 0 })).told ≡ length s.past → told_in o ≡ Some b → b ≡ length s.past
+    go : (o : Option Session) → (is_some o && (unwrap_or o (record { app = 0; issued = []; told = 0 })).told == length s.past) ≡ true → told_in o ≡ Some b → b ≡ length s.past
     go None e h = absurd (cc (h))
-    go (Some m) e h = let its : m.told ≡ b = cc (h) in sym its ∙ e
+    go (Some m) e h = let its : m.told ≡ b = cc (h) in sym its ∙ eqb-true m.told (length s.past) e
 
-pub enter_stands : (s : Server) (x : Entry) → EnterMay s x → StandSteps s (entered s x)
-enter_stands s (Epoch number) may = absurd may
-enter_stands s (Closed session) may = absurd may
-enter_stands s (OpenedEntry session app) may = push_stands s (entered s (OpenedEntry session app)) (OpenedEntry session app) refl (λ n b is. absurd (cc (is)))
-enter_stands s (Update session w job txn op) may = push_stands s (entered s (Update session w job txn op)) (Update session w job txn op) refl (λ n b is. told_of_item s session w _ may n b (eqb-true session n is))
-enter_stands s (Commit session w job txn) may = push_stands s (entered s (Commit session w job txn)) (Commit session w job txn) refl (λ n b is. told_of_item s session w _ may n b (eqb-true session n is))
-enter_stands s (Rollback session w job txn) may = push_stands s (entered s (Rollback session w job txn)) (Rollback session w job txn) refl (λ n b is. told_of_item s session w _ may n b (eqb-true session n is))
+pub enter_stands : (l : Layout) (clock : ℕ) (s : Server) (x : Entry) → EnterMay l clock s x → StandSteps s (entered s x)
+enter_stands l clock s (Epoch number) may = absurd may
+enter_stands l clock s (Closed session) may = absurd may
+enter_stands l clock s (OpenedEntry session app) may = push_stands s (entered s (OpenedEntry session app)) (OpenedEntry session app) refl (λ n b is. absurd (cc (is)))
+enter_stands l clock s (Update session w job txn op) may = push_stands s (entered s (Update session w job txn op)) (Update session w job txn op) refl (λ n b is. told_of_item s session w _ may n b (eqb-true session n is))
+enter_stands l clock s (Commit session w job txn) may = push_stands s (entered s (Commit session w job txn)) (Commit session w job txn) refl (λ n b is. told_of_item s session w _ may n b (eqb-true session n is))
+enter_stands l clock s (Rollback session w job txn) may = push_stands s (entered s (Rollback session w job txn)) (Rollback session w job txn) refl (λ n b is. told_of_item s session w _ may n b (eqb-true session n is))
 
 pub shut_stands : (s : Server) (session : ℕ) → StandSteps s (shut s session)
 shut_stands s session = push_stands s (shut s session) (Closed session) refl (λ n b is. absurd (cc (is)))
@@ -123,7 +110,7 @@ crash_stands clock round s kept k = record {
     new = (crashed clock round s kept).order
 
     was : (n i : ℕ) (e : Entry) → is_item_of n e ≡ true → (slice_get (take kept s.order) i ≡ Some e) ⊎ (Epoch (last_epoch (take kept s.order) + 1) ≡ e) → slice_get s.order i ≡ Some e
-    was n i e is (inl old) = taken kept s.order i e old
+    was n i e is (inl old) = get_taken kept s.order i e old
     was n i e is (inr epoch) = absurd (cc (subst (λ y. is_item_of n y ≡ true) (sym epoch) is))
 
     go : (n b j i : ℕ) (e : Entry) → told_in (s.session_at n) ≡ Some b → b ≤ j → j ≤ length (s.past ++ s.order ∷ []) → slice_get new i ≡ Some e → is_item_of n e ≡ true
@@ -131,7 +118,7 @@ crash_stands clock round s kept k = record {
     go n b j i e told low high at is (inl now) = ap (λ (es : List Entry). slice_get es i) now ∙ at
     go n b j i e told low high at is (inr under) =
         ap (λ (es : List Entry). slice_get es i) (get_or_append_left (s.past ++ s.order ∷ []) (new ∷ []) [] j under)
-        ∙ k.stands n b j i e told low (omega (arith, under, length-append s.past (s.order ∷ []))) (was n i e is (pushed (take kept s.order) _ i e at)) is
+        ∙ k.stands n b j i e told low (omega (arith, under, length-append s.past (s.order ∷ []))) (was n i e is (get_pushed (take kept s.order) _ i e at)) is
 
 -- a session that is met has no items yet
 pub met_stands : (l : Layout) (s : Server) (app session : ℕ) → MetMay s app session → IssuedKept (view s) → StandSteps s (met_by l s app session)

@@ -7,7 +7,7 @@ use Rattle.plain_orders.specs.declared.entry.Entry.{Entry}
 use Rattle.plain_orders.specs.declared.entry.Entry.TheVariants.{Epoch, Opened as OpenEntry, Closed, Update, Commit, Rollback}
 use Rattle.plain_orders.specs.declared.op.Op.TheVariants.{Set, Kill, Add}
 use Rattle.plain_orders.specs.declared.item.Item.TheVariants.{Op, Commit as CommitItem, Rollback as RollbackItem}
-use Rattle.plain_orders.specs.declared.question.Question.TheVariants.{Get, Data, Next}
+use Rattle.plain_orders.specs.declared.question.Question.TheVariants.{Get, Shape, Next}
 use Rattle.plain_orders.specs.declared.causes.ShutCause.TheVariants.{Trouble, Replaced, Round}
 use Rattle.plain_orders.specs.declared.causes.PairEnd.TheVariants.{App as AppEnd, Server as ServerEnd}
 use Rattle.plain_orders.specs.declared.causes.Loss.TheVariants.{Reset, Expired, NoWay}
@@ -62,7 +62,7 @@ conditions l p (Shut d session Replaced) = field (λ m. m.is_live) ∷ []
 conditions l p (Shut d session (Round time)) = field (λ m. m.is_live) ∷ field (λ m. m.now) ∷ field (λ m. m.recovering) ∷ field (λ m. m.over) ∷ []
 conditions l p (Release d session) = field (λ m. m.closed) ∷ []
 conditions l p (Met app d session) =
-    field (λ m. m.0) ∷ field (λ m. m.1.place) ∷ field (λ m. m.1.synced) ∷ field (λ m. m.1.entered) ∷ field (λ m. m.1.behind)
+    field (λ m. m.0) ∷ field (λ m. m.1.place) ∷ field (λ m. m.1.synced) ∷ field (λ m. m.1.entered) ∷ field (λ m. m.1.not_lost)
     ∷ field (λ m. m.1.fresh) ∷ field (λ m. m.1.none) ∷ []
 conditions l p (Told app d session epoch kept) = field (λ m. m.0) ∷ field (λ m. m.1.its) ∷ field (λ m. m.1.later) ∷ field (λ m. m.1.place) ∷ []
 conditions l p (Back d) = field (λ m. m.recovering) ∷ field (λ m. m.told) ∷ field (λ m. m.counted) ∷ field (λ m. m.closes) ∷ []
@@ -91,7 +91,7 @@ conditions l p (Read job line d at via (Get key value)) =
     at_server
     (field (λ m. m.1.there) ∷ field (λ m. m.1.no_less) ∷ field (λ m. m.1.within) ∷ field (λ m. m.1.answer.result)
     ∷ field (λ m. m.1.answer.by) ∷ field (λ m. m.1.answer.node.is_key) ∷ field (λ m. m.1.answer.node.within) ∷ [])
-conditions l p (Read job line d at via (Data key code)) =
+conditions l p (Read job line d at via (Shape key code)) =
     at_server
     (field (λ m. m.1.there) ∷ field (λ m. m.1.no_less) ∷ field (λ m. m.1.within) ∷ field (λ m. m.1.answer.result)
     ∷ field (λ m. m.1.answer.by) ∷ field (λ m. m.1.answer.entered) ∷ field (λ m. m.1.answer.node.is_key)

@@ -3,7 +3,7 @@ use Rattle.std.specs.Prelude.{◌≡◌, ℕ, Bool, true, false, ◌==◌, ◌&&
 use Rattle.std.specs.List.{list_any}
 use Rattle.std.specs.Option.{option_map}
 use Rattle.plain_orders.specs.declared.entry.Entry.{Entry}
-use Rattle.plain_orders.specs.declared.entry.Entry.TheVariants.{Epoch, Opened, Closed, Update, Commit, Rollback}
+use Rattle.plain_orders.specs.declared.entry.Entry.TheVariants.{Opened, Closed}
 use Rattle.plain_orders.specs.declared.layout.Layout.{Layout}
 use Rattle.plain_orders.specs.declared.causes.ShutCause.{ShutCause}
 use Rattle.plain_orders.specs.declared.causes.ShutCause.TheVariants.{Trouble, Replaced, Round}
@@ -17,16 +17,17 @@ use Rattle.plain_orders.specs.Entries.{entry_at, live, live_session, last_epoch}
 use Rattle.plain_orders.specs.Own.{Issued}
 use Rattle.plain_runs.specs.Plain.{Plain, Server, Session, Entered, Known, Job, put, with_server, with_session, with_jobs_of, runs_on, order_at, orders, session_in, issued_in, pair_session, until}
 use Rattle.plain_runs.specs.Items.{is_update_of}
-use Rattle.plain_runs.specs.OrderRows.{app_in, with_entry}
+use Rattle.plain_runs.specs.OrderRows.{with_entry}
+use Rattle.plain_orders.specs.Sessions.{app_in, place_of_epoch}
 
 -- when the data end of a session broke
-abbrev pub end_of : Server → Option ℕ → Option ℕ
-end_of s None = None
-end_of s (Some app) = s.end_at app
+abbrev pub end_of_app : Server → Option ℕ → Option ℕ
+end_of_app s None = None
+end_of_app s (Some app) = s.end_at app
 
 -- when the data end of a session's application server broke
 abbrev pub end_in : Server → ℕ → Option ℕ
-end_in s session = end_of s (app_in s.order session)
+end_in s session = end_of_app s (app_in s.order session)
 
 -- a Close at the end, since the data end was broke for too long
 pub record ShutTroubleMay (p : Plain) (s : Server) (session time trouble : ℕ) : Type 0 where
@@ -61,19 +62,9 @@ pub record MetMay (s : Server) (app session : ℕ) : Type 0 where
   pub place : entry_at s.order session ≡ Some (Opened session app)
   pub synced : session ≤ s.synced
   pub entered : is_some (s.entered_at session) ≡ true
-  pub behind : (entered_in s session).lost_since ≡ false
+  pub not_lost : (entered_in s session).lost_since ≡ false
   pub fresh : is_some (s.session_at session) ≡ false
   pub none : is_some (s.pair_at app).session ≡ false
-
--- how many entries stand before the first Epoch above n, those before being k
-abbrev pub place_of_epoch : ℕ → ℕ → List Entry → Option ℕ
-place_of_epoch n k [] = None
-place_of_epoch n k (Epoch number ∷ es) = if nat_lt n number then Some k else place_of_epoch n (k + 1) es
-place_of_epoch n k (Opened session app ∷ es) = place_of_epoch n (k + 1) es
-place_of_epoch n k (Closed session ∷ es) = place_of_epoch n (k + 1) es
-place_of_epoch n k (Update session w job txn op ∷ es) = place_of_epoch n (k + 1) es
-place_of_epoch n k (Commit session w job txn ∷ es) = place_of_epoch n (k + 1) es
-place_of_epoch n k (Rollback session w job txn ∷ es) = place_of_epoch n (k + 1) es
 
 -- the place of the last order that this Epoch began, where it was this before the order at place k
 abbrev pub begun_from : ℕ → ℕ → ℕ → List (List Entry) → ℕ

@@ -1,13 +1,13 @@
 -- Items that were issued, and where they stand in an order.
 use Rattle.std.specs.Prelude.{ℕ, Bool, true, false, ◌==◌, ◌&&◌, ◌||◌, ◌+◌, if◌then◌else◌, List, [], ◌∷◌, not}
-use Rattle.std.specs.List.{list_any}
 use Rattle.plain_orders.specs.declared.entry.Entry.{Entry}
-use Rattle.plain_orders.specs.declared.entry.Entry.TheVariants.{Epoch, Opened, Closed, Update, Commit, Rollback}
+use Rattle.plain_orders.specs.declared.entry.Entry.TheVariants.{Update, Commit, Rollback}
 use Rattle.plain_orders.specs.declared.op.Op.{Op as Operation}
 use Rattle.plain_orders.specs.declared.op.Op.TheVariants.{Set, Kill, Add}
 use Rattle.plain_orders.specs.declared.item.Item.{Item}
 use Rattle.plain_orders.specs.declared.item.Item.TheVariants.{Op, Commit as CommitItem, Rollback as RollbackItem}
 use Rattle.plain_orders.specs.Own.{Issued}
+use Rattle.plain_orders.specs.ItemEntries.{has_item}
 
 -- the entry that an item becomes, by its kind
 abbrev pub entry_of_item : ℕ → ℕ → ℕ → ℕ → Item → Entry
@@ -19,46 +19,10 @@ entry_of_item session w job txn (RollbackItem n) = Rollback session w job n
 abbrev pub entry_of : ℕ → ℕ → Issued → Entry
 entry_of session w i = entry_of_item session w i.job i.txn i.item
 
--- the entry is the item of this session with this running number
-abbrev pub is_item_at : ℕ → ℕ → Entry → Bool
-is_item_at s n (Epoch number) = false
-is_item_at s n (Opened session app) = false
-is_item_at s n (Closed session) = false
-is_item_at s n (Update session w job txn op) = session == s && w == n
-is_item_at s n (Commit session w job txn) = session == s && w == n
-is_item_at s n (Rollback session w job txn) = session == s && w == n
-
--- the entry is an item of this session
-abbrev pub is_item_of : ℕ → Entry → Bool
-is_item_of s (Epoch number) = false
-is_item_of s (Opened session app) = false
-is_item_of s (Closed session) = false
-is_item_of s (Update session w job txn op) = session == s
-is_item_of s (Commit session w job txn) = session == s
-is_item_of s (Rollback session w job txn) = session == s
-
--- the item of this session with this running number stands in the list
-abbrev pub has_item : List Entry → ℕ → ℕ → Bool
-has_item es s n = list_any (is_item_at s n) es
-
--- all that a job issued in a session stands in the list, its items being those behind the first k
+-- all that a job issued in a session stands in the list, its items being those after the first k
 abbrev pub all_stand : List Entry → ℕ → ℕ → ℕ → List Issued → Bool
 all_stand es s job k [] = true
 all_stand es s job k (i ∷ is) = (not (i.job == job) || has_item es s (k + 1)) && all_stand es s job (k + 1) is
-
--- the running number of an item, else 0
-abbrev pub w_of : Entry → ℕ
-w_of (Epoch number) = 0
-w_of (Opened session app) = 0
-w_of (Closed session) = 0
-w_of (Update session w job txn op) = w
-w_of (Commit session w job txn) = w
-w_of (Rollback session w job txn) = w
-
--- the running numbers of a session's items, in the order of the list
-abbrev pub numbers : List Entry → ℕ → List ℕ
-numbers [] s = []
-numbers (e ∷ es) s = if is_item_of s e then w_of e ∷ numbers es s else numbers es s
 
 -- the operation is a Set or a Kill
 abbrev pub is_change_op : Operation → Bool
@@ -110,11 +74,11 @@ is_update_of job txn i = i.job == job && i.txn == txn && is_change i.item
 abbrev pub is_end_of : ℕ → ℕ → Issued → Bool
 is_end_of job txn i = i.job == job && ends txn i.item
 
--- the same, issued at this line
-abbrev pub is_end_at : ℕ → ℕ → ℕ → Issued → Bool
-is_end_at job txn line i = is_end_of job txn i && i.line == line
+-- a Commit or Rollback of the job, for any transaction, issued at this line
+abbrev pub is_end_at : ℕ → ℕ → Issued → Bool
+is_end_at job line i = (i.job == job && i.line == line) && (is_commit i.item || is_rollback i.item)
 
--- whether the transaction was ended behind the job's last update in it, where it was ended before or not
+-- whether the transaction was ended after the job's last update in it, where it was ended before or not
 abbrev pub ended_from : ℕ → ℕ → Bool → List Issued → Bool
 ended_from job txn b [] = b
 ended_from job txn b (i ∷ is) = ended_from job txn (if is_update_of job txn i then false else (b || is_end_of job txn i)) is

@@ -11,7 +11,7 @@ use Rattle.subscript_keys.specs.declared.sub.Sub.{Sub}
 use Rattle.subscript_keys.specs.declared.sub.Sub.TheVariants.{Text}
 use Rattle.subscript_keys.specs.Key.{IsKey, IsWithinLimit, sub_bytes}
 use Rattle.plain_orders.specs.declared.question.Question.{Question}
-use Rattle.plain_orders.specs.declared.question.Question.TheVariants.{Get, Data, Next}
+use Rattle.plain_orders.specs.declared.question.Question.TheVariants.{Get, Shape, Next}
 use Rattle.plain_orders.specs.declared.layout.Layout.{Layout}
 use Rattle.plain_orders.specs.declared.refused.Refused.{Refused}
 use Rattle.plain_orders.specs.declared.refused.Refused.TheVariants.{NoTransaction, TooDeep, RollbackOnly, LockTimeout, Network}
@@ -26,7 +26,8 @@ use Rattle.plain_orders.specs.Answers.{data_on, IsNextOn, sum_at}
 use Rattle.plain_orders.specs.Own.{Issued, own, value_over, touches_own}
 use Rattle.plain_orders.specs.Ordered.{KeyMay, OpMay}
 use Rattle.plain_runs.specs.Plain.{Plain, Server, Known, Job, with_server, with_known, with_session, app_of, issued_in, pair_session, told_order}
-use Rattle.plain_runs.specs.Items.{entry_of, all_stand, w_of, is_change, is_add, is_update_of, is_end_at, ended_from}
+use Rattle.plain_runs.specs.Items.{entry_of, all_stand, is_change, is_add, is_update_of, is_end_at, ended_from}
+use Rattle.plain_orders.specs.ItemEntries.{w_of}
 
 -- the job is there, and its application server lives
 pub record JobMay (layout : Layout) (p : Plain) (job : ℕ) : Type 0 where
@@ -53,7 +54,7 @@ txn_of x (Op op) = if is_change (Op op) then (if x.level == 0 then 0 else x.txn)
 txn_of x (Commit n) = n
 txn_of x (Rollback n) = n
 
--- a transaction that the job may end: it has an update in it, and didn't end it behind the last of these
+-- a transaction that the job may end: it has an update in it, and didn't end it after the last of these
 pub record EndMay (job txn : ℕ) (issued : List Issued) : Type 0 where
   pub positive : 0 < txn
   pub used : list_any (is_update_of job txn) issued ≡ true
@@ -78,7 +79,7 @@ is_own Own = true
 is_own Cached = false
 is_own Fetched = false
 
--- the job's own updates behind the first n entries of the order that its pair is told of
+-- the job's own updates after the first n entries of the order that its pair is told of
 abbrev pub own_behind : Server → ℕ → ℕ → ℕ → List Operation
 own_behind s app job n = own (pair_issued s app) job (count (take n (told_order s app)) (pair_session s app))
 
@@ -116,7 +117,7 @@ pub record NextIs (s : Server) (app job n : ℕ) (via : Via) (parent : List ℕ)
 -- what a read is answered
 abbrev pub AnswerIs : Server → ℕ → ℕ → ℕ → Via → Question → Type 0
 AnswerIs s app job n via (Get key value) = GetIs s app job n via key value
-AnswerIs s app job n via (Data key code) = DataIs s app job n via key code
+AnswerIs s app job n via (Shape key code) = DataIs s app job n via key code
 AnswerIs s app job n via (Next parent sub found) = NextIs s app job n via parent sub found
 
 -- a read is answered on a prefix that is no shorter than what the job has seen
@@ -169,13 +170,13 @@ pub record ReachedMay (s : Server) (app job at : ℕ) : Type 0 where
 abbrev pub is_near : ℕ → ℕ → Bool
 is_near old level = (level == old + 1 || level + 1 == old) || level == 0
 
--- a session with updates of the job's open transaction has an end of it, issued at this line
+-- where the session has updates of the job's open transaction, a Commit or Rollback of the job was issued in it at this line
 abbrev pub is_ended : Server → ℕ → ℕ → Job → ℕ → Bool
 is_ended s app job x line =
     (not (has_session s app) || not (nat_lt 0 x.level && list_any (is_update_of job x.txn) (pair_issued s app)))
-    || list_any (is_end_at job x.txn line) (pair_issued s app)
+    || list_any (is_end_at job line) (pair_issued s app)
 
--- a level comes behind its neighbour; 0 comes once the open transaction is ended in each living session
+-- a level comes after its neighbour; 0 comes once each living session with updates of the open transaction has such an end
 pub record LevelMay (p : Plain) (app job line level : ℕ) : Type 0 where
   pub near : is_near (p.job_at job).level level ≡ true
   pub ended : level ≡ 0 → (d : ℕ) → is_ended (p.server_at d) app job (p.job_at job) line ≡ true

@@ -1,5 +1,5 @@
 -- Laws over every run of the plain machine.
-use Rattle.std.specs.Prelude.{◌≡◌, ◌≢◌, ℕ, zero, suc, Bool, true, false, ◌+◌, ◌<◌, ◌≤◌, List, [], ◌∷◌, ◌++◌, length, take, Option, Some, None, slice_get, is_some, ◌||◌, ◌⊎◌, IsSomeAnd, ◌-◌}
+use Rattle.std.specs.Prelude.{◌≡◌, ◌≢◌, ℕ, zero, suc, Bool, true, false, ◌+◌, ◌<◌, ◌≤◌, List, [], ◌∷◌, ◌++◌, length, take, Option, Some, None, slice_get, is_some, ◌⊎◌, IsSomeAnd, ◌-◌}
 use Rattle.plain_orders.specs.declared.act.Act.{Act}
 use Rattle.plain_orders.specs.declared.act.Act.TheVariants.{Opened, Enter, Synced, Shut, Release, Met, Told, Back, Crash, Issue, Read, Grant, Granted, GiveUp, Quit, Free, Counted, NotWhole, Range, Committed, RolledBack, Reached, Level, Done, Refused, Broke, Mended, Tick, Lose, Died}
 use Rattle.plain_orders.specs.declared.refused.Refused.{Refused as Refusal}
@@ -7,17 +7,18 @@ use Rattle.plain_orders.specs.declared.refused.Refused.TheVariants.{NoTransactio
 use Rattle.plain_orders.specs.declared.layout.Layout.{Layout}
 use Rattle.plain_orders.specs.declared.entry.Entry.{Entry}
 use Rattle.plain_orders.specs.declared.entry.Entry.TheVariants.{Epoch}
-use Rattle.plain_orders.specs.Entries.{last_epoch}
-use Rattle.plain_orders.specs.Entries.{closed_by}
+use Rattle.plain_orders.specs.Entries.{closed_by, last_epoch}
 use Rattle.plain_orders.specs.Conflict.{is_conflict}
+use Rattle.plain_orders.specs.Ordered.{IsOrdered}
 use Rattle.plain_runs.specs.Plain.{Plain, Server, Hold, Given, current, order_at, issued_in, app_of, told_order}
-use Rattle.plain_runs.specs.Items.{numbers, all_stand, entry_of, w_of, is_item_of}
+use Rattle.plain_runs.specs.Items.{all_stand, entry_of}
 use Rattle.plain_orders.specs.Own.{Issued}
 use Rattle.std.specs.Option.{option_map}
-use Rattle.plain_runs.specs.OrderRows.{binds}
 use Rattle.plain_runs.specs.JobRows.{has_session}
 use Rattle.plain_runs.specs.Step.{MayCome, after}
 use Rattle.plain_runs.specs.Run.{IsRun, state_after}
+use Rattle.plain_orders.specs.ItemEntries.{numbers, w_of, is_item_of}
+use Rattle.plain_runs.specs.Holds.{binds, touched}
 
 -- A run goes on with an act that may come, and then the state is what the act makes of it.
 abbrev pub Extended : Type 0
@@ -26,49 +27,49 @@ Extended =
     → IsRun layout (acts ++ a ∷ []) × (state_after layout (acts ++ a ∷ []) ≡ after layout (state_after layout acts) a)
 
 -- the data server that a refusal names
-abbrev pub server_of_refusal : Refusal → Option ℕ
-server_of_refusal NoTransaction = None
-server_of_refusal TooDeep = None
-server_of_refusal RollbackOnly = None
-server_of_refusal LockTimeout = None
-server_of_refusal (Network server state reason) = Some server
+abbrev pub refusal_server : Refusal → Option ℕ
+refusal_server NoTransaction = None
+refusal_server TooDeep = None
+refusal_server RollbackOnly = None
+refusal_server LockTimeout = None
+refusal_server (Network server state reason) = Some server
 
 -- the data server that an act names
-abbrev pub server_of : Act → Option ℕ
-server_of (Opened d entries) = Some d
-server_of (Enter d entry) = Some d
-server_of (Synced d n) = Some d
-server_of (Shut d session cause) = Some d
-server_of (Release d session) = Some d
-server_of (Met app d session) = Some d
-server_of (Told app d session epoch kept) = Some d
-server_of (Back d) = Some d
-server_of (Crash d kept) = Some d
-server_of (Issue job line d w item) = Some d
-server_of (Read job line d at via question) = Some d
-server_of (Grant d session job mode key at) = Some d
-server_of (Granted job line d at) = Some d
-server_of (GiveUp job line d mode key) = Some d
-server_of (Quit job line d mode key) = Some d
-server_of (Free d session job mode key) = Some d
-server_of (Counted job line d at sum) = Some d
-server_of (NotWhole job line d at) = Some d
-server_of (Range job line d at) = Some d
-server_of (Committed job line d at) = Some d
-server_of (RolledBack job line d at) = Some d
-server_of (Reached job line d at) = Some d
-server_of (Level job line level) = None
-server_of (Done job line) = None
-server_of (Refused job line refusal) = server_of_refusal refusal
-server_of (Broke app d end time) = Some d
-server_of (Mended app d) = Some d
-server_of (Tick time) = None
-server_of (Lose app d loss) = Some d
-server_of (Died app) = None
+abbrev pub act_server : Act → Option ℕ
+act_server (Opened d entries) = Some d
+act_server (Enter d entry) = Some d
+act_server (Synced d n) = Some d
+act_server (Shut d session cause) = Some d
+act_server (Release d session) = Some d
+act_server (Met app d session) = Some d
+act_server (Told app d session epoch kept) = Some d
+act_server (Back d) = Some d
+act_server (Crash d kept) = Some d
+act_server (Issue job line d w item) = Some d
+act_server (Read job line d at via question) = Some d
+act_server (Grant d session job mode key at) = Some d
+act_server (Granted job line d at) = Some d
+act_server (GiveUp job line d mode key) = Some d
+act_server (Quit job line d mode key) = Some d
+act_server (Free d session job mode key) = Some d
+act_server (Counted job line d at sum) = Some d
+act_server (NotWhole job line d at) = Some d
+act_server (Range job line d at) = Some d
+act_server (Committed job line d at) = Some d
+act_server (RolledBack job line d at) = Some d
+act_server (Reached job line d at) = Some d
+act_server (Level job line level) = None
+act_server (Done job line) = None
+act_server (Refused job line refusal) = refusal_server refusal
+act_server (Broke app d end time) = Some d
+act_server (Mended app d) = Some d
+act_server (Tick time) = None
+act_server (Lose app d loss) = Some d
+act_server (Died app) = None
 
 -- An act leaves each server that it doesn't name.
 abbrev pub Framed : Type 0
-Framed = (layout : Layout) (p : Plain) (a : Act) (d : ℕ) → server_of a ≢ Some d → (after layout p a).server_at d ≡ p.server_at d
+Framed = (layout : Layout) (p : Plain) (a : Act) (d : ℕ) → act_server a ≢ Some d → (after layout p a).server_at d ≡ p.server_at d
 
 -- an act by which what a job has seen may fall
 abbrev pub may_fall : Act → Bool
@@ -126,6 +127,10 @@ NeighboursAgree =
     (layout : Layout) (acts : List Act) (d k : ℕ) → IsRun layout acts → k < current (server_after layout acts d)
     → IsNextOrder (order_at (server_after layout acts d) k) (order_at (server_after layout acts d) (k + 1))
 
+-- Each order is an ordered list.
+abbrev pub EachIsOrdered : Type 0
+EachIsOrdered = (layout : Layout) (acts : List Act) (d k : ℕ) → IsRun layout acts → IsOrdered (order_at (server_after layout acts d) k)
+
 -- What was synced stands at its position in each order from then on.
 abbrev pub SyncedStays : Type 0
 SyncedStays =
@@ -134,7 +139,7 @@ SyncedStays =
     → take (server_after layout before d).synced (order_at (server_after layout (before ++ later) d) k)
     ≡ take (server_after layout before d).synced (server_after layout before d).order
 
--- the n numbers behind k, from k + 1
+-- the n numbers after k, from k + 1
 abbrev pub count_up : ℕ → ℕ → List ℕ
 count_up k zero = []
 count_up k (suc n) = (k + 1) ∷ count_up (k + 1) n
@@ -156,10 +161,6 @@ NoConflict =
     → IsHold (server_after layout acts d) i h → IsHold (server_after layout acts d) j k → i ≢ j
     → binds h ≡ true → binds k ≡ true → ((h.session ≡ k.session) × (h.job ≡ k.job) → ⊥)
     → is_conflict h.mode h.key k.mode k.key ≡ false
-
--- answered or given up
-abbrev pub touched : Hold → Bool
-touched h = h.answered || is_some h.given
 
 -- A Close of the hold's session stands in the order, or it was given up and all that its job issued in its session before stands there.
 abbrev pub IsHandedOver : Server → Hold → Type 0

@@ -1,5 +1,6 @@
 pub mod Plain
 pub mod Items
+pub mod Holds
 pub mod OrderRows
 pub mod EndRows
 pub mod JobRows
@@ -7,18 +8,6 @@ pub mod LockRows
 pub mod Step
 pub mod Run
 pub mod Recording
-pub mod FirstRun
 pub mod Laws
 pub mod Together
 pub mod Conditions
-pub mod Fronts
-pub mod LockFronts
-pub mod JobFronts
-pub mod ChangeFronts
-pub mod EntryExamples
-pub mod OrderExamples
-pub mod EndExamples
-pub mod LockExamples
-pub mod JobExamples
-pub mod AnswerExamples
-pub mod ChangeExamples

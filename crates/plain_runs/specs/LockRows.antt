@@ -1,40 +1,18 @@
 -- The rows on holds.
-use Rattle.std.specs.Prelude.{◌≡◌, ℕ, Bool, true, false, ◌==◌, ◌&&◌, ◌||◌, ◌+◌, ◌≤◌, if◌then◌else◌, List, [], ◌∷◌, ◌++◌, length, take, Option, Some, None, map, filter, not, is_some, nat_eq, nat_lt}
+use Rattle.std.specs.Prelude.{◌≡◌, ℕ, Bool, true, false, ◌==◌, ◌&&◌, ◌+◌, ◌≤◌, if◌then◌else◌, List, [], ◌∷◌, ◌++◌, length, take, Option, Some, None, map, filter, not, is_some, nat_eq, nat_lt}
 use Rattle.std.specs.List.{list_any}
-use Rattle.std.specs.Option.{option_map}
 use Rattle.std.specs.Cmp.Lexicographic.{pointwise}
 use Rattle.plain_orders.specs.declared.mode.Mode.{Mode}
-use Rattle.plain_orders.specs.declared.mode.Mode.TheVariants.{Exclusive, Shared}
 use Rattle.plain_orders.specs.Entries.{live, closed_by}
-use Rattle.plain_orders.specs.Conflict.{is_conflict}
 use Rattle.plain_orders.specs.Ordered.{KeyMay}
 use Rattle.plain_runs.specs.Plain.{Server, Job, Hold, Given, Quitted, pair_session, issued_in}
 use Rattle.plain_runs.specs.Items.{all_stand}
-use Rattle.plain_runs.specs.OrderRows.{is_sent, binds}
 use Rattle.plain_runs.specs.JobRows.{has_session, acted, sees_up}
-
--- the modes are the same
-abbrev pub is_mode : Mode → Mode → Bool
-is_mode Exclusive Exclusive = true
-is_mode Exclusive Shared = false
-is_mode Shared Exclusive = false
-is_mode Shared Shared = true
-
--- the hold is of this holder
-abbrev pub is_of : ℕ → ℕ → Hold → Bool
-is_of session job h = h.session == session && h.job == job
-
--- the hold is of this node and mode
-abbrev pub is_lock : Mode → List ℕ → Hold → Bool
-is_lock mode key h = is_mode h.mode mode && pointwise nat_eq h.key key
+use Rattle.plain_runs.specs.Holds.{binds, is_mode, opposes, is_sent_at, is_kept, is_asked, given_hold, new_hold, answered_hold, released_hold, given_up, is_same_given, freed_hold}
 
 -- the quit is of this holder, node and mode
 abbrev pub is_quit : ℕ → ℕ → Mode → List ℕ → Quitted → Bool
 is_quit session job mode key q = (q.session == session && q.job == job) && (is_mode q.mode mode && pointwise nat_eq q.key key)
-
--- a hold of another holder that stands in the way
-abbrev pub opposes : ℕ → ℕ → Mode → List ℕ → Hold → Bool
-opposes session job mode key h = not (is_of session job h) && is_conflict h.mode h.key mode key
 
 -- a lock on a node is granted against no hold in force of another holder, while no round is due
 pub record GrantMay (s : Server) (session job : ℕ) (mode : Mode) (key : List ℕ) (at : ℕ) : Type 0 where
@@ -43,10 +21,6 @@ pub record GrantMay (s : Server) (session job : ℕ) (mode : Mode) (key : List �
   pub here : at ≡ length s.order
   pub free : list_any (λ h. binds h && opposes session job mode key h) s.holds ≡ false
   pub node : KeyMay key
-
--- a sent hold of this holder with this number
-abbrev pub is_sent_at : ℕ → ℕ → ℕ → Hold → Bool
-is_sent_at session job at h = is_sent h && (is_of session job h && h.at == at)
 
 -- a grant reaches its job once its number is synced
 pub record GrantedMay (s : Server) (app job at : ℕ) : Type 0 where
@@ -58,14 +32,6 @@ pub record GrantedMay (s : Server) (app job at : ℕ) : Type 0 where
 pub record ReleaseMay (s : Server) (session : ℕ) : Type 0 where
   pub closed : closed_by s.order session s.synced ≡ true
 
--- an answered hold, with this node and mode
-abbrev pub is_kept : ℕ → ℕ → Mode → List ℕ → Hold → Bool
-is_kept session job mode key h = (h.answered && not (is_some h.given)) && (not h.gone && (is_of session job h && is_lock mode key h))
-
--- a sent hold, with this node and mode
-abbrev pub is_asked : ℕ → ℕ → Mode → List ℕ → Hold → Bool
-is_asked session job mode key h = is_sent h && (is_of session job h && is_lock mode key h)
-
 -- an answered hold is given up, in force or not
 pub record GiveUpMay (s : Server) (app job : ℕ) (mode : Mode) (key : List ℕ) : Type 0 where
   pub session : has_session s app ≡ true
@@ -75,10 +41,6 @@ pub record GiveUpMay (s : Server) (app job : ℕ) (mode : Mode) (key : List ℕ)
 pub record QuitMay (s : Server) (app : ℕ) (key : List ℕ) : Type 0 where
   pub session : has_session s app ≡ true
   pub node : KeyMay key
-
--- when a hold in force of this holder, node and mode was given up
-abbrev pub given_hold : ℕ → ℕ → Mode → List ℕ → Hold → Option Given
-given_hold session job mode key h = if binds h && (is_of session job h && is_lock mode key h) then h.given else None
 
 -- when a request of this holder, node and mode was given up
 abbrev pub given_quit : ℕ → ℕ → Mode → List ℕ → Quitted → Option Given
@@ -131,11 +93,6 @@ abbrev pub drop_quit : (Quitted → Bool) → List Quitted → List Quitted
 drop_quit p [] = []
 drop_quit p (q ∷ qs) = if p q then qs else q ∷ drop_quit p qs
 
--- a hold in force and sent; where the request was given up before, it is given up as of that
-abbrev pub new_hold : ℕ → ℕ → Mode → List ℕ → ℕ → Option Quitted → Hold
-new_hold session job mode key at q =
-    record { session = session; job = job; mode = mode; key = key; at = at; answered = false; given = option_map (λ (x : Quitted). x.given) q; in_force = true; gone = false }
-
 -- a new hold, in place of the earliest quit of its holder, node and mode if there is one
 abbrev pub grants : Server → ℕ → ℕ → Mode → List ℕ → ℕ → Server
 grants s session job mode key at =
@@ -144,29 +101,17 @@ grants s session job mode key at =
       quits = drop_quit (is_quit session job mode key) s.quits;
     }
 
--- the hold is answered
-abbrev pub answered_hold : Hold → Hold
-answered_hold h = record h { answered = true }
-
 -- the earliest such hold is answered
 abbrev pub granted : Server → ℕ → ℕ → ℕ → Server
 granted s app job at = sees_up (record s { holds = change_first (is_sent_at (pair_session s app) job at) answered_hold s.holds }) job at
-
--- a hold of the session is no longer in force
-abbrev pub released_hold : ℕ → Hold → Hold
-released_hold session h = record h { in_force = if h.session == session then false else h.in_force }
 
 -- the holds of the session are no longer in force, and its quits go
 abbrev pub releases : Server → ℕ → Server
 releases s session = record s { holds = map (released_hold session) s.holds; quits = filter (λ (q : Quitted). not (q.session == session)) s.quits }
 
--- given up at this turn, behind what was issued in the session so far
+-- given up at this turn, after what was issued in the session so far
 abbrev pub given_now : Server → ℕ → Given
 given_now s session = record { turn = s.turns; before = length (issued_in s session) }
-
--- the hold is given up
-abbrev pub given_up : Given → Hold → Hold
-given_up g h = record h { given = Some g }
 
 -- the latest such hold is given up
 abbrev pub gives_up : Server → ℕ → ℕ → Mode → List ℕ → Server
@@ -192,16 +137,6 @@ quits s app job mode key =
 -- the job gave a request up at this line
 abbrev pub quits_at : Job → ℕ → Job
 quits_at x line = record x { quit_lines = x.quit_lines ++ line ∷ [] }
-
--- both are there, and are the same
-abbrev pub is_same_given : Option Given → Option Given → Bool
-is_same_given None o = false
-is_same_given (Some g) None = false
-is_same_given (Some g) (Some o) = g.turn == o.turn && g.before == o.before
-
--- the hold goes if it is the one that is freed
-abbrev pub freed_hold : Option Given → ℕ → ℕ → Mode → List ℕ → Hold → Hold
-freed_hold first session job mode key h = record h { gone = h.gone || is_same_given (given_hold session job mode key h) first }
 
 -- the one that was given up first goes
 abbrev pub frees : Server → ℕ → ℕ → Mode → List ℕ → Server

@@ -1,67 +1,34 @@
 -- The rows on the order of a data server.
-use Rattle.std.specs.Prelude.{◌≡◌, ℕ, Bool, true, false, ◌==◌, ◌&&◌, ◌||◌, ◌+◌, ◌-◌, ◌≤◌, ◌^◌, if◌then◌else◌, List, [], ◌∷◌, ◌++◌, length, take, drop, Option, Some, None, slice_get, map, filter, not, nat_lt, is_some}
+use Rattle.std.specs.Prelude.{◌≡◌, ℕ, Bool, true, false, ◌==◌, ◌&&◌, ◌+◌, ◌-◌, ◌≤◌, ◌^◌, if◌then◌else◌, List, [], ◌∷◌, ◌++◌, length, take, drop, Option, Some, None, slice_get, map, is_some}
 use Rattle.std.specs.List.{list_any, list_all}
 use Rattle.std.specs.Option.{option_map}
 use Rattle.plain_orders.specs.declared.entry.Entry.{Entry}
 use Rattle.plain_orders.specs.declared.entry.Entry.TheVariants.{Epoch, Opened, Closed, Update, Commit, Rollback}
+use Rattle.plain_orders.specs.declared.layout.Layout.{Layout}
+use Rattle.plain_orders.specs.declared.limits.TheConstants.{START_EPOCH_LIMIT}
 use Rattle.plain_orders.specs.Entries.{count, live, last_epoch, live_session}
 use Rattle.plain_orders.specs.Ordered.{IsOrdered}
-use Rattle.plain_runs.specs.Plain.{Server, Hold, put, current, until, issued_in, session_in}
+use Rattle.plain_runs.specs.Plain.{Server, put, current, until, issued_in, session_in}
 use Rattle.plain_runs.specs.Items.{entry_of}
-
--- the sessions that were opened in a list, in its order
-abbrev pub opened_sessions : List Entry → List ℕ
-opened_sessions [] = []
-opened_sessions (Epoch number ∷ es) = opened_sessions es
-opened_sessions (Opened session app ∷ es) = session ∷ opened_sessions es
-opened_sessions (Closed session ∷ es) = opened_sessions es
-opened_sessions (Update session w job txn op ∷ es) = opened_sessions es
-opened_sessions (Commit session w job txn ∷ es) = opened_sessions es
-opened_sessions (Rollback session w job txn ∷ es) = opened_sessions es
-
--- those of them that are live
-abbrev pub live_sessions : List Entry → List ℕ
-live_sessions es = filter (live es) (opened_sessions es)
+use Rattle.plain_orders.specs.Sessions.{live_sessions, app_in, is_close}
+use Rattle.plain_runs.specs.Holds.{hold_after_crash, hold_after_back}
 
 -- a recovery round is due where a session is live
 abbrev pub due_of : List Entry → ℕ → ℕ → Option ℕ
 due_of es clock round = if length (live_sessions es) == 0 then None else Some (until clock round)
 
--- the application server of the session's Open, where it was this before
-abbrev pub app_after : Option ℕ → Entry → ℕ → Option ℕ
-app_after o (Epoch number) s = o
-app_after o (Opened session app) s = if session == s then Some app else o
-app_after o (Closed session) s = o
-app_after o (Update session w job txn op) s = o
-app_after o (Commit session w job txn) s = o
-app_after o (Rollback session w job txn) s = o
-
--- the same behind several
-abbrev pub app_from : Option ℕ → List Entry → ℕ → Option ℕ
-app_from o [] s = o
-app_from o (e ∷ es) s = app_from (app_after o e s) es s
-
--- the application server of a session, by its Open
-abbrev pub app_in : List Entry → ℕ → Option ℕ
-app_in es s = app_from None es s
-
--- the entry is a Close
-abbrev pub is_close : Entry → Bool
-is_close (Epoch number) = false
-is_close (Opened session app) = false
-is_close (Closed session) = true
-is_close (Update session w job txn op) = false
-is_close (Commit session w job txn) = false
-is_close (Rollback session w job txn) = false
-
 -- what the journal held
 pub record OpenedMay (s : Server) (entries : List Entry) : Type 0 where
   pub fresh : s.opened ≡ false
   pub ordered : IsOrdered entries
-  pub low : last_epoch entries ≤ 2 ^ 31
+  pub low : last_epoch entries ≤ START_EPOCH_LIMIT
 
--- an Open at the end
-pub record OpenMay (s : Server) (session app : ℕ) : Type 0 where
+-- the session was met, and is told of the current order
+abbrev pub is_told : Server → ℕ → Bool
+is_told s n = is_some (s.session_at n) && (session_in s n).told == current s
+
+-- an Open at the end; the layout and the clock are there for a form of Open that says more
+pub record OpenMay (layout : Layout) (clock : ℕ) (s : Server) (session app : ℕ) : Type 0 where
   pub opened : s.opened ≡ true
   pub place : session ≡ length s.order + 1
   pub alone : live_session s.order app ≡ None
@@ -70,18 +37,18 @@ pub record OpenMay (s : Server) (session app : ℕ) : Type 0 where
 -- an item of a session at the end
 pub record ItemMay (s : Server) (session w : ℕ) (e : Entry) : Type 0 where
   pub is_live : live s.order session ≡ true
-  pub told : (session_in s session).told ≡ current s
+  pub told : is_told s session ≡ true
   pub next : w ≡ count s.order session + 1
   pub issued : option_map (entry_of session w) (slice_get (issued_in s session) (w - 1)) ≡ Some e
 
 -- an Open or an item enters
-abbrev pub EnterMay : Server → Entry → Type 0
-EnterMay s (Epoch number) = ⊥
-EnterMay s (Opened session app) = OpenMay s session app
-EnterMay s (Closed session) = ⊥
-EnterMay s (Update session w job txn op) = ItemMay s session w (Update session w job txn op)
-EnterMay s (Commit session w job txn) = ItemMay s session w (Commit session w job txn)
-EnterMay s (Rollback session w job txn) = ItemMay s session w (Rollback session w job txn)
+abbrev pub EnterMay : Layout → ℕ → Server → Entry → Type 0
+EnterMay layout clock s (Epoch number) = ⊥
+EnterMay layout clock s (Opened session app) = OpenMay layout clock s session app
+EnterMay layout clock s (Closed session) = ⊥
+EnterMay layout clock s (Update session w job txn op) = ItemMay s session w (Update session w job txn op)
+EnterMay layout clock s (Commit session w job txn) = ItemMay s session w (Commit session w job txn)
+EnterMay layout clock s (Rollback session w job txn) = ItemMay s session w (Rollback session w job txn)
 
 -- more of the order is synced
 pub record SyncedMay (s : Server) (n : ℕ) : Type 0 where
@@ -94,11 +61,7 @@ pub record CrashMay (s : Server) (kept : ℕ) : Type 0 where
   pub opened : s.opened ≡ true
   pub no_less : s.synced ≤ kept
   pub within : kept ≤ length s.order
-  pub low : last_epoch (take kept s.order) ≤ 2 ^ 31
-
--- the session was met, and is told of the current order
-abbrev pub is_told : Server → ℕ → Bool
-is_told s n = is_some (s.session_at n) && (session_in s n).told == current s
+  pub low : last_epoch (take kept s.order) ≤ START_EPOCH_LIMIT
 
 -- all that was issued in the session has entered
 abbrev pub is_counted : Server → ℕ → Bool
@@ -156,22 +119,6 @@ entered s (Rollback session w job txn) = entered_of s session (Rollback session 
 abbrev pub saved : Server → ℕ → Server
 saved s n = record s { synced = n }
 
--- neither answered nor given up, and there
-abbrev pub is_sent : Hold → Bool
-is_sent h = not h.answered && (not (is_some h.given) && not h.gone)
-
--- in force, and there
-abbrev pub binds : Hold → Bool
-binds h = h.in_force && not h.gone
-
--- What was sent above the cut goes. A hold of a session that isn't live is no longer in force.
-abbrev pub hold_after_crash : List Entry → ℕ → Hold → Hold
-hold_after_crash es kept h =
-    record h {
-      in_force = if live es h.session then h.in_force else false;
-      gone = h.gone || (is_sent h && nat_lt kept h.at);
-    }
-
 -- a new order: the entries kept and the next Epoch
 abbrev pub crashed : ℕ → ℕ → Server → ℕ → Server
 crashed clock round s kept =
@@ -184,10 +131,6 @@ crashed clock round s kept =
       holds = map (hold_after_crash (take kept s.order) kept) s.holds;
       due = due_of (take kept s.order) clock round;
     }
-
--- of a live session what is in force and not answered, or given up, goes
-abbrev pub hold_after_back : List Entry → Hold → Hold
-hold_after_back es h = record h { gone = h.gone || (live es h.session && (binds h && (not h.answered || is_some h.given))) }
 
 -- no round is due any more, and what was not claimed goes
 abbrev pub came_back : Server → Server

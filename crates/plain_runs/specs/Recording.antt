@@ -10,6 +10,6 @@ pub record Recording : Type 0 where
   pub layout : Layout
   pub acts : List Act
 
--- the plain machine's state behind it
+-- the plain machine's state after it
 abbrev pub state_of : Recording → Plain
 state_of r = state_after r.layout r.acts

@@ -10,7 +10,7 @@ abbrev pub after_all : Layout → Plain → List Act → Plain
 after_all layout p [] = p
 after_all layout p (a ∷ acts) = after_all layout (after layout p a) acts
 
--- each act may come behind those before it
+-- each act may come after those before it
 abbrev pub RunFrom : Layout → Plain → List Act → Type 0
 RunFrom layout p [] = Unit {0}
 RunFrom layout p (a ∷ acts) = MayCome layout p a × RunFrom layout (after layout p a) acts

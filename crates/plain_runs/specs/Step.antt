@@ -18,7 +18,7 @@ Lives p app = p.died_at app ≡ false
 -- Which act may come.
 abbrev pub MayCome : Layout → Plain → Act → Type 0
 MayCome l p (Opened d entries) = OpenedMay (p.server_at d) entries
-MayCome l p (Enter d entry) = EnterMay (p.server_at d) entry
+MayCome l p (Enter d entry) = EnterMay l p.clock (p.server_at d) entry
 MayCome l p (Synced d n) = SyncedMay (p.server_at d) n
 MayCome l p (Shut d session cause) = ShutMay l p (p.server_at d) session cause
 MayCome l p (Release d session) = ReleaseMay (p.server_at d) session

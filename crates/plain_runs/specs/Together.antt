@@ -1,4 +1,4 @@
--- Conditions that never fail alone: where one fails, another one of the act fails too, behind every run.
+-- Conditions that never fail alone: where one fails, another one of the act fails too, after every run.
 use Rattle.std.specs.Prelude.{◌≡◌, ◌≢◌, ◌⊎◌, ℕ, Bool, true, false, ◌≤◌, ◌<◌, List, length, take, Some, None, is_some}
 use Rattle.std.specs.List.{list_any}
 use Rattle.plain_orders.specs.declared.act.Act.{Act}
@@ -17,11 +17,12 @@ use Rattle.plain_orders.specs.Fold.{fold, is_begun}
 use Rattle.plain_orders.specs.Ordered.{IsOrdered}
 use Rattle.plain_runs.specs.Plain.{Server, app_of, order_at, pair_session, session_in, told_order}
 use Rattle.plain_runs.specs.Items.{all_stand, is_add, is_update_of}
-use Rattle.plain_runs.specs.EndRows.{begun_by, entered_in, place_of_epoch}
-use Rattle.plain_runs.specs.LockRows.{is_kept, is_sent_at}
+use Rattle.plain_runs.specs.EndRows.{begun_by, entered_in}
 use Rattle.plain_runs.specs.JobRows.{RefusedMay, answered_entry, has_session, is_answered_item, item_at, pair_issued}
 use Rattle.plain_runs.specs.Run.{IsRun, state_after}
 use Rattle.plain_runs.specs.Laws.{server_after}
+use Rattle.plain_orders.specs.Sessions.{place_of_epoch}
+use Rattle.plain_runs.specs.Holds.{is_kept, is_sent_at}
 
 -- in its pair's session no answered hold of the job that could be given up, no item of it at a place of the told order,
 -- and no update of it

@@ -1,12 +1,6 @@
-ghost use Rattle.plain_runs.specs.FirstRun.{FirstRunIsRun};
 ghost use Rattle.plain_runs.specs.Conditions.{FailureRefuses, FailureRefusesBehind, NoneIsLeftOut, NoneIsLeftOutBehind};
 ghost use Rattle.plain_runs.specs.Together.{AllInOrderAreTold, AnsweredIsTold, BarredDidNothing, MetOnce, NoLaterEpoch, NoneWithoutSession, OnlyAddsSum, OpenIsLive, StrangersAreToldNothing, StrangersDidNothing};
-ghost use Rattle.plain_runs.specs.Laws.{Extended, Framed, ItemsInOrder, ItemsWereIssued, NeighboursAgree, NoConflict, SeenIsTold, SeenNeverFalls, Settled, SyncedStays};
-
-/// The trail of the worked first run is a run.
-pub fn first_run_is_run()
-    ensures { FirstRunIsRun }
-{}
+ghost use Rattle.plain_runs.specs.Laws.{EachIsOrdered, Extended, Framed, ItemsInOrder, ItemsWereIssued, NeighboursAgree, NoConflict, SeenIsTold, SeenNeverFalls, Settled, SyncedStays};
 
 /// A run goes on with an act that may come.
 pub fn a_run_goes_on()
@@ -26,6 +20,11 @@ pub fn what_is_seen_never_falls()
 /// Each order but the first keeps a front of the one before.
 pub fn neighbouring_orders_agree()
     ensures { NeighboursAgree }
+{}
+
+/// Each order is an ordered list.
+pub fn each_order_is_ordered()
+    ensures { EachIsOrdered }
 {}
 
 /// What was synced stands at its position in each order from then on.
@@ -58,7 +57,7 @@ pub fn what_is_seen_was_told()
     ensures { SeenIsTold }
 {}
 
-/// An act may come where all its conditions hold, and not where just one fails. The same of an entry behind a list.
+/// An act may come where all its conditions hold, and not where just one fails. The same of an entry after a list.
 pub fn no_condition_is_left_out()
     ensures acts { NoneIsLeftOut }
     ensures entries { NoneIsLeftOutBehind }

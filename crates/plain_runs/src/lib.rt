@@ -3,7 +3,6 @@
 //! `Recorder` writes a trail that is a run. No clause says that any program follows it.
 #![tactic(auto)]
 
-pub mod examples;
 pub mod laws;
 mod recorder;
 

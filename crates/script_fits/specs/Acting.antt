@@ -1,11 +1,11 @@
--- Commands that issue one item or read one node. Each has the acts that it does at its line, and the answer of these.
+-- Commands that issue one item, read one node, or wait for what was issued: the acts that each does at its line, and the answer of these.
 use Rattle.std.specs.Prelude.{◌≡◌, ◌⊎◌, ℕ, ℤ, List, [], ◌∷◌, Option}
 use Rattle.plain_orders.specs.declared.act.Act.{Act}
 use Rattle.plain_orders.specs.declared.act.Act.TheVariants.{Issue, Read, Counted, NotWhole, Range, Reached, Done}
 use Rattle.plain_orders.specs.declared.item.Item.{Item}
 use Rattle.plain_orders.specs.declared.item.Item.TheVariants.{Op as OpItem}
 use Rattle.plain_orders.specs.declared.op.Op.TheVariants.{Add as AddOp}
-use Rattle.plain_orders.specs.declared.question.Question.TheVariants.{Get as GetQuestion, Data as DataQuestion, Next as NextQuestion}
+use Rattle.plain_orders.specs.declared.question.Question.TheVariants.{Get as GetQuestion, Shape as ShapeQuestion, Next as NextQuestion}
 use Rattle.plain_orders.specs.declared.via.Via.{Via}
 use Rattle.subscript_keys.specs.declared.sub.Sub.{Sub}
 use Rattle.app_job.specs.declared.answer.Answer.{Answer}
@@ -28,7 +28,7 @@ Gets job line at acts answer =
 abbrev pub Shapes : ℕ → ℕ → Site → List Act → Answer → Type 0
 Shapes job line at acts answer =
     (n : ℕ) × (via : Via) × (code : ℕ)
-    × (acts ≡ Read job line at.server n via (DataQuestion at.key code) ∷ []) × (answer ≡ ShapeAnswer code n via)
+    × (acts ≡ Read job line at.server n via (ShapeQuestion at.key code) ∷ []) × (answer ≡ ShapeAnswer code n via)
 
 -- a next is read
 abbrev pub Nexts : ℕ → ℕ → Site → Option Sub → List Act → Answer → Type 0

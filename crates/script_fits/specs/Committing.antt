@@ -12,7 +12,7 @@ use Rattle.app_job.specs.declared.place.Place.{Place}
 use Rattle.plain_runs.specs.Plain.{Plain, app_of}
 use Rattle.plain_runs.specs.Items.{is_update_of}
 use Rattle.plain_runs.specs.JobRows.{has_session, pair_issued}
-use Rattle.script_fits.specs.Moments.{Moment, acts_in}
+use Rattle.script_fits.specs.Moments.{Moment, acts_in, AreTogether, IsFree}
 use Rattle.script_fits.specs.Locking.{HeldBack, Past, GivesBack}
 
 -- the level of a job
@@ -57,6 +57,7 @@ pub record PutsEnds (l : Layout) (job line : ℕ) (item : Item) (servers : List 
   pub given : List Moment
   pub closing : Moment
   pub whole : ms ≡ issued ++ (given ++ closing ∷ [])
+  pub together : AreTogether ms
   pub items : AreIssued job line item servers (acts_in issued) places
   pub unlocks : GivesBack l job line past.held_back given closing
   pub level : closing.act ≡ Level job line 0
@@ -72,7 +73,7 @@ txn_at p job = (p.job_at job).txn
 -- a transaction with no updates in living sessions is done
 abbrev pub EndsEmpty : Layout → ℕ → ℕ → Item → Past → List Moment → Answer → Type 0
 EndsEmpty l job line item past ms answer =
-    (put : List Moment) × (m : Moment) × (ms ≡ put ++ m ∷ []) × PutsEnds l job line item [] past put [] × (m.act ≡ Done job line) × (answer ≡ DoneAnswer)
+    (put : List Moment) × (m : Moment) × (ms ≡ put ++ m ∷ []) × AreTogether ms × PutsEnds l job line item [] past put [] × (m.act ≡ Done job line) × (answer ≡ DoneAnswer)
 
 -- the ends are put, and nobody waits for them
 abbrev pub EndsQueued : Layout → ℕ → ℕ → Item → List ℕ → Past → List Moment → Answer → Type 0
@@ -82,8 +83,8 @@ EndsQueued l job line item servers past ms answer =
 -- the ends are put, and these acts answer them
 abbrev pub EndsAnswered : (List ℕ → List Act → List Place → Type 0) → Layout → ℕ → ℕ → Item → List ℕ → Past → List Moment → List Place → Type 0
 EndsAnswered AreAnswered l job line item servers past ms places =
-    (put : List Moment) × (told : List Moment) × (numbers : List Place)
-    × (servers ≢ []) × (ms ≡ put ++ told) × PutsEnds l job line item servers past put numbers × AreAnswered servers (acts_in told) places
+    (put : List Moment) × (answers : List Moment) × (numbers : List Place)
+    × (servers ≢ []) × (ms ≡ put ++ answers) × AreTogether answers × PutsEnds l job line item servers past put numbers × AreAnswered servers (acts_in answers) places
 
 -- a commit that waits
 abbrev pub EndsCommitted : Layout → ℕ → ℕ → Item → List ℕ → Past → List Moment → Answer → Type 0
@@ -100,15 +101,15 @@ abbrev pub EndsWithUpdates : Bool → Layout → ℕ → ℕ → Item → List �
 EndsWithUpdates true l job line item servers past ms answer = EndsCommitted l job line item servers past ms answer
 EndsWithUpdates false l job line item servers past ms answer = EndsQueued l job line item servers past ms answer
 
--- a transaction begins, or one within it
+-- a transaction begins, or one within it; 255 are the most
 abbrev pub Starts : ℕ → ℕ → List Moment → Answer → Type 0
 Starts job line ms answer =
-    (p : Plain) × BeginsAt p ms × (acts_in ms ≡ Level job line (level_of p job + 1) ∷ Done job line ∷ []) × (answer ≡ DoneAnswer)
+    (p : Plain) × BeginsAt p ms × AreTogether ms × (level_of p job < 255) × (acts_in ms ≡ Level job line (level_of p job + 1) ∷ Done job line ∷ []) × (answer ≡ DoneAnswer)
 
 -- a commit within another transaction
 abbrev pub CommitsWithin : ℕ → ℕ → Past → List Moment → Answer → List HeldBack → Type 0
 CommitsWithin job line past ms answer held =
-    (p : Plain) × (level : ℕ) × BeginsAt p ms × (level_of p job ≡ level + 1) × (0 < level)
+    (p : Plain) × (level : ℕ) × BeginsAt p ms × AreTogether ms × (level_of p job ≡ level + 1) × (0 < level)
     × (acts_in ms ≡ Level job line level ∷ Done job line ∷ []) × (answer ≡ DoneAnswer) × (held ≡ past.held_back)
 
 -- a commit of the outermost transaction
@@ -137,5 +138,5 @@ PutsAwaited l job line item_of past ms held =
 
 -- a commit that waits may stand between its put and its answers
 abbrev pub CommitBegins : Layout → ℕ → ℕ → Bool → Past → List Moment → List HeldBack → Type 0
-CommitBegins l job line true past ms held = ((p : Plain) × BeginsAt p ms × (level_of p job ≡ 1)) × PutsAwaited l job line CommitItem past ms held
+CommitBegins l job line true past ms held = IsFree job ms × ((p : Plain) × BeginsAt p ms × (level_of p job ≡ 1)) × PutsAwaited l job line CommitItem past ms held
 CommitBegins l job line false past ms held = ⊥

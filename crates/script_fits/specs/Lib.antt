@@ -9,5 +9,5 @@ pub mod Pieces
 pub mod Naming
 pub mod Walk
 pub mod Breaks
-pub mod Parts
+pub mod Lines
 pub mod Fits

@@ -12,10 +12,10 @@ use Rattle.app_job.specs.declared.refusal.Refusal.TheVariants.{RollbackOnly as R
 use Rattle.app_job.specs.Sites.{Site}
 use Rattle.plain_runs.specs.Plain.{Plain, Hold, app_of, pair_session, until}
 use Rattle.plain_runs.specs.JobRows.{has_session}
-use Rattle.plain_runs.specs.LockRows.{is_sent_at, is_kept, is_lock}
-use Rattle.script_fits.specs.Moments.{Moment, acts_in}
+use Rattle.plain_runs.specs.Holds.{is_sent_at, is_kept, is_lock}
+use Rattle.script_fits.specs.Moments.{Moment, acts_in, AreTogether, IsFree}
 
--- an unlock that waits for its transaction's end, and the session in which it was given
+-- an unlock that waits for its transaction's end, and the session in which its lock was held
 pub record HeldBack : Type 0 where
   pub server : ℕ
   pub session : ℕ
@@ -48,30 +48,31 @@ IsMeant l p job n at mode =
 -- a grant reaches the job
 abbrev pub IsGranted : Layout → ℕ → ℕ → Site → Mode → List Moment → Answer → Type 0
 IsGranted l job line at mode ms answer =
-    (m : Moment) × (n : ℕ) × (ms ≡ m ∷ []) × (m.act ≡ Granted job line at.server n) × IsMeant l m.before job n at mode × (answer ≡ GrantedAnswer n)
+    (m : Moment) × (n : ℕ) × (ms ≡ m ∷ []) × (m.act ≡ Granted job line at.server n) × IsMeant l m.before job n at mode × IsFree job ms
+    × (answer ≡ GrantedAnswer n)
 
--- the request is given up, and the command refused
-abbrev pub GivesUpFor : ℕ → ℕ → Site → Mode → Act → List Moment → Moment → Type 0
-GivesUpFor job line at mode refusal ms m = (n : Moment) × (ms ≡ m ∷ n ∷ []) × (m.act ≡ Quit job line at.server mode at.key) × (n.act ≡ refusal)
+-- the request is given up, and the command refused in the same step
+abbrev pub QuitsFor : ℕ → ℕ → Site → Mode → Act → List Moment → Moment → Type 0
+QuitsFor job line at mode refusal ms m = (n : Moment) × (ms ≡ m ∷ n ∷ []) × AreTogether ms × (m.act ≡ Quit job line at.server mode at.key) × (n.act ≡ refusal)
 
 -- so many ticks went by since the job's act before, or since the clock's start where it had none
-abbrev pub IsOver : Past → ℕ → Option ℕ → Type 0
-IsOver past clock wait = (ticks : ℕ) × (wait ≡ Some ticks) × (until (unwrap_or past.clock 0) ticks ≤ clock)
+abbrev pub IsTimeOver : Past → ℕ → Option ℕ → Type 0
+IsTimeOver past clock wait = (ticks : ℕ) × (wait ≡ Some ticks) × (until (unwrap_or past.clock 0) ticks ≤ clock)
 
 -- the time to wait is over
 abbrev pub TimesOut : ℕ → ℕ → Site → Mode → Option ℕ → Past → List Moment → Answer → Type 0
 TimesOut job line at mode wait past ms answer =
-    (m : Moment) × GivesUpFor job line at mode (Refused job line LockTimeout) ms m × IsOver past m.before.clock wait × (answer ≡ RefusedAnswer LockTimeoutRefusal)
+    (m : Moment) × QuitsFor job line at mode (Refused job line LockTimeout) ms m × IsFree job ms × IsTimeOver past m.before.clock wait × (answer ≡ RefusedAnswer LockTimeoutRefusal)
 
 -- the job has to roll back first
-abbrev pub GivesUp : ℕ → ℕ → Site → Mode → List Moment → Answer → Type 0
-GivesUp job line at mode ms answer =
-    (m : Moment) × GivesUpFor job line at mode (Refused job line RollbackOnly) ms m × (answer ≡ RefusedAnswer RollbackOnlyRefusal)
+abbrev pub QuitsToRollBack : ℕ → ℕ → Site → Mode → List Moment → Answer → Type 0
+QuitsToRollBack job line at mode ms answer =
+    (m : Moment) × QuitsFor job line at mode (Refused job line RollbackOnly) ms m × (answer ≡ RefusedAnswer RollbackOnlyRefusal)
 
 -- a lock is granted, or its request is given up
 abbrev pub Locks : Layout → ℕ → ℕ → Site → Mode → Option ℕ → Past → List Moment → Answer → Type 0
 Locks l job line at mode wait past ms answer =
-    IsGranted l job line at mode ms answer ⊎ (TimesOut job line at mode wait past ms answer ⊎ GivesUp job line at mode ms answer)
+    IsGranted l job line at mode ms answer ⊎ (TimesOut job line at mode wait past ms answer ⊎ QuitsToRollBack job line at mode ms answer)
 
 -- the job holds this lock: it was granted, answered, and not given up
 abbrev pub has_lock : Layout → Plain → ℕ → ℕ → Mode → List ℕ → Bool
@@ -98,7 +99,7 @@ held_after l p job at mode now held =
 -- an unlock gives the lock up where the job has it, or is held back
 abbrev pub Unlocks : Layout → ℕ → ℕ → Site → Mode → Bool → Past → List Moment → Answer → List HeldBack → Type 0
 Unlocks l job line at mode now past ms answer held =
-    (m : Moment) × (rest : List Moment) × (ms ≡ m ∷ rest) × (acts_in ms ≡ unlock_acts l m.before job line at mode now)
+    (m : Moment) × (rest : List Moment) × (ms ≡ m ∷ rest) × AreTogether ms × (acts_in ms ≡ unlock_acts l m.before job line at mode now)
     × (answer ≡ DoneAnswer) × (held ≡ held_after l m.before job at mode now past.held_back)
 
 -- the lock of an unlock that was held back is still held, in the session in which the unlock was given

@@ -1,5 +1,6 @@
 -- The acts of a trail with the state before each of them.
-use Rattle.std.specs.Prelude.{ℕ, Bool, false, ◌==◌, ◌+◌, List, [], ◌∷◌, Option, Some, None, map, filter}
+use Rattle.std.specs.Prelude.{◌≡◌, ℕ, Bool, false, ◌==◌, ◌+◌, List, [], ◌∷◌, Option, Some, None, map, filter, slice_get, IfSome}
+use Rattle.std.specs.List.{AllByRecursion}
 use Rattle.plain_orders.specs.declared.act.Act.{Act}
 use Rattle.plain_orders.specs.declared.act.Act.TheVariants.{Opened, Enter, Synced, Shut, Release, Met, Told, Back, Crash, Issue, Read, Grant, Granted, GiveUp, Quit, Free, Counted, NotWhole, Range, Committed, RolledBack, Reached, Level, Done, Refused, Broke, Mended, Tick, Lose, Died}
 use Rattle.plain_orders.specs.declared.layout.Layout.{Layout}
@@ -24,6 +25,15 @@ moments l acts = moments_from l 0 start acts
 -- the acts of some moments
 abbrev pub acts_in : List Moment → List Act
 acts_in ms = map (λ m. m.act) ms
+
+-- the acts of one step stand one right after the other
+abbrev pub AreTogether : List Moment → Type 0
+AreTogether [] = Unit {0}
+AreTogether (m ∷ ms) = IfSome (slice_get ms 0) (λ n. n.place ≡ m.place + 1) × AreTogether ms
+
+-- at none of these moments has the job to roll back first
+abbrev pub IsFree : ℕ → List Moment → Type 0
+IsFree job ms = AllByRecursion (λ (m : Moment). (m.before.job_at job).rollback_only ≡ false) ms
 
 -- the job of an act that a job makes
 abbrev pub job_of : Act → Option ℕ

@@ -2,6 +2,8 @@
 use Rattle.std.specs.Prelude.{ℕ, ◌<◌, List, [], ◌∷◌, length}
 use Rattle.plain_orders.specs.declared.act.Act.{Act}
 use Rattle.plain_orders.specs.declared.act.Act.TheVariants.{Opened, Enter, Synced, Shut, Release, Met, Told, Back, Crash, Issue, Read, Grant, Granted, GiveUp, Quit, Free, Counted, NotWhole, Range, Committed, RolledBack, Reached, Level, Done, Refused, Broke, Mended, Tick, Lose, Died}
+use Rattle.plain_orders.specs.declared.entry.Entry.{Entry}
+use Rattle.plain_orders.specs.declared.entry.Entry.TheVariants.{Epoch, Opened as OpenEntry, Closed, Update, Commit, Rollback}
 use Rattle.plain_orders.specs.declared.layout.Layout.{Layout}
 
 -- a data server that is declared
@@ -16,10 +18,19 @@ IsApp l app = app < l.apps
 abbrev pub IsJob : Layout → ℕ → Type 0
 IsJob l job = job < length l.job_apps
 
+-- the application server or the job that an entry names is declared
+abbrev pub IsEntryDeclared : Layout → Entry → Type 0
+IsEntryDeclared l (Epoch number) = Unit {0}
+IsEntryDeclared l (OpenEntry session app) = IsApp l app
+IsEntryDeclared l (Closed session) = Unit {0}
+IsEntryDeclared l (Update session w job txn op) = IsJob l job
+IsEntryDeclared l (Commit session w job txn) = IsJob l job
+IsEntryDeclared l (Rollback session w job txn) = IsJob l job
+
 -- the servers, application servers and jobs that an act names are declared
 abbrev pub IsDeclared : Layout → Act → Type 0
 IsDeclared l (Opened d entries) = IsServer l d
-IsDeclared l (Enter d entry) = IsServer l d
+IsDeclared l (Enter d entry) = IsServer l d × IsEntryDeclared l entry
 IsDeclared l (Synced d n) = IsServer l d
 IsDeclared l (Shut d session cause) = IsServer l d
 IsDeclared l (Release d session) = IsServer l d

@@ -75,7 +75,7 @@ last_why o job line (w ∷ ws) = last_why (if is_of_command job line w then Some
 abbrev pub has_wait : ℕ → ℕ → List Piece → Bool
 has_wait job line pieces = list_any (is_of_command job line) (waits_in pieces)
 
--- the pumps among some pieces
+-- a piece alone, if a pump made it
 abbrev pub pump_in : Piece → List Piece
 pump_in (Answered a) = []
 pump_in (Pumped line left) = Pumped line left ∷ []
@@ -83,7 +83,7 @@ pump_in (Restarted server line outcome) = []
 pump_in (Halted server line) = []
 pump_in (Gone job line) = []
 
--- the restarts among some pieces
+-- a piece alone, if a restart made it
 abbrev pub restart_in : Piece → List Piece
 restart_in (Answered a) = []
 restart_in (Pumped line left) = []
@@ -91,7 +91,7 @@ restart_in (Restarted server line outcome) = Restarted server line outcome ∷ [
 restart_in (Halted server line) = []
 restart_in (Gone job line) = []
 
--- the jobs that are gone, among some pieces
+-- a piece alone, if it says that a job is gone
 abbrev pub gone_in : Piece → List Piece
 gone_in (Answered a) = []
 gone_in (Pumped line left) = []
@@ -104,7 +104,7 @@ pub record HaltedAt : Type 0 where
   pub server : ℕ
   pub line : ℕ
 
--- the halts among some pieces
+-- the halt that a piece tells, if it does
 abbrev pub halt_in : Piece → List HaltedAt
 halt_in (Answered a) = []
 halt_in (Pumped line left) = []

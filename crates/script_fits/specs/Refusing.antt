@@ -1,5 +1,5 @@
 -- Refusals: which a command may have, after which part of its acts, and what is answered.
-use Rattle.std.specs.Prelude.{◌≡◌, ℕ, Bool, true, false, List, []}
+use Rattle.std.specs.Prelude.{◌≡◌, ◌≢◌, ◌⊎◌, ◌<◌, is_some, ℕ, Bool, true, false, List, []}
 use Rattle.std.specs.List.{list_any}
 use Rattle.plain_orders.specs.declared.refused.Refused.{Refused}
 use Rattle.plain_orders.specs.declared.refused.Refused.TheVariants.{NoTransaction, TooDeep, RollbackOnly, LockTimeout, Network}
@@ -65,13 +65,22 @@ IsAbout p job (Commit sync) server = HasUpdateAt p job server
 IsAbout p job Rollback server = HasUpdateAt p job server
 IsAbout p job (Sync at) server = at ≡ server
 
--- Which refusal a command may have, after a part of its acts. A lock that is given up for want of time has a row of its own.
+-- a commit or a rollback that put nothing yet is within a transaction
+abbrev pub IsWithinOne : Plain → ℕ → Command → List Moment → Type 0
+IsWithinOne p job command part = (ends_transaction command ≡ false) ⊎ ((part ≢ []) ⊎ (0 < (p.job_at job).level))
+
+-- the job was told of each loss that bars it from a data server that its command is about
+abbrev pub HasHeard : Plain → ℕ → Command → Type 0
+HasHeard p job command = (d : ℕ) → IsAbout p job command d → is_some ((p.server_at d).known_at job).bar ≡ false
+
+-- Which refusal a command may have, after a part of its acts; they are tried in this order, the network after the first two. A lock whose time
+-- is over has a row of its own.
 abbrev pub RefusalMay : Plain → ℕ → Command → List Moment → Refused → Type 0
 RefusalMay p job command part NoTransaction = (ends_transaction command ≡ true) × (part ≡ [])
 RefusalMay p job command part TooDeep = command ≡ Start
-RefusalMay p job command part RollbackOnly = is_rollback command ≡ false
+RefusalMay p job command part RollbackOnly = (is_rollback command ≡ false) × HasHeard p job command × ((command ≡ Start) → (p.job_at job).level ≢ 255)
 RefusalMay p job command part LockTimeout = ⊥
-RefusalMay p job command part (Network server state reason) = IsAbout p job command server
+RefusalMay p job command part (Network server state reason) = IsAbout p job command server × IsWithinOne p job command part
 
 -- the name of a reason
 abbrev pub reason_name : Reason → ReasonName

@@ -27,8 +27,8 @@ pub record SoFar : Type 0 where
   pub down : ℕ → Bool
 
 -- at the first line: the acts of the opening alone, and no server is down
-abbrev pub opened_with : List Act → SoFar
-opened_with acts = record { lines = []; acts = acts; pieces = []; ends = []; down = λ _. false }
+abbrev pub after_opening : List Act → SoFar
+after_opening acts = record { lines = []; acts = acts; pieces = []; ends = []; down = λ _. false }
 
 -- a line takes this data server down
 abbrev pub is_crash : ℕ → Todo → Bool

@@ -196,7 +196,7 @@ fn each_read_of_one_node_has_its_line(rt: HostRuntime) -> Result<(), AllocError>
         key: key(alloc, b"^x(1)").expect(&rt, "a node"),
         value: None,
     };
-    let shape = Question::Data {
+    let shape = Question::Shape {
         key: key(alloc, b"^x").expect(&rt, "a node"),
         code: 10,
     };

@@ -1,4 +1,4 @@
--- Digits as whole numbers of a fixed width, filled up with zeros behind, and how these compare.
+-- Digits as whole numbers of a fixed width, filled up with zeros at the end, and how these compare.
 use Rattle.std.proofs.Common.{◌≡◌, ◌≢◌, ℕ, zero, suc, ◌+◌, ◌-◌, ◌*◌, ◌^◌, ◌/◌, ◌%◌, ◌<◌, ◌≤◌, List, [], ◌∷◌, ◌++◌, length, get_or, refl, sym, ap, ◌∙◌, inl, inr, arith}
 use Rattle.std.specs.Int.Digits.{number_from_digits, number_from_digits_after}
 use Rattle.std.specs.Ordering.{nat_cmp, ordering_then}

@@ -1,4 +1,4 @@
--- A number behind its tag, taken apart in one way.
+-- A number after its tag, taken apart in one way.
 use Rattle.std.proofs.Common.{◌≡◌, ℕ, ◌+◌, ◌-◌, ◌<◌, ◌≤◌, Bool, true, false, List, [], ◌∷◌, ◌++◌, map, refl, sym, ap, ◌∙◌, inl, inr, arith, append_assoc}
 use Rattle.std.specs.Prelude.{if◌then◌else◌}
 use Rattle.std.proofs.lemmas.Bool.{ne_eqb, eqb-false}
@@ -35,12 +35,12 @@ short-bytes d negative e s =
     ap (λ b. if b then 0x20 ∷ [] else (if d.negative then negative_bytes d.exponent (digits d.digits) else positive_bytes d.exponent (digits d.digits))) (ne_eqb d.digits 0 (λ z. absurd (omega (arith, short-above d s))))
     ∙ ap (λ b. if b then negative_bytes d.exponent (digits d.digits) else positive_bytes d.exponent (digits d.digits)) e
 
-pub record Stands (d : Decimal) (sign : Bool) (exponent : ℕ) (places : List ℕ) (end : ℕ) (bytes rest : List ℕ) : Type 0 where
+pub record PlacesRead (d : Decimal) (sign : Bool) (exponent : ℕ) (places : List ℕ) (end : ℕ) (bytes rest : List ℕ) : Type 0 where
   pub short : IsShort d
   pub negative : d.negative ≡ sign
   pub spelled : bytes ≡ exponent ∷ (places ++ end ∷ rest)
 
-positive-at : (d : Decimal) (sign : Bool) (bytes rest : List ℕ) → d.negative ≡ sign → IsShort d → 0x30 ∷ bytes ≡ decimal_bytes d ++ rest → Stands d false (plus 0x40 d.exponent) (map (λ n. n + 1) (digits d.digits)) 0 bytes rest
+positive-at : (d : Decimal) (sign : Bool) (bytes rest : List ℕ) → d.negative ≡ sign → IsShort d → 0x30 ∷ bytes ≡ decimal_bytes d ++ rest → PlacesRead d false (plus 0x40 d.exponent) (map (λ n. n + 1) (digits d.digits)) 0 bytes rest
 unfolding positive_bytes negative_bytes
 positive-at d true bytes rest e s k =
     let whole : 0x30 ∷ bytes ≡ 0x10 ∷ ((minus 0x40 d.exponent ∷ map (λ n. 10 - n) (digits d.digits) ++ 11 ∷ []) ++ rest) = k ∙ ap (λ b. b ++ rest) (short-bytes d true e s) in
@@ -50,13 +50,13 @@ positive-at d false bytes rest e s k =
     let behind : bytes ≡ plus 0x40 d.exponent ∷ ((map (λ n. n + 1) (digits d.digits) ++ 0 ∷ []) ++ rest) = cc in
     record { short = s; negative = e; spelled = behind ∙ ap (λ b. plus 0x40 d.exponent ∷ b) (append_assoc (map (λ n. n + 1) (digits d.digits)) (0 ∷ []) rest) }
 
-pub positive-stands : (d : Decimal) (bytes rest : List ℕ) → IsDecimal d → 0x30 ∷ bytes ≡ decimal_bytes d ++ rest → Stands d false (plus 0x40 d.exponent) (map (λ n. n + 1) (digits d.digits)) 0 bytes rest
+pub positive-stands : (d : Decimal) (bytes rest : List ℕ) → IsDecimal d → 0x30 ∷ bytes ≡ decimal_bytes d ++ rest → PlacesRead d false (plus 0x40 d.exponent) (map (λ n. n + 1) (digits d.digits)) 0 bytes rest
 positive-stands d bytes rest (inl z) k =
     let whole : 0x30 ∷ bytes ≡ 0x20 ∷ rest = k ∙ ap (λ b. b ++ rest) (zero-null d z).bytes in
     let first : 0x30 ≡ 0x20 = cc in absurd (eqb-false 0x30 0x20 refl first)
 positive-stands d bytes rest (inr s) k = positive-at d d.negative bytes rest refl s k
 
-negative-at : (d : Decimal) (sign : Bool) (bytes rest : List ℕ) → d.negative ≡ sign → IsShort d → 0x10 ∷ bytes ≡ decimal_bytes d ++ rest → Stands d true (minus 0x40 d.exponent) (map (λ n. 10 - n) (digits d.digits)) 11 bytes rest
+negative-at : (d : Decimal) (sign : Bool) (bytes rest : List ℕ) → d.negative ≡ sign → IsShort d → 0x10 ∷ bytes ≡ decimal_bytes d ++ rest → PlacesRead d true (minus 0x40 d.exponent) (map (λ n. 10 - n) (digits d.digits)) 11 bytes rest
 unfolding positive_bytes negative_bytes
 negative-at d false bytes rest e s k =
     let whole : 0x10 ∷ bytes ≡ 0x30 ∷ ((plus 0x40 d.exponent ∷ map (λ n. n + 1) (digits d.digits) ++ 0 ∷ []) ++ rest) = k ∙ ap (λ b. b ++ rest) (short-bytes d false e s) in
@@ -66,7 +66,7 @@ negative-at d true bytes rest e s k =
     let behind : bytes ≡ minus 0x40 d.exponent ∷ ((map (λ n. 10 - n) (digits d.digits) ++ 11 ∷ []) ++ rest) = cc in
     record { short = s; negative = e; spelled = behind ∙ ap (λ b. minus 0x40 d.exponent ∷ b) (append_assoc (map (λ n. 10 - n) (digits d.digits)) (11 ∷ []) rest) }
 
-pub negative-stands : (d : Decimal) (bytes rest : List ℕ) → IsDecimal d → 0x10 ∷ bytes ≡ decimal_bytes d ++ rest → Stands d true (minus 0x40 d.exponent) (map (λ n. 10 - n) (digits d.digits)) 11 bytes rest
+pub negative-stands : (d : Decimal) (bytes rest : List ℕ) → IsDecimal d → 0x10 ∷ bytes ≡ decimal_bytes d ++ rest → PlacesRead d true (minus 0x40 d.exponent) (map (λ n. 10 - n) (digits d.digits)) 11 bytes rest
 negative-stands d bytes rest (inl z) k =
     let whole : 0x10 ∷ bytes ≡ 0x20 ∷ rest = k ∙ ap (λ b. b ++ rest) (zero-null d z).bytes in
     let first : 0x10 ≡ 0x20 = cc in absurd (eqb-false 0x10 0x20 refl first)

@@ -68,7 +68,7 @@ pub digits-zeros : (n : ℕ) → AreDigits (replicate n 0)
 digits-zeros zero = tt
 digits-zeros (suc n) = (omega arith, digits-zeros n)
 
--- a number with these digits before and behind the point
+-- a number with these digits before and after the point
 pub record Writes (d : Decimal) (w f : List ℕ) : Type 0 where
   pub last : d.digits % 10 ≢ 0
   pub whole : whole_digits (digits d.digits) d.exponent ≡ w
@@ -87,7 +87,7 @@ written-text d w f c e =
     ∙ ap (λ x. number_text d.negative x (fraction_digits (digits d.digits) d.exponent)) e.whole
     ∙ ap (λ x. number_text d.negative w x) e.fraction
 
--- no digits behind the point
+-- no digits after the point
 pub whole-writes : (d : Decimal) (w : List ℕ) (n : ℕ) → d.exponent ≡ pos (length w) → d.digits % 10 ≢ 0 → digits n ≡ w → digits d.digits ++ replicate (length (digits n) - length (digits d.digits)) 0 ≡ digits n → Writes d w []
 unfolding whole_digits fraction_digits
 whole-writes d w n x last e zeros =
@@ -149,7 +149,7 @@ fraction-writes d f (suc k) p e last z x =
       fraction = ap (fraction_digits (digits d.digits)) x ∙ ap (λ m. replicate m 0 ++ digits d.digits) z ∙ ap (λ n. replicate (length f - length (digits n)) 0 ++ digits n) e ∙ front;
     }
 
--- the second list of digits has room behind the first
+-- the second list of digits has room after the first
 pub second-room : (w f : List ℕ) → AreDigitCharacters w → length w + length f ≤ 18 → (number_from_digits_after 10 0 (digits_read w) + 1) * 10 ^ length f ≤ 10 ^ 18
 second-room w f p limit =
     let below : number_from_digits 10 (digits_read w) < 10 ^ length (digits_read w) = number_lt 10 (digits_read w) (read-digits w p) in

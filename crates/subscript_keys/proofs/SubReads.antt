@@ -23,7 +23,7 @@ form-tags d (null z) = (0x20, [], z.bytes, inr (inl refl))
 form-tags d (below w ds b) = (0x10, _, b.bytes, inl refl)
 form-tags d (above w ds a) = (0x30, _, a.bytes, inr (inr refl))
 
--- behind no other tag stands a number
+-- a number follows no other tag
 pub no-number : (tag : ℕ) (left bytes : List ℕ) → tag ≢ 0x10 → tag ≢ 0x20 → tag ≢ 0x30 → bytes ≡ tag ∷ left → (d : Decimal) (rest : List ℕ) → IsDecimal d → bytes ≡ decimal_bytes d ++ rest → ⊥
 no-number tag left bytes low zero high s d rest p e =
     let t = form-tags d (number-form d p) in
@@ -42,7 +42,7 @@ text-after : (t rest : List ℕ) → text_bytes t ++ rest ≡ 0x40 ∷ (escaped 
 unfolding text_bytes
 text-after t rest = ap (λ x. 0x40 ∷ x) (append_assoc (escaped t) (0 ∷ 1 ∷ []) rest)
 
--- what stands behind the tag
+-- what follows the tag
 pub text-tail : (t rest bytes : List ℕ) → 0x40 ∷ bytes ≡ text_bytes t ++ rest → bytes ≡ escaped t ++ 0 ∷ 1 ∷ rest
 text-tail t rest bytes e = let whole : 0x40 ∷ bytes ≡ 0x40 ∷ (escaped t ++ 0 ∷ 1 ∷ rest) = e ∙ text-after t rest in cc
 
@@ -62,7 +62,7 @@ text-stands value text bytes rest v full plain b e =
     let stands : 0x40 ∷ bytes ≡ text_bytes text ++ rest = ap (λ x. 0x40 ∷ x) e ∙ sym (text-after text rest) in
     (subst IsText (sym v) is, stands ∙ ap (λ t. text_bytes t ++ rest) (sym v))
 
--- behind another tag than 40 stands no text, and behind 40 nothing else
+-- a text follows no other tag than 40, and nothing else follows 40
 pub other-tag : (tag : ℕ) (left bytes : List ℕ) → tag ≢ 0x40 → bytes ≡ tag ∷ left → ((d : Decimal) (rest : List ℕ) → IsDecimal d → bytes ≡ decimal_bytes d ++ rest → ⊥) → (s : Sub) (rest : List ℕ) → IsSub s → bytes ≡ sub_bytes s ++ rest → ⊥
 other-tag tag left bytes n s none (Num d) rest p e = none d rest p e
 other-tag tag left bytes n s none (Text t) rest p e =

@@ -24,11 +24,6 @@ push-zero text after tail bytes rest c d z f r s e =
     ap (λ x. x ++ tail) (escaped-append text (0 ∷ []))
     ∙ append_assoc (escaped text) (0 ∷ 0xFF ∷ []) tail ∙ ap (λ x. escaped text ++ x) (sym whole) ∙ e
 
-pub text-end : (text after tail bytes rest : List ℕ) (c d : ℕ) → c ≡ 0 → d ≡ 1 → rest ≡ c ∷ after → after ≡ d ∷ tail → escaped text ++ rest ≡ bytes → bytes ≡ escaped text ++ 0 ∷ 1 ∷ tail
-text-end text after tail bytes rest c d z f r s e =
-    let whole : rest ≡ 0 ∷ 1 ∷ tail = cc in
-    sym e ∙ ap (λ x. escaped text ++ x) whole
-
 -- a text that begins like another one that ends
 pub more-text : (s t r q : List ℕ) → escaped s ++ r ≡ escaped t ++ 0 ∷ 1 ∷ q → (u : List ℕ) × (r ≡ escaped u ++ 0 ∷ 1 ∷ q)
 more-text [] t r q e = (t, e)

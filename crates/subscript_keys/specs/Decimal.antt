@@ -1,8 +1,9 @@
--- Numbers of at most 18 digits: their digits, their canonical texts and their values.
+-- Numbers of at most DIGIT_LIMIT digits: their digits, their canonical texts and their values.
 use Rattle.std.specs.Prelude.{◌≡◌, ◌≢◌, ◌⊎◌, ℕ, suc, ◌+◌, ◌-◌, ◌*◌, ◌^◌, ◌%◌, ◌<◌, ◌≤◌, ◌==◌, Bool, true, false, if◌then◌else◌, List, [], ◌∷◌, ◌++◌, map, length, take, drop, replicate, ℤ, pos, negsuc, neg_ℤ}
 use Rattle.std.specs.List.{AllByRecursion}
 use Rattle.std.specs.Int.Digits.{digits_of}
 use Rattle.subscript_keys.specs.declared.decimal.Decimal.{Decimal}
+use Rattle.subscript_keys.specs.declared.limits.TheConstants.{DIGIT_LIMIT}
 
 -- the decimal digits of a number, the highest first; 0 has none
 unfoldable pub digits : ℕ → List ℕ
@@ -23,7 +24,7 @@ unfoldable pub whole_digits : List ℕ → ℤ → List ℕ
 whole_digits ds (pos x) = take x ds ++ replicate (x - length ds) 0
 whole_digits ds (negsuc x) = []
 
--- and the digits behind the point
+-- and the digits after the point
 unfoldable pub fraction_digits : List ℕ → ℤ → List ℕ
 fraction_digits ds (pos x) = drop x ds
 fraction_digits ds (negsuc x) = replicate (suc x) 0 ++ ds
@@ -37,12 +38,12 @@ abbrev pub sign_text : Bool → List ℕ
 sign_text true = 45 ∷ []
 sign_text false = []
 
--- a point and the digits behind it, or nothing
+-- a point and the digits after it, or nothing
 abbrev pub fraction_text : List ℕ → List ℕ
 fraction_text [] = []
 fraction_text (d ∷ ds) = 46 ∷ digit_text (d ∷ ds)
 
--- the text of a sign, the digits before the point and the digits behind it
+-- the text of a sign, the digits before the point and those after it
 abbrev pub number_text : Bool → List ℕ → List ℕ → List ℕ
 number_text negative whole fraction = sign_text negative ++ digit_text whole ++ fraction_text fraction
 
@@ -61,17 +62,17 @@ EndsAboveZero [] = Unit {0}
 EndsAboveZero (d ∷ []) = d ≢ 0
 EndsAboveZero (d ∷ e ∷ ds) = EndsAboveZero (e ∷ ds)
 
--- digits before and behind the point of a canonical number: no leading zero, no zero before the point,
--- no trailing zero behind it, and at most 18 of them
+-- digits before and after the point of a canonical number: no leading zero, no zero before the point,
+-- no trailing zero after it, and at most DIGIT_LIMIT of them
 pub record AreCanonical (whole fraction : List ℕ) : Type 0 where
   pub whole_digits : AreDigits whole
   pub fraction_digits : AreDigits fraction
   pub first : BeginsAboveZero whole
   pub last : EndsAboveZero fraction
   pub some : 0 < length whole + length fraction
-  pub limit : length whole + length fraction ≤ 18
+  pub limit : length whole + length fraction ≤ DIGIT_LIMIT
 
--- a canonical number of at most 18 digits: 0, or a sign and digits with at most one point
+-- a canonical number of at most DIGIT_LIMIT digits: 0, or a sign and digits with at most one point
 abbrev pub IsNumberText : List ℕ → Type 0
 IsNumberText text = (text ≡ 48 ∷ []) ⊎ ((negative : Bool) × (whole : List ℕ) × (fraction : List ℕ) × AreCanonical whole fraction × (text ≡ number_text negative whole fraction))
 
@@ -81,12 +82,12 @@ pub record IsZero (d : Decimal) : Type 0 where
   pub exponent : d.exponent ≡ pos 0
   pub negative : d.negative ≡ false
 
--- another number has no trailing zero digit, and its text has at most 18 digits
+-- another number has no trailing zero digit, and its text has at most DIGIT_LIMIT digits
 pub record IsShort (d : Decimal) : Type 0 where
   pub last : d.digits % 10 ≢ 0
-  pub limit : length (whole_digits (digits d.digits) d.exponent) + length (fraction_digits (digits d.digits) d.exponent) ≤ 18
+  pub limit : length (whole_digits (digits d.digits) d.exponent) + length (fraction_digits (digits d.digits) d.exponent) ≤ DIGIT_LIMIT
 
--- the fields of a number of at most 18 digits
+-- the fields of a number of at most DIGIT_LIMIT digits
 abbrev pub IsDecimal : Decimal → Type 0
 IsDecimal d = IsZero d ⊎ IsShort d
 
@@ -94,11 +95,11 @@ IsDecimal d = IsZero d ⊎ IsShort d
 unfoldable pub decimal_text : Decimal → List ℕ
 decimal_text d = if d.digits == 0 then 48 ∷ [] else number_text d.negative (whole_digits (digits d.digits) d.exponent) (fraction_digits (digits d.digits) d.exponent)
 
--- its size times 10^18
+-- its size times 10 to the power DIGIT_LIMIT
 unfoldable pub scaled_size : Decimal → ℕ
-scaled_size d = d.digits * 10 ^ (plus 18 d.exponent - length (digits d.digits))
+scaled_size d = d.digits * 10 ^ (plus DIGIT_LIMIT d.exponent - length (digits d.digits))
 
--- the number times 10^18
+-- the number times 10 to the power DIGIT_LIMIT
 unfoldable pub scaled : Decimal → ℤ
 scaled d = if d.negative then neg_ℤ (pos (scaled_size d)) else pos (scaled_size d)
 

@@ -6,6 +6,7 @@ use Rattle.subscript_keys.specs.declared.decimal.Decimal.{Decimal}
 use Rattle.subscript_keys.specs.declared.sub.Sub.{Sub}
 use Rattle.subscript_keys.specs.declared.sub.Sub.TheVariants.{Num, Text}
 use Rattle.subscript_keys.specs.declared.node.Node.{Node}
+use Rattle.subscript_keys.specs.declared.limits.TheConstants.{GLOBAL_NAME_LIMIT, KEY_LIMIT}
 use Rattle.subscript_keys.specs.Decimal.{digits, plus, minus, IsDecimal, IsShort, IsNumberText}
 
 -- a negative number: the tag 10, 40 minus x, 0A minus d for each digit d, 0B
@@ -43,10 +44,10 @@ subs_bytes (s ∷ ss) = sub_bytes s ++ subs_bytes ss
 unfoldable pub key_of : Node → List ℕ
 key_of node = node.name ++ 0 ∷ subs_bytes node.subs
 
--- a letter, then up to 30 letters and digits
+-- a letter, then letters and digits; at most GLOBAL_NAME_LIMIT bytes
 abbrev pub IsName : List ℕ → Type 0
 IsName [] = ⊥
-IsName (c ∷ cs) = IsTrue (is_ascii_alphabetic c) × AllByRecursion (λ b. IsTrue (is_ascii_alphanumeric b)) cs × (length cs ≤ 30)
+IsName (c ∷ cs) = IsTrue (is_ascii_alphabetic c) × AllByRecursion (λ b. IsTrue (is_ascii_alphanumeric b)) cs × (length cs < GLOBAL_NAME_LIMIT)
 
 -- each of them is a byte
 abbrev pub AreBytes : List ℕ → Type 0
@@ -72,9 +73,9 @@ pub record IsNode (node : Node) : Type 0 where
 abbrev pub IsKey : List ℕ → Type 0
 IsKey key = (node : Node) × IsNode node × (key_of node ≡ key)
 
--- at most 500 bytes
+-- at most KEY_LIMIT bytes
 abbrev pub IsWithinLimit : List ℕ → Type 0
-IsWithinLimit key = length key ≤ 500
+IsWithinLimit key = length key ≤ KEY_LIMIT
 
 -- a subscript that may still be the empty text: a number within its ranges, or a text that is none
 abbrev pub HasForm : Sub → Type 0

@@ -9,7 +9,7 @@ use Rattle.subscript_keys.specs.declared.sub.Sub.TheVariants.{Num, Text}
 use Rattle.subscript_keys.specs.declared.node.Node.{Node}
 use Rattle.subscript_keys.specs.Decimal.{scaled}
 
--- numbers before texts and by value, as whole numbers after multiplication by 10^18; texts by bytes
+-- numbers before texts and by value, as whole numbers after multiplication by 10 to the power DIGIT_LIMIT; texts by bytes
 abbrev pub sub_cmp : Sub → Sub → Ordering
 sub_cmp (Num a) (Num b) = int_cmp (scaled a) (scaled b)
 sub_cmp (Num a) (Text t) = Less

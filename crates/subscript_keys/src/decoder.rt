@@ -13,7 +13,7 @@ use crate::sub_reader::take_sub;
 use crate::subs::Subs;
 use std::alloc::{AllocError, Global};
 
-/// The bytes before the first 00, and those behind it.
+/// The bytes before the first 00, and those after it.
 fn split_at_zero(bytes: &[u8]) -> Option<(&[u8], &[u8])>
     ensures some { IfSome result (λ parts. AllByRecursion (λ b. 0 < b) parts.0.now ×
         (bytes.now ≡ parts.0.now ++ 0 ∷ parts.1.now)) }

@@ -11,7 +11,7 @@ use crate::sub_writer::put_subs;
 use std::alloc::{AllocError, Global};
 
 /// Whether some subscript is the empty text.
-fn has_empty(subs: &[Sub]) -> bool
+pub fn has_empty(subs: &[Sub]) -> bool
     ensures { IsTrue result ↔ HasEmpty subs.now }
 {
     for sub in subs {

@@ -29,11 +29,13 @@ mod value_bytes;
 
 pub use decimal::Decimal;
 pub use decoder::decode;
-pub use encoder::encode;
+pub use encoder::{encode, has_empty};
 pub use key_bytes::KeyBytes;
 pub use key_error::KeyError;
 pub use key_order::keys_stand_for_nodes;
-pub use limits::{DIGIT_LIMIT, GLOBAL_NAME_LIMIT, KEY_LIMIT, NODE_NAME_LIMIT, VALUE_LIMIT};
+pub use limits::{
+    DIGIT_LIMIT, GLOBAL_NAME_LIMIT, KEY_LIMIT, NODE_NAME_LIMIT, NUMBER_LIMIT, VALUE_LIMIT,
+};
 pub use name::Name;
 pub use node::Node;
 pub use pair::Pair;

@@ -7,6 +7,9 @@ pub const VALUE_LIMIT: usize = 3000;
 /// How many digits a canonical number may have.
 pub const DIGIT_LIMIT: usize = 18;
 
+/// The least whole number that has more digits: 10 to the power `DIGIT_LIMIT`.
+pub const NUMBER_LIMIT: u64 = 1_000_000_000_000_000_000;
+
 /// How many bytes the name of a global may have, without the caret.
 pub const GLOBAL_NAME_LIMIT: usize = 31;
 

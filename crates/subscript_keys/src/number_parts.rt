@@ -4,7 +4,7 @@ ghost use Rattle.subscript_keys.specs.Decimal.{AreDigits, AreCanonical, AreDigit
 use crate::limits::DIGIT_LIMIT;
 
 /// The parts of a canonical number's text: its sign, and the characters of the digits before the point
-/// and behind it.
+/// and after it.
 #[derive(Drop)]
 pub struct NumberParts<'a> {
     pub negative: bool,
@@ -37,7 +37,7 @@ fn split_digits(text: &[u8]) -> (&[u8], &[u8])
     text.split_at(text.len())
 }
 
-/// The digits behind a point, where this is a point and digits; none, where it is nothing.
+/// The digits after a point, where this is a point and digits; none, where it is nothing.
 fn behind_point(text: &[u8]) -> Option<&[u8]>
     ensures digits { IfSome result (λ digits. AreDigitCharacters digits.now) }
     ensures some { IfSome result (λ digits. text.now ≡ fraction_text (digits_read digits.now)) }
@@ -78,7 +78,7 @@ fn ends_above_zero(digits: &[u8]) -> bool
     }
 }
 
-/// Whether these are the digits before and behind the point of a canonical number.
+/// Whether these are the digits before and after the point of a canonical number.
 fn are_canonical(whole: &[u8], fraction: &[u8]) -> bool
     requires whole { AreDigitCharacters whole.now }
     requires fraction { AreDigitCharacters fraction.now }

@@ -1,16 +1,17 @@
 ghost use Rattle.std.specs.Prelude.{◌≡◌, ◌≢◌, ◌↔◌, ◌+◌, ◌-◌, ◌*◌, ◌^◌, ◌%◌, ◌<◌, ◌≤◌, ◌++◌, length, replicate, IsSome, IfSome, Some};
 ghost use Rattle.std.specs.Int.Digits.{number_from_digits_after};
 ghost use Rattle.subscript_keys.specs.declared.decimal.Decimal.{Decimal};
+ghost use Rattle.subscript_keys.specs.declared.limits.TheConstants.{NUMBER_LIMIT};
 ghost use Rattle.subscript_keys.specs.Decimal.{digits, decimal_text, number_text, digits_read, AreCanonical, AreDigitCharacters, IsDecimal, IsShort, IsNumberText};
 
 use crate::decimal::Decimal;
 use crate::digits::Digits;
 use crate::number_parts::{NumberParts, number_parts};
 
-/// The number that digits write behind those of `start`.
+/// The number that digits write after those of `start`.
 fn value_after(start: u64, digits: &[u8]) -> u64
     requires digits { AreDigitCharacters digits.now }
-    requires small { (start + 1) * 10 ^ length digits.now ≤ 10 ^ 18 }
+    requires small { (start + 1) * 10 ^ length digits.now ≤ NUMBER_LIMIT }
     ensures { result ≡ number_from_digits_after 10 start (digits_read digits.now) }
 {
     let mut value = start;
@@ -77,7 +78,7 @@ impl Decimal {
         digits: 0,
     };
 
-    /// The number whose canonical text this is, of at most 18 digits.
+    /// The number whose canonical text this is, of at most `DIGIT_LIMIT` digits.
     pub fn read(text: &[u8]) -> Option<Decimal>
         ensures some { IsSome result ↔ IsNumberText text.now }
         ensures value { IfSome result (λ number. IsDecimal number × (decimal_text number ≡ text.now)) }

@@ -17,7 +17,7 @@ fn put_zeros(to: &mut Vec<u8>, count: usize) -> Result<(), AllocError>
     Ok(())
 }
 
-/// Appends the digits before the point, the point and the digits behind it.
+/// Appends the digits before the point, the point and the digits after it.
 fn put_digits(to: &mut Vec<u8>, number: &Decimal) -> Result<(), AllocError>
     requires { IsShort number.now }
     ensures ok { OnOk result (to.new.items ≡ to.old.items

@@ -5,7 +5,7 @@ use std::alloc::{AllocError, Global};
 use std::marker::Model;
 
 /// Pairs in the order of their keys. Contracts see them as the list.
-#[derive(Debug, Drop)]
+#[derive(Drop)]
 pub struct Pairs {
     items: Vec<Pair>,
 }
@@ -47,7 +47,7 @@ impl Pairs {
         self.items.as_slice()
     }
 
-    /// Puts one more at the end; it is let go where memory is wanting.
+    /// Puts one more at the end. Out of memory it is dropped.
     pub fn push(&mut self, item: Pair) -> Result<(), AllocError>
         ensures ok { OnOk result (self.new ≡ self.old ++ item ∷ []) }
         ensures err { OnErr result (self.new ≡ self.old) }

@@ -2,7 +2,7 @@ use crate::pairs::Pairs;
 use crate::span::Span;
 
 /// All the pairs that a map has in a span.
-#[derive(Debug, Drop)]
+#[derive(Drop)]
 pub struct Run {
     pub span: Span,
     pub pairs: Pairs,

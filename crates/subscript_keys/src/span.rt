@@ -5,7 +5,7 @@ use crate::key_bytes::KeyBytes;
 use std::alloc::{AllocError, Global};
 
 /// The byte strings from `lo`, which is within, up to `hi`, which is without.
-#[derive(Clone, Debug, PartialEq, Eq, Drop)]
+#[derive(Debug, PartialEq, Eq, Drop)]
 pub struct Span {
     pub lo: KeyBytes,
     pub hi: KeyBytes,

@@ -2,6 +2,7 @@ ghost use Rattle.std.specs.Prelude.{◌≡◌, ◌≢◌, ◌↔◌, ◌+◌, �
 ghost use Rattle.std.specs.Int.Digits.{number_from_digits, number_from_digits_after};
 ghost use Rattle.subscript_keys.specs.declared.decimal.Decimal.{Decimal};
 ghost use Rattle.subscript_keys.specs.declared.sub.Sub.{Sub};
+ghost use Rattle.subscript_keys.specs.declared.limits.TheConstants.{DIGIT_LIMIT};
 ghost use Rattle.subscript_keys.specs.Decimal.{IsDecimal, IsShort};
 ghost use Rattle.subscript_keys.specs.Key.{decimal_bytes, text_bytes, sub_bytes, ArePlaces, BeginsWithNoPlace, IsPositive, IsNegative, IsSub, IsText, escaped};
 
@@ -21,14 +22,14 @@ fn is_short(number: &Decimal) -> bool
         return false;
     }
     let exponent = i16::from(number.exponent);
-    if exponent > 18 {
+    if exponent > DIGIT_LIMIT as i16 {
         return false;
     }
     let count = Digits::of(number.digits).as_slice().len();
     if count > DIGIT_LIMIT {
         return false;
     }
-    if count as i16 - exponent > 18 {
+    if count as i16 - exponent > DIGIT_LIMIT as i16 {
         return false;
     }
     true
@@ -51,7 +52,7 @@ fn split_places(bytes: &[u8]) -> (&[u8], &[u8])
 /// The number of a positive number's digits.
 fn raised_value(places: &[u8]) -> u64
     requires places { ArePlaces places.now }
-    requires count { length places.now ≤ 18 }
+    requires count { length places.now ≤ DIGIT_LIMIT }
     ensures { result ≡ number_from_digits 10 (map (λ b. b - 1) places.now) }
 {
     let mut value = 0;
@@ -64,7 +65,7 @@ fn raised_value(places: &[u8]) -> u64
 /// The number of a negative number's digits.
 fn lowered_value(places: &[u8]) -> u64
     requires places { ArePlaces places.now }
-    requires count { length places.now ≤ 18 }
+    requires count { length places.now ≤ DIGIT_LIMIT }
     ensures { result ≡ number_from_digits 10 (map (λ b. 10 - b) places.now) }
 {
     let mut value = 0;
@@ -74,7 +75,7 @@ fn lowered_value(places: &[u8]) -> u64
     value
 }
 
-/// The text behind its tag, and what follows its end; none where it doesn't end.
+/// The text after its tag, and what follows its end; none where it doesn't end.
 fn take_text(alloc: Global, bytes: &[u8]) -> Result<Option<(Vec<u8>, &[u8])>, AllocError>
     ensures some { IfOk result (λ taken. IfSome taken (λ t.
         bytes.now ≡ escaped t.0.items ++ 0 ∷ 1 ∷ t.1.now)) }
@@ -162,7 +163,7 @@ fn negative_number(exponent: u8, places: &[u8]) -> Option<Decimal>
     Some(number)
 }
 
-/// A positive number behind its tag, and what follows it.
+/// A positive number after its tag, and what follows it.
 fn take_positive(bytes: &[u8]) -> Option<(Decimal, &[u8])>
     ensures some { IfSome result (λ taken. IsDecimal taken.0 ×
         (0x30 ∷ bytes.now ≡ decimal_bytes taken.0 ++ taken.1.now)) }
@@ -179,7 +180,7 @@ fn take_positive(bytes: &[u8]) -> Option<(Decimal, &[u8])>
     Some((number, rest))
 }
 
-/// A negative number behind its tag, and what follows it.
+/// A negative number after its tag, and what follows it.
 fn take_negative(bytes: &[u8]) -> Option<(Decimal, &[u8])>
     ensures some { IfSome result (λ taken. IsDecimal taken.0 ×
         (0x10 ∷ bytes.now ≡ decimal_bytes taken.0 ++ taken.1.now)) }
@@ -218,7 +219,7 @@ fn take_number(bytes: &[u8]) -> Option<(Decimal, &[u8])>
     None
 }
 
-/// A subscript that is a text, behind its tag, and what follows it.
+/// A subscript that is a text, after its tag, and what follows it.
 fn take_text_sub(alloc: Global, bytes: &[u8]) -> Result<Option<(Sub, &[u8])>, AllocError>
     ensures some { IfOk result (λ taken. IfSome taken (λ t. IsSub t.0 ×
         (0x40 ∷ bytes.now ≡ sub_bytes t.0 ++ t.1.now))) }

@@ -1,5 +1,6 @@
 ghost use Rattle.std.specs.Prelude.{◌≡◌, ◌++◌, ◌+◌, ◌-◌, ◌<◌, map, ℤ, pos, negsuc, ◌≤ℤ◌, OnOk};
 ghost use Rattle.std.specs.List.{AllByRecursion};
+ghost use Rattle.subscript_keys.specs.declared.limits.TheConstants.{DIGIT_LIMIT};
 ghost use Rattle.subscript_keys.specs.Decimal.{plus, minus, digits, AreDigits, BeginsWith, IsDecimal, IsShort};
 ghost use Rattle.subscript_keys.specs.Key.{decimal_bytes, negative_bytes, positive_bytes, escaped, text_bytes, sub_bytes, subs_bytes, HasForm};
 
@@ -35,7 +36,7 @@ fn put_lowered(to: &mut Vec<u8>, places: &[u8]) -> Result<(), AllocError>
 /// 40 (hex) and the exponent more.
 fn raised(exponent: i8) -> u8
     requires low { negsuc 16 ≤ℤ exponent }
-    requires high { exponent ≤ℤ pos 18 }
+    requires high { exponent ≤ℤ pos DIGIT_LIMIT }
     ensures { result ≡ plus 0x40 exponent }
 {
     (0x40 + i16::from(exponent)) as u8
@@ -44,7 +45,7 @@ fn raised(exponent: i8) -> u8
 /// 40 (hex) and the exponent less.
 fn lowered(exponent: i8) -> u8
     requires low { negsuc 16 ≤ℤ exponent }
-    requires high { exponent ≤ℤ pos 18 }
+    requires high { exponent ≤ℤ pos DIGIT_LIMIT }
     ensures { result ≡ minus 0x40 exponent }
 {
     (0x40 - i16::from(exponent)) as u8

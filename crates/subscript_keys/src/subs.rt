@@ -47,7 +47,7 @@ impl Subs {
         self.items.as_slice()
     }
 
-    /// Puts one more at the end; it is let go where memory is wanting.
+    /// Puts one more at the end. Out of memory it is dropped.
     pub fn push(&mut self, item: Sub) -> Result<(), AllocError>
         ensures ok { OnOk result (self.new ≡ self.old ++ item ∷ []) }
         ensures err { OnErr result (self.new ≡ self.old) }

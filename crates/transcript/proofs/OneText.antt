@@ -1,4 +1,4 @@
--- An act has at most one text, and so has an answer.
+-- An act has at most one text, and so has an answer and a piece.
 use Rattle.std.proofs.Common.{◌≡◌, ℕ, List, [], ◌∷◌, ◌++◌, Option, None, Some, sym, ap, ◌∙◌}
 use Rattle.std.specs.Prelude.{codes}
 use Rattle.subscript_keys.specs.declared.sub.Sub.{Sub}
@@ -15,13 +15,16 @@ use Rattle.plain_orders.specs.declared.entry.Entry.TheVariants.{Epoch, Opened as
 use Rattle.plain_orders.specs.declared.item.Item.{Item}
 use Rattle.plain_orders.specs.declared.item.Item.TheVariants.{Op as OpItem, Commit as CommitItem, Rollback as RollbackItem}
 use Rattle.plain_orders.specs.declared.question.Question.{Question}
-use Rattle.plain_orders.specs.declared.question.Question.TheVariants.{Get, Data, Next}
+use Rattle.plain_orders.specs.declared.question.Question.TheVariants.{Get, Shape, Next}
 use Rattle.plain_orders.specs.declared.act.Act.{Act}
 use Rattle.plain_orders.specs.declared.act.Act.TheVariants.{Opened, Enter, Synced, Shut, Release, Met, Told, Back, Crash, Issue, Read, Grant, Granted, GiveUp, Quit, Free, Counted, NotWhole, Range, Committed, RolledBack, Reached, Level, Done, Refused, Broke, Mended, Tick, Lose, Died}
 use Rattle.app_job.specs.declared.answer.Answer.{Answer}
 use Rattle.app_job.specs.declared.answer.Answer.TheVariants.{Queued as QueuedAnswer, Value as ValueAnswer, Shape as ShapeAnswer, Next as NextAnswer, Counted as CountedAnswer, Granted as GrantedAnswer, Done as DoneAnswer, Committed as CommittedAnswer, RolledBack as RolledBackAnswer, Waiting as WaitingAnswer, Refused as RefusedAnswer}
 use Rattle.transcript.specs.Parts.{field, fields, signed_field, name_at, via_word, mode_word, or_empty, found_text, below, IsValueText, IsKeyText, IsBehindText}
 use Rattle.transcript.specs.AnswerText.{held_text, IsAnswerOf, IsAnswerLine}
+use Rattle.transcript.specs.declared.piece.Piece.{Piece}
+use Rattle.transcript.specs.declared.piece.Piece.TheVariants.{Answered, Pumped, Restarted as RestartedPiece, Halted, Gone}
+use Rattle.transcript.specs.PieceText.{IsPieceLine}
 use Rattle.transcript.specs.ActText.{IsOpText, IsEntryText, IsItemText, IsQuestionText, IsLockText, IsActText, AreEntryLines, entries_behind, AreActLines}
 
 -- a node by its key
@@ -66,7 +69,7 @@ one-item (RollbackItem txn) a b p q = p ∙ sym q
 
 one-question : (question : Question) (a b : List ℕ) → IsQuestionText question a → IsQuestionText question b → a ≡ b
 one-question (Get key value) = within-two (IsKeyText key) (IsValueText value) (λ node shown. codes "get " ++ (node ++ (32 ∷ shown))) (one-key key) (one-value value)
-one-question (Data key code) = within (IsKeyText key) (λ node. codes "data " ++ (node ++ field code)) (one-key key)
+one-question (Shape key code) = within (IsKeyText key) (λ node. codes "data " ++ (node ++ field code)) (one-key key)
 one-question (Next parent sub found) = within (IsBehindText parent sub) (λ node. codes "next " ++ (node ++ (32 ∷ found_text found))) (one-behind parent sub)
 
 one-lock : (mode : Mode) (key a b : List ℕ) → IsLockText mode key a → IsLockText mode key b → a ≡ b
@@ -131,3 +134,11 @@ one-answer names DoneAnswer a b p q = p ∙ sym q
 -- an answer's line has at most one text
 pub one-answer-text : (names : Names) (job line : ℕ) (answer : Answer) (a b : List ℕ) → IsAnswerLine names job line answer a → IsAnswerLine names job line answer b → a ≡ b
 one-answer-text names job line answer = within (IsAnswerOf names answer) (λ shown. name_at names.jobs job ++ (field line ++ (32 ∷ (shown ++ 10 ∷ [])))) (one-answer names answer)
+
+-- a piece's line has at most one text
+pub one-piece-text : (names : Names) (piece : Piece) (a b : List ℕ) → IsPieceLine names piece a → IsPieceLine names piece b → a ≡ b
+one-piece-text names (Answered answered) a b p q = one-answer-text names answered.job answered.line answered.answer a b p q
+one-piece-text names (Pumped line left) a b p q = p ∙ sym q
+one-piece-text names (RestartedPiece server line outcome) a b p q = p ∙ sym q
+one-piece-text names (Halted server line) a b p q = p ∙ sym q
+one-piece-text names (Gone job line) a b p q = p ∙ sym q

@@ -21,7 +21,7 @@ use Rattle.plain_orders.specs.declared.entry.Entry.TheVariants.{Epoch, Opened as
 use Rattle.plain_orders.specs.declared.item.Item.{Item}
 use Rattle.plain_orders.specs.declared.item.Item.TheVariants.{Op as OpItem, Commit as CommitItem, Rollback as RollbackItem}
 use Rattle.plain_orders.specs.declared.question.Question.{Question}
-use Rattle.plain_orders.specs.declared.question.Question.TheVariants.{Get, Data, Next}
+use Rattle.plain_orders.specs.declared.question.Question.TheVariants.{Get, Shape, Next}
 use Rattle.plain_orders.specs.declared.act.Act.{Act}
 use Rattle.plain_orders.specs.declared.act.Act.TheVariants.{Opened, Enter, Synced, Shut, Release, Met, Told, Back, Crash, Issue, Read, Grant, Granted, GiveUp, Quit, Free, Counted, NotWhole, Range, Committed, RolledBack, Reached, Level, Done, Refused as RefusedAct, Broke, Mended, Tick, Lose, Died}
 use Rattle.global_text.specs.Printed.{IsPrinted}
@@ -63,7 +63,7 @@ IsItemText (RollbackItem txn) text = text ≡ codes "rollback" ++ field txn
 abbrev pub IsQuestionText : Question → List ℕ → Type 0
 IsQuestionText (Get key value) text =
     (node : List ℕ) × (shown : List ℕ) × IsKeyText key node × IsValueText value shown × (text ≡ codes "get " ++ (node ++ (32 ∷ shown)))
-IsQuestionText (Data key code) text = (node : List ℕ) × IsKeyText key node × (text ≡ codes "data " ++ (node ++ field code))
+IsQuestionText (Shape key code) text = (node : List ℕ) × IsKeyText key node × (text ≡ codes "data " ++ (node ++ field code))
 IsQuestionText (Next parent sub found) text =
     (node : List ℕ) × IsBehindText parent sub node × (text ≡ codes "next " ++ (node ++ (32 ∷ found_text found)))
 
@@ -175,7 +175,7 @@ CanPrintItem item = Unit {0}
 -- a read, where its key is a node's and its subscripts are ones that a node may have, so not the empty text
 abbrev pub CanPrintQuestion : Question → Type 0
 CanPrintQuestion (Get key value) = IsKey key
-CanPrintQuestion (Data key code) = IsKey key
+CanPrintQuestion (Shape key code) = IsKey key
 CanPrintQuestion (Next parent sub found) = IsKey parent × IfSome sub IsSub × IfSome found IsSub
 
 -- an entry that is entered, where it can be printed; an Epoch and a Close have acts of their own

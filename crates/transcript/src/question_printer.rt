@@ -20,7 +20,7 @@ pub fn put_question(to: &mut Printer, question: &Question) -> Result<(), AllocEr
             to.bytes(b" ")?;
             to.value_or_none(value)
         }
-        Question::Data { key, code } => {
+        Question::Shape { key, code } => {
             to.bytes(b"data ")?;
             put_key(to, key)?;
             to.field(u64::from(*code))

@@ -22,9 +22,9 @@ pub struct Full {
 }
 
 /// The items that aren't synced yet, in the order of their numbers.
-#[derive(Debug, Drop)]
+#[derive(Drop)]
 pub struct UpdateQueue {
-    /// The items, behind `given_up` ones that are synced.
+    /// The items, after `given_up` ones that are synced.
     items: Vec<Item>,
     given_up: usize,
 }
@@ -63,7 +63,7 @@ impl UpdateQueue {
         self.items.len() - self.given_up == ROOM
     }
 
-    /// Puts an item behind the others. It takes no memory.
+    /// Puts an item after the others. It takes no memory.
     pub fn push(&mut self, item: Item) -> Result<(), Full>
         requires { All (λ held. held.w < item.w) self.old }
         ensures full { IsErr result ↔ (length self.old ≡ ROOM) }

@@ -26,7 +26,7 @@ loop-size-init g c =
       telling = refl;
       faults = omega arith;
       calls = (omega arith, omega arith);
-      wants = omega arith;
+      out_of_memory = omega arith;
       none = λ zero. refl;
       written = λ x e list parts settled next pieces.
           written_none g.D.Disk.moment g.D.Disk.left_since g.D.Disk.may_leave g.D.Disk.told first x list parts c.args.gate c.as_slice-rest.result.now sizes e settled next
@@ -98,7 +98,7 @@ loop-size-preserved g c =
       telling = c.write_batch.ensures.telling ∙ was.telling;
       faults = omega (arith, was.faults, c.write_batch.ensures.faults);
       calls = let step = c.in_ok-write_batch.ensures.calls in (omega (arith, was.calls.0, step.0), omega (arith, was.calls.1, step.1));
-      wants = omega (arith, was.wants, c.write_batch.ensures.wants);
+      out_of_memory = omega (arith, was.out_of_memory, c.write_batch.ensures.memory);
       none = λ zero. absurd (omega arith);
       written = λ x f list parts settled follow pieces.
           let here = subst (HasWritten moment since may told first mid list parts gate rest) e (was.written x f list parts settled follow pieces) in

@@ -13,9 +13,9 @@ invariant-loop-size g l = record {
   pieces : (todo : List (List Entry)) × ArePieces todo l.rest (drop l.size-index l.staged.sizes.items);
   within : ForSome (g.D.Disk.told l.disk) (λ bytes. length bytes ≡ l.gate + 1);
   telling : is_some (g.D.Disk.told l.disk) ≡ is_some (g.D.Disk.told l.fn.disk);
-  faults : g.D.Disk.faults l.fn.disk ≤ g.D.Disk.faults l.disk;
-  calls : RoseBy (4 * l.size-index) (g.D.Disk.calls l.fn.disk) (g.D.Disk.calls l.disk);
-  wants : g.D.Disk.wants l.fn.disk ≤ g.D.Disk.wants l.disk;
+  faults : (g.D.Disk.counts l.fn.disk).faults ≤ (g.D.Disk.counts l.disk).faults;
+  calls : RoseBy (4 * l.size-index) (g.D.Disk.counts l.fn.disk).calls (g.D.Disk.counts l.disk).calls;
+  out_of_memory : (g.D.Disk.counts l.fn.disk).out_of_memory ≤ (g.D.Disk.counts l.disk).out_of_memory;
   none : l.size-index ≡ 0 → l.disk ≡ l.fn.disk;
   written : (x : List ℕ) → g.D.Disk.told l.fn.disk ≡ Some x → (list : List Entry) (parts : List (List Entry)) → IsSettled (g.D.Disk.told l.fn.disk) (g.D.Disk.may_leave l.fn.disk) l.fn.gate list
       → AreNext list parts → ArePieces parts l.staged.bytes.items l.staged.sizes.items

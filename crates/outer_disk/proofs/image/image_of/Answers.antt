@@ -18,7 +18,7 @@ returns-then-pick-eq1-clause-allowed c =
 -- the bytes of the last sync
 is_synced : (c : goal.Then-pick-eq0) → c.in_ok-synced.synced.items ≡ synced_after c.args.first.now c.args.first.now c.args.calls.now
 is_synced c =
-    c.in_ok-synced.ensures ∙ synced_at c.args.first.now c.args.calls.now c.synced_calls-count.result c.synced_calls-count.ensures.behind c.synced_calls-count.ensures.sync
+    c.in_ok-synced.ensures ∙ synced_at c.args.first.now c.args.calls.now c.synced_calls-count.result c.synced_calls-count.ensures.none_later c.synced_calls-count.ensures.sync
 
 pub returns-then-pick-eq0-clause-image : goal.returns-then-pick-eq0-clause-image
 returns-then-pick-eq0-clause-image c = record { none = λ h. is_synced c; one = λ h. absurd (omega arith); more = λ h. absurd (omega arith) }
@@ -32,7 +32,7 @@ is_picked : (c : goal.After-drop-synced-2) → IsPicked c.args.pick (λ place. i
     (synced_after c.args.first.now c.args.first.now c.args.calls.now) c.in_ok-image.image.items
 is_picked c =
     image_is c.args.pick c.args.first.now c.args.bytes.now c.deref.result.now c.in_ok-image.image.items c.args.calls.now c.synced_calls-count.result
-    (λ place. slice_index_or c.deref-2.result.now place false) (omega arith) c.requires.bytes c.synced_calls-count.ensures.behind c.synced_calls-count.ensures.sync
+    (λ place. slice_index_or c.deref-2.result.now place false) (omega arith) c.requires.bytes c.synced_calls-count.ensures.none_later c.synced_calls-count.ensures.sync
     (c.deref.ensures.value ∙ c.in_ok-synced.ensures)
     (λ p lt. ap (λ (ms : List Bool). slice_index_or ms p false) c.deref-2.ensures.value ∙ c.in_ok-marks.ensures.each p lt ∙ ap (λ (cs : List DiskCall). is_unsynced false cs p) (from_place c.args.calls.now c.synced_calls-count.result))
     c.in_ok-image.ensures

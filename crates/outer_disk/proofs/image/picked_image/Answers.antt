@@ -6,4 +6,4 @@ use Rattle.outer_disk.proofs.image.picked_image.Goals as goal
 pub loop-place-preserved : goal.loop-place-preserved
 loop-place-preserved c =
     picking_step c.args.pick (λ place. slice_index_or c.args.marks.now place false) c.args.bytes.now c.args.synced.now c.loop-place.image.items c.push.new.self.items
-    c.loop-place.number c.loop-place.place c.picked_byte-behind.result.0 c.picked_byte-behind.result.1 c.loop-place.invariant c.picked_byte-behind.ensures.number (cc) (search rules)
+    c.loop-place.number c.loop-place.place c.picked_byte-next.result.0 c.picked_byte-next.result.1 c.loop-place.invariant c.picked_byte-next.ensures.number (cc) (search rules)

@@ -1,5 +1,5 @@
 use Rattle.std.proofs.Common.{◌≤◌, ap, subst}
-use Rattle.outer_io.specs.Told.{ClockState}
+use Rattle.outer_io.specs.InMemory.{ClockState}
 use Rattle.outer_io.proofs.Rising.{next_no_less, next_rising}
 use Rattle.outer_io.proofs.mem_clock.MemClockClock.now.Goals as goal
 

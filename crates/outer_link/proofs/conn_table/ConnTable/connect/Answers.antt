@@ -1,6 +1,6 @@
 use Rattle.std.proofs.Common.{◌≡◌, ◌<◌, ◌^◌, ap, refl, length, rules, arith}
 use Rattle.outer_link.specs.TableState.{TableState}
-use Rattle.outer_link.proofs.KeptSteps.{kept_more}
+use Rattle.outer_link.proofs.SoundSteps.{kept_more}
 use Rattle.outer_link.proofs.TableSteps.{told_connect}
 use Rattle.outer_link.proofs.conn_table.ConnTable.connect.Goals as goal
 

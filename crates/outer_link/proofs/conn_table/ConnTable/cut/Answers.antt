@@ -1,7 +1,7 @@
 use Rattle.std.proofs.Common.{ap, refl, true, ◌==◌}
 use Rattle.outer_link.specs.TableState.{TableState}
 use Rattle.outer_link.specs.Told.{cut_conn}
-use Rattle.outer_link.proofs.KeptSteps.{kept_conn}
+use Rattle.outer_link.proofs.SoundSteps.{kept_conn}
 use Rattle.outer_link.proofs.TableSteps.{conn_at, told_conn, cut_waits}
 use Rattle.outer_link.proofs.conn_table.ConnTable.cut.Goals as goal
 

@@ -1,6 +1,6 @@
 use Rattle.std.proofs.Common.{slice_set, sym, ap, subst}
 use Rattle.outer_link.specs.ServerState.{ServerState}
-use Rattle.outer_link.specs.TableState.{TableState, IsKept}
+use Rattle.outer_link.specs.TableState.{TableState, IsSound}
 use Rattle.outer_link.proofs.TableSteps.{server_at, kept_listen, told_listen}
 use Rattle.outer_link.proofs.conn_table.ConnTable.listen.Goals as goal
 
@@ -9,7 +9,7 @@ invariant_of-self c =
     let t = c.self.inside in
     let at = server_at t.servers.items t.conns.items c.args.self.now.told c.args.server c.index_mut-server.result.now
     (ap (λ (x : TableState). x.told) c.self.view_is) c.requires c.index_mut-server.ensures.value in
-    subst (λ (w : ServerState). IsKept t.apps (slice_set t.servers.items c.args.server w) t.conns.items) (sym c.listen.ensures)
+    subst (λ (w : ServerState). IsSound t.apps (slice_set t.servers.items c.args.server w) t.conns.items) (sym c.listen.ensures)
     (kept_listen t.apps t.servers.items t.conns.items c.args.server c.index_mut-server.result.now c.self.invariant at)
 
 pub returns : goal.returns

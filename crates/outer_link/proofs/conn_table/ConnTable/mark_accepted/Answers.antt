@@ -2,7 +2,7 @@ use Rattle.std.proofs.Common.{ap, refl, true, false, ◌==◌}
 use Rattle.std.proofs.lemmas.Bool.{and_right}
 use Rattle.outer_link.specs.TableState.{TableState}
 use Rattle.outer_link.specs.Told.{accepted_conn}
-use Rattle.outer_link.proofs.KeptSteps.{kept_conn}
+use Rattle.outer_link.proofs.SoundSteps.{kept_conn}
 use Rattle.outer_link.proofs.TableSteps.{conn_at, told_conn}
 use Rattle.outer_link.proofs.conn_table.ConnTable.mark_accepted.Goals as goal
 

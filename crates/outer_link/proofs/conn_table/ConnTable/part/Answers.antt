@@ -1,6 +1,6 @@
 use Rattle.std.proofs.Common.{◌≡◌, true, ◌<◌, ◌∙◌, length, slice_set, sym, ap, subst, rules}
 use Rattle.outer_link.specs.ServerState.{ServerState, parted_server}
-use Rattle.outer_link.specs.TableState.{TableState, IsKept, told_of}
+use Rattle.outer_link.specs.TableState.{TableState, IsSound, told_of}
 use Rattle.outer_link.specs.Told.{is_parted}
 use Rattle.outer_link.proofs.TableSteps.{server_at, pair_within, parted_apart, kept_part, told_part}
 use Rattle.outer_link.proofs.conn_table.ConnTable.part.Goals as goal
@@ -14,7 +14,7 @@ invariant_of-self c =
     (subst (λ n. c.args.app < n) (sym (ap (λ (x : TableState). x.apps) c.self.view_is)) c.requires.app) in
     let made : c.len-made.result ≡ length t.conns.items = search rules in
     let as_made = c.part.ensures ∙ ap (parted_server c.index_mut-server.result.now c.args.app) made in
-    subst (λ (w : ServerState). IsKept t.apps (slice_set t.servers.items c.args.server w) t.conns.items) (sym as_made)
+    subst (λ (w : ServerState). IsSound t.apps (slice_set t.servers.items c.args.server w) t.conns.items) (sym as_made)
     (kept_part t.apps t.servers.items t.conns.items c.args.app c.args.server c.index_mut-server.result.now pair c.self.invariant at)
 
 pub returns-clause-next : goal.returns-clause-next

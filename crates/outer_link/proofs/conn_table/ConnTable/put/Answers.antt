@@ -3,7 +3,7 @@ use Rattle.std.proofs.lemmas.Result.{on_ok_weaker}
 use Rattle.outer_link.specs.Lines.{put_into}
 use Rattle.outer_link.specs.TableState.{TableState, told_of}
 use Rattle.outer_link.specs.Told.{is_cut_at}
-use Rattle.outer_link.proofs.KeptSteps.{kept_conn}
+use Rattle.outer_link.proofs.SoundSteps.{kept_conn}
 use Rattle.outer_link.proofs.TableSteps.{conn_at, put_on_cut, told_put}
 use Rattle.outer_link.proofs.conn_table.ConnTable.put.Goals as goal
 

@@ -1,6 +1,6 @@
 use Rattle.std.proofs.Common.{◌≤◌, length, map, take, slice_set, sym, ap, subst}
 use Rattle.outer_link.specs.ServerState.{ServerState}
-use Rattle.outer_link.specs.TableState.{TableState, IsKept, NoneWaits, conn_told}
+use Rattle.outer_link.specs.TableState.{TableState, IsSound, NoneWaits, conn_told}
 use Rattle.outer_link.proofs.TableSteps.{server_at, kept_see, told_see}
 use Rattle.outer_link.proofs.conn_table.ConnTable.see.Goals as goal
 
@@ -13,7 +13,7 @@ invariant_of-self c =
     subst (λ (x : TableState). c.args.seen ≤ length x.told.conns) (sym c.self.view_is) c.requires.within in
     let none : NoneWaits c.args.server (take c.args.seen (map (conn_told t.servers.items) t.conns.items)) =
     subst (λ (x : TableState). NoneWaits c.args.server (take c.args.seen x.told.conns)) (sym c.self.view_is) c.requires.none in
-    subst (λ (w : ServerState). IsKept t.apps (slice_set t.servers.items c.args.server w) t.conns.items) (sym c.see.ensures)
+    subst (λ (w : ServerState). IsSound t.apps (slice_set t.servers.items c.args.server w) t.conns.items) (sym c.see.ensures)
     (kept_see t.apps t.servers.items t.conns.items c.args.server c.args.seen c.index_mut-server.result.now c.self.invariant at within none)
 
 pub returns : goal.returns

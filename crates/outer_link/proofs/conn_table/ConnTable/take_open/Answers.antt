@@ -1,7 +1,7 @@
 use Rattle.std.proofs.Common.{◌≡◌, ◌∙◌, ap, refl, false, length, min, take, sym}
 use Rattle.outer_link.specs.TableState.{TableState, told_of}
 use Rattle.outer_link.specs.Told.{is_cut_at, undelivered}
-use Rattle.outer_link.proofs.KeptSteps.{kept_conn}
+use Rattle.outer_link.proofs.SoundSteps.{kept_conn}
 use Rattle.outer_link.proofs.TableSteps.{conn_at, left_at, told_take}
 use Rattle.outer_link.proofs.conn_table.ConnTable.take_open.Goals as goal
 

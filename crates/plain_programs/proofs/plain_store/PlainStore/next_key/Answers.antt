@@ -2,7 +2,8 @@ use Rattle.std.proofs.Common.{◌≡◌, ◌++◌, ◌∙◌, sym, refl, rules}
 use Rattle.subscript_keys.specs.Key.{sub_bytes, IsSub}
 use Rattle.subscript_keys.specs.Span.{span_hi}
 use Rattle.plain_programs.proofs.SearchLemmas.{next_key-first}
-use Rattle.plain_programs.proofs.KeyLemmas.{child_key, next_key-behind}
+use Rattle.plain_orders.proofs.NodeKeys.{child_key}
+use Rattle.plain_programs.proofs.KeyLemmas.{next_key-behind}
 use Rattle.plain_programs.proofs.plain_store.PlainStore.next_key.Goals as goal
 
 pub returns-in-None : goal.returns-in-None

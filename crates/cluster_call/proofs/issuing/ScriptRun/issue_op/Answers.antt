@@ -1,0 +1,27 @@
+use Rattle.std.proofs.Common.{◌≡◌, ◌+◌, Bool, true, sym, subst, ap, ◌∙◌}
+use Rattle.plain_orders.specs.declared.act.Act.TheVariants.{Enter, Synced, Issue}
+use Rattle.plain_orders.specs.declared.item.Item.TheVariants.{Op as OpItem}
+use Rattle.plain_orders.specs.Fold.{Folded, fold_step}
+use Rattle.plain_runs.specs.Plain.{Plain}
+use Rattle.plain_runs.specs.Step.{after}
+use Rattle.plain_runs.specs.Recording.{state_of}
+use Rattle.cluster_call.specs.Running.{IsBetweenLines}
+use Rattle.cluster_call.proofs.AddLemmas.{state_behind_three}
+use Rattle.cluster_call.proofs.RunSteps.{op_stands, behind_update, update_entry}
+use Rattle.cluster_call.proofs.issuing.ScriptRun.issue_op.Goals as goal
+
+pub returns-clause-stands : goal.returns-clause-stands
+returns-clause-stands c =
+    let issue = Issue 0 c.args.line 0 (c.args.self.now.issued + 1) (OpItem c.args.op) in
+    let enter = Enter 0 (update_entry (c.args.self.now.issued + 1) c.args.op) in
+    let issued : state_of c.note.new.self ≡ after c.args.self.now.recorder.layout (state_of c.args.self.now.recorder) issue =
+    c.in_ok-note.ensures.state
+    ∙ ap (λ o. after c.args.self.now.recorder.layout (state_of c.args.self.now.recorder) (Issue 0 c.args.line 0 (c.args.self.now.issued + 1) (OpItem o))) c.in_ok-copy_op.ensures in
+    let saved : state_of c.note-3.new.self ≡ behind_update c.args.self.now.recorder.layout (state_of c.args.self.now.recorder) c.args.line (c.args.self.now.issued + 1) (c.args.self.now.length + 1) c.args.op =
+    state_behind_three c.args.self.now.recorder.layout c.note.new.self.layout c.note-2.new.self.layout (state_of c.args.self.now.recorder) (state_of c.note.new.self) (state_of c.note-2.new.self) (state_of c.note-3.new.self)
+    issue enter (Synced 0 (c.args.self.now.length + 1)) c.in_ok-note.ensures.layout c.in_ok-note-2.ensures.layout issued c.in_ok-note-2.ensures.state c.in_ok-note-3.ensures.state in
+    subst (λ (b : Bool). IsBetweenLines (state_of c.note-3.new.self) (c.args.self.now.length + 1) (c.args.self.now.issued + 1) b c.apply.new.self) (sym c.requires.met)
+    (subst (λ (f : Folded). IsBetweenLines (state_of c.note-3.new.self) (c.args.self.now.length + 1) (c.args.self.now.issued + 1) true f) (sym c.in_ok-_applied.ensures.next)
+    (subst (λ (p : Plain). IsBetweenLines p (c.args.self.now.length + 1) (c.args.self.now.issued + 1) true (fold_step c.args.self.now.store (update_entry (c.args.self.now.issued + 1) c.args.op))) (sym saved)
+    (op_stands c.args.self.now.recorder.layout (state_of c.args.self.now.recorder) c.args.self.now.length c.args.self.now.issued c.args.line c.args.self.now.store c.args.op c.requires.change c.requires.within
+    (subst (λ (b : Bool). IsBetweenLines (state_of c.args.self.now.recorder) c.args.self.now.length c.args.self.now.issued b c.args.self.now.store) c.requires.met c.requires.stands) c.requires.job)))

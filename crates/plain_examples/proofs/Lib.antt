@@ -1,0 +1,13 @@
+mod Keys
+mod FirstRun
+mod LeadRuns
+mod LockLeadRuns
+mod JobLeadRuns
+mod ChangeLeadRuns
+mod EntryCases
+mod OrderCases
+mod EndCases
+mod LockCases
+mod JobCases
+mod AnswerCases
+mod ChangeCases

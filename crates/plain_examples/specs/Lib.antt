@@ -1,0 +1,12 @@
+pub mod Leads
+pub mod LockLeads
+pub mod JobLeads
+pub mod ChangeLeads
+pub mod FirstRun
+pub mod EntryExamples
+pub mod OrderExamples
+pub mod EndExamples
+pub mod LockExamples
+pub mod JobExamples
+pub mod AnswerExamples
+pub mod ChangeExamples

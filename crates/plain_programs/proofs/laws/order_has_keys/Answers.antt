@@ -1,5 +1,0 @@
-use Rattle.plain_programs.proofs.OrderKeys.{ordered_keys}
-use Rattle.plain_programs.proofs.laws.order_has_keys.Goals as goal
-
-pub returns : goal.returns
-returns c = ordered_keys

@@ -1,5 +1,0 @@
-use Rattle.plain_programs.proofs.KeyLemmas.{under_is}
-use Rattle.plain_programs.proofs.laws.under_is_at_or_below.Goals as goal
-
-pub returns : goal.returns
-returns c = under_is

@@ -1,5 +1,0 @@
-use Rattle.plain_runs.proofs.EndCases.{free_act_examples as proof}
-use Rattle.plain_runs.proofs.examples.free_act_examples.Goals as goal
-
-pub returns : goal.returns
-returns c = proof

@@ -1,5 +1,0 @@
-use Rattle.plain_runs.proofs.AnswerCases.{not_whole_examples as proof}
-use Rattle.plain_runs.proofs.examples.not_whole_examples.Goals as goal
-
-pub returns : goal.returns
-returns c = proof
