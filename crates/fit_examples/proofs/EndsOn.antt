@@ -8,7 +8,7 @@ use Rattle.plain_orders.specs.declared.layout.Layout.{Layout}
 use Rattle.app_job.specs.declared.answer.Answer.{Answer}
 use Rattle.app_job.specs.declared.answer.Answer.TheVariants.{Queued, Done as DoneAnswer}
 use Rattle.app_job.specs.declared.place.Place.{Place}
-use Rattle.script_fits.specs.Moments.{Moment, acts_in}
+use Rattle.script_fits.specs.Moments.{Moment, acts_in, AreTogether}
 use Rattle.script_fits.specs.Locking.{HeldBack, Past, is_still_held, GivesBack}
 use Rattle.script_fits.specs.Committing.{AreIssued, PutsEnds, EndsEmpty, EndsQueued, EndsAnswered}
 use Rattle.fit_examples.proofs.FirstMoments.{first_is}
@@ -64,23 +64,27 @@ puts_on l job line item Left ds past put left places puts more =
 abbrev pub LeavesDone : ℕ → ℕ → List Moment → Type 0
 LeavesDone job line left = (m : Moment) × (left ≡ m ∷ []) × (m.act ≡ Done job line)
 
+-- the answers are left
+abbrev pub LeavesAnswers : (List ℕ → List Act → List Place → Type 0) → List ℕ → List Place → List Moment → Type 0
+LeavesAnswers AreAnswered ds places left = AreTogether left × AreAnswered ds (acts_in left) places
+
 -- nothing is left
 abbrev pub LeavesNothing : List Moment → Type 0
 LeavesNothing left = left ≡ []
 
 pub empty_on : (l : Layout) (job line : ℕ) (item : Item) (past : Past) (ms : List Moment) (answer : Answer)
-    → EndsEmpty l job line item past ms answer → PutsOn l job line item (LeavesDone job line) past.held_back [] ms [] × (answer ≡ DoneAnswer)
-empty_on l job line item past ms answer (put, m, e, puts, act, a) =
-    (subst (λ x. PutsOn l job line item (LeavesDone job line) past.held_back [] x []) (sym e) (puts_on l job line item (LeavesDone job line) [] past put (m ∷ []) [] puts (m, refl, act)), a)
+    → EndsEmpty l job line item past ms answer → PutsOn l job line item (LeavesDone job line) past.held_back [] ms [] × AreTogether ms × (answer ≡ DoneAnswer)
+empty_on l job line item past ms answer (put, m, e, together, puts, act, a) =
+    (subst (λ x. PutsOn l job line item (LeavesDone job line) past.held_back [] x []) (sym e) (puts_on l job line item (LeavesDone job line) [] past put (m ∷ []) [] puts (m, refl, act)), together, a)
 
 pub queued_on : (l : Layout) (job line : ℕ) (item : Item) (ds : List ℕ) (past : Past) (ms : List Moment) (answer : Answer)
-    → EndsQueued l job line item ds past ms answer → (places : List Place) × PutsOn l job line item LeavesNothing past.held_back ds ms places × (answer ≡ Queued places)
+    → EndsQueued l job line item ds past ms answer → (places : List Place) × PutsOn l job line item LeavesNothing past.held_back ds ms places × AreTogether ms × (answer ≡ Queued places)
 queued_on l job line item ds past ms answer (places, some, puts, a) =
-    (places, subst (λ x. PutsOn l job line item LeavesNothing past.held_back ds x places) (append-nil ms) (puts_on l job line item LeavesNothing ds past ms [] places puts refl), a)
+    (places, subst (λ x. PutsOn l job line item LeavesNothing past.held_back ds x places) (append-nil ms) (puts_on l job line item LeavesNothing ds past ms [] places puts refl), puts.together, a)
 
 pub answered_on : (AreAnswered : List ℕ → List Act → List Place → Type 0) (l : Layout) (job line : ℕ) (item : Item) (ds : List ℕ) (past : Past) (ms : List Moment) (places : List Place)
     → EndsAnswered AreAnswered l job line item ds past ms places
-    → (numbers : List Place) × PutsOn l job line item (λ left. AreAnswered ds (acts_in left) places) past.held_back ds ms numbers
-answered_on AreAnswered l job line item ds past ms places (put, told, numbers, some, e, puts, are) =
-    (numbers, subst (λ x. PutsOn l job line item (λ left. AreAnswered ds (acts_in left) places) past.held_back ds x numbers) (sym e)
-      (puts_on l job line item (λ left. AreAnswered ds (acts_in left) places) ds past put told numbers puts are))
+    → (numbers : List Place) × PutsOn l job line item (LeavesAnswers AreAnswered ds places) past.held_back ds ms numbers
+answered_on AreAnswered l job line item ds past ms places (put, told, numbers, some, e, together, puts, are) =
+    (numbers, subst (λ x. PutsOn l job line item (LeavesAnswers AreAnswered ds places) past.held_back ds x numbers) (sym e)
+      (puts_on l job line item (LeavesAnswers AreAnswered ds places) ds past put told numbers puts (together, are)))

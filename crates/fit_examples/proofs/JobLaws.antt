@@ -1,5 +1,5 @@
 -- What a job's first command comes to.
-use Rattle.std.proofs.Common.{◌≡◌, ◌⊎◌, inl, inr, ℕ, List, [], ◌∷◌, ◌++◌, refl, sym, subst}
+use Rattle.std.proofs.Common.{◌≡◌, ◌⊎◌, inl, inr, ℕ, List, [], ◌∷◌, ◌++◌, subst}
 use Rattle.std.proofs.lemmas.List.{append_assoc}
 use Rattle.plain_orders.specs.declared.layout.Layout.{Layout}
 use Rattle.app_job.specs.declared.answer.Answer.{Answer}
@@ -37,15 +37,16 @@ no_first l job line command cs ms ends no_part fronts does = go does.done does.r
     go : (done rest : List CommandLine) (its begun : List Moment) (left : Past) → first ∷ cs ≡ done ++ rest → ms ≡ its ++ begun → AreDone l job no_past done its ends left → IsBegun l job left rest begun → ⊥
     go [] [] its begun left lines whole each last = absurd (cc lines)
     go [] (r ∷ rest) its begun left lines whole (none, no_ends, same) (held, part) =
+        let its_command : r ≡ first = cc lines in
         no_part held (
           subst (λ x. Part l job line command no_past x held) (cc (whole, none))
             (subst (λ (p : Past). Part l job line command p begun held) same
-              (subst (λ (x : CommandLine). Part l job x.line x.command left begun held) (cc lines) part)),
-        )
+              (subst (λ (x : CommandLine). Part l job x.line x.command left begun held) its_command part)))
     go (d ∷ done) rest its begun left lines whole (own, more, others, answer, held, e, ended, is_done, after) last =
+        let same : d ≡ first = cc lines in
         at_front (IsNoFirst l job first ends) ms own (more ++ begun) fronts (cc (whole, e, append_assoc own more begun)) answer held others
-          (subst (λ (x : CommandLine). IsDone l job x.line x.command no_past own answer held) (cc lines) is_done)
-          (subst (λ (x : CommandLine). ends ≡ end_of job x.line answer own ∷ others) (cc lines) ended)
+          (subst (λ (x : CommandLine). IsDone l job x.line x.command no_past own answer held) same is_done)
+          (subst (λ (x : CommandLine). ends ≡ end_of job x.line answer own ∷ others) same ended)
 
 -- a job without commands does nothing
 pub no_commands : (l : Layout) (job : ℕ) (m : Moment) (ms : List Moment) (ends : List Ended) → ¬ DoesJob l job [] (m ∷ ms) ends
@@ -58,8 +59,8 @@ no_commands l job m ms ends does = go does.done does.rest does.its does.begun do
 
 -- nothing is no refusal
 pub nothing_refused : (l : Layout) (job line : ℕ) (command : Command) (past : Past) (answer : Answer) (held : List HeldBack) → ¬ RefusedAfter l job line command past [] answer held
-nothing_refused l job line command past answer held ([], m, refused, e, others) = absurd (cc e)
-nothing_refused l job line command past answer held (p ∷ part, m, refused, e, others) = absurd (cc e)
+nothing_refused l job line command past answer held ([], m, refused, e, is_part, act, may, told) = absurd (cc e)
+nothing_refused l job line command past answer held (p ∷ part, m, refused, e, is_part, act, may, told) = absurd (cc e)
 
 -- neither of two
 pub neither : {A B : Type 0} → A ⊎ B → ¬ A → ¬ B → ⊥

@@ -78,7 +78,7 @@ pub no_commit_part : (l : Layout) (job line : ℕ) (past : Past) (m : Moment) (m
     → ¬ ((servers ≢ []) × ((places : List Place) × PutsOn l job line (CommitItem (txn_at m.before job)) LeavesNothing past.held_back servers (m ∷ ms) places))
     → ¬ Part l job line (Commit true) past (m ∷ ms) held
 no_commit_part l job line past m ms held servers same wrong (inl (e, h)) = absurd (cc e)
-no_commit_part l job line past m ms held servers same wrong (inr (first, awaited)) = wrong (awaits_on l job line CommitItem past m ms held servers same awaited)
+no_commit_part l job line past m ms held servers same wrong (inr (free, first, awaited)) = wrong (awaits_on l job line CommitItem past m ms held servers same awaited)
 
 -- no such part of a rollback
 pub no_rollback_part : (l : Layout) (job line : ℕ) (past : Past) (m : Moment) (ms : List Moment) (held : List HeldBack) (servers : List ℕ)

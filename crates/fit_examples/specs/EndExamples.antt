@@ -1,20 +1,13 @@
 -- Transactions with updates at both data servers.
-use Rattle.std.specs.Prelude.{ℕ, pos, List, [], ◌∷◌, ◌++◌, Some, None, true, false}
-use Rattle.plain_orders.specs.declared.act.Act.TheVariants.{Opened, Enter, Synced, Shut, Met, Crash, Issue, Read, Grant, Granted, GiveUp, Quit, Counted, NotWhole, Range, Committed, RolledBack, Reached, Level, Done, Refused, Tick, Lose, Died}
-use Rattle.plain_orders.specs.declared.item.Item.TheVariants.{Op as OpItem, Commit as CommitItem, Rollback as RollbackItem}
-use Rattle.plain_orders.specs.declared.op.Op.TheVariants.{Set as SetOp, Kill as KillOp, Add as AddOp}
-use Rattle.app_job.specs.declared.answer.Answer.TheVariants.{Queued, Value, Shape as ShapeAnswer, Next as NextAnswer, Counted as CountedAnswer, Granted as GrantedAnswer, Done as DoneAnswer, Committed as CommittedAnswer, RolledBack as RolledBackAnswer, Waiting, Refused as RefusedAnswer}
-use Rattle.app_job.specs.declared.refusal.Refusal.TheVariants.{Network as NetworkRefusal, RollbackOnly as RollbackOnlyRefusal, NotWhole as NotWholeRefusal, Range as RangeRefusal, NoTransaction as NoTransactionRefusal, TooDeep as TooDeepRefusal, LockTimeout as LockTimeoutRefusal}
-use Rattle.app_job.specs.declared.command.Command.TheVariants.{Set, Kill, Get, Shape, Next, Incr, Lock, Unlock, Start, Commit, Rollback, Sync}
-use Rattle.fit_examples.specs.Groups.{at_x, at_y, x_at_1, two, group, five, six, place, held_x, shared_x, held_y, past_with, past_at, met, Does, DoesHeld, DoesAs}
-use Rattle.plain_orders.specs.declared.entry.Entry.TheVariants.{Opened as OpenEntry, Update, Commit as CommitEntry, Rollback as RollbackEntry}
+use Rattle.std.specs.Prelude.{[], ◌∷◌, ◌++◌, true, false}
+use Rattle.plain_orders.specs.declared.act.Act.TheVariants.{Enter, Synced, Issue, Committed, RolledBack, Reached, Level, Done}
+use Rattle.plain_orders.specs.declared.item.Item.TheVariants.{Commit as CommitItem, Rollback as RollbackItem}
+use Rattle.plain_orders.specs.declared.op.Op.TheVariants.{Set as SetOp}
+use Rattle.app_job.specs.declared.answer.Answer.TheVariants.{Queued, Granted as GrantedAnswer, Done as DoneAnswer, Committed as CommittedAnswer, RolledBack as RolledBackAnswer}
+use Rattle.app_job.specs.declared.command.Command.TheVariants.{Commit, Rollback, Sync}
+use Rattle.fit_examples.specs.Groups.{at_x, five, place, held_x, met, Does, DoesHeld, DoesAs}
+use Rattle.plain_orders.specs.declared.entry.Entry.TheVariants.{Update, Commit as CommitEntry, Rollback as RollbackEntry}
 use Rattle.script_fits.specs.Locking.{no_past}
-use Rattle.plain_orders.specs.declared.mode.Mode.TheVariants.{Exclusive, Shared}
-use Rattle.plain_orders.specs.declared.causes.ShutCause.TheVariants.{Replaced}
-use Rattle.plain_orders.specs.declared.causes.Loss.TheVariants.{Reset as ByReset}
-use Rattle.plain_orders.specs.declared.refused.Refused.TheVariants.{NoTransaction, TooDeep, RollbackOnly, LockTimeout, Network}
-use Rattle.plain_orders.specs.declared.refused.ReasonName.TheVariants.{Reset, Expired, NoWay}
-use Rattle.plain_orders.specs.declared.refused.LinkName.TheVariants.{Recovery, Trouble, NotConnected}
 use Rattle.fit_examples.specs.Trails.{set_one, set_both, set_lost}
 
 -- a commit that nobody waits for
@@ -23,8 +16,8 @@ CommitExamples =
     Does set_both (Commit false) (Issue 0 5 0 2 (CommitItem 1) ∷ Issue 0 5 1 2 (CommitItem 1) ∷ Level 0 5 0 ∷ []) (Queued (place 0 2 ∷ place 1 2 ∷ []))
     -- with updates at one data server
     × Does set_one (Commit false) (Issue 0 5 0 2 (CommitItem 1) ∷ Level 0 5 0 ∷ []) (Queued (place 0 2 ∷ []))
-    -- with updates at one data server, the session of the other being lost
-    × Does set_lost (Commit false) (Issue 0 5 1 2 (CommitItem 1) ∷ Level 0 5 0 ∷ []) (Queued (place 1 2 ∷ []))
+    -- a session with updates was lost
+    × (¬ Does set_lost (Commit false) (Issue 0 5 1 2 (CommitItem 1) ∷ Level 0 5 0 ∷ []) (Queued (place 1 2 ∷ [])))
     -- one is issued in a session that was lost
     × (¬ Does set_lost (Commit false) (Issue 0 5 0 2 (CommitItem 1) ∷ Issue 0 5 1 2 (CommitItem 1) ∷ Level 0 5 0 ∷ []) (Queued (place 0 2 ∷ place 1 2 ∷ [])))
     -- another order
@@ -105,6 +98,8 @@ RollbackExamples =
     Does set_both (Rollback) (Issue 0 5 0 2 (RollbackItem 1) ∷ Issue 0 5 1 2 (RollbackItem 1) ∷ Level 0 5 0 ∷ Enter 0 (Update 2 1 0 1 (SetOp at_x.key five)) ∷ Enter 0 (RollbackEntry 2 2 0 1) ∷ Synced 0 4 ∷ Enter 1 (Update 2 1 0 1 (SetOp at_x.key five)) ∷ Enter 1 (RollbackEntry 2 2 0 1) ∷ Synced 1 4 ∷ RolledBack 0 5 0 4 ∷ RolledBack 0 5 1 4 ∷ []) (RolledBackAnswer (place 0 4 ∷ place 1 4 ∷ []))
     -- within another transaction
     × Does (set_both ++ Level 0 4 2 ∷ []) (Rollback) (Issue 0 5 0 2 (RollbackItem 1) ∷ Issue 0 5 1 2 (RollbackItem 1) ∷ Level 0 5 0 ∷ Enter 0 (Update 2 1 0 1 (SetOp at_x.key five)) ∷ Enter 0 (RollbackEntry 2 2 0 1) ∷ Synced 0 4 ∷ Enter 1 (Update 2 1 0 1 (SetOp at_x.key five)) ∷ Enter 1 (RollbackEntry 2 2 0 1) ∷ Synced 1 4 ∷ RolledBack 0 5 0 4 ∷ RolledBack 0 5 1 4 ∷ []) (RolledBackAnswer (place 0 4 ∷ place 1 4 ∷ []))
+    -- a session with updates was lost
+    × Does set_lost (Rollback) (Issue 0 5 1 2 (RollbackItem 1) ∷ Level 0 5 0 ∷ Enter 1 (Update 2 1 0 1 (SetOp at_x.key five)) ∷ Enter 1 (RollbackEntry 2 2 0 1) ∷ Synced 1 4 ∷ RolledBack 0 5 1 4 ∷ []) (RolledBackAnswer (place 1 4 ∷ []))
     -- another order of the ends
     × (¬ Does set_both (Rollback) (Issue 0 5 0 2 (RollbackItem 1) ∷ Issue 0 5 1 2 (RollbackItem 1) ∷ Level 0 5 0 ∷ Enter 0 (Update 2 1 0 1 (SetOp at_x.key five)) ∷ Enter 0 (RollbackEntry 2 2 0 1) ∷ Synced 0 4 ∷ Enter 1 (Update 2 1 0 1 (SetOp at_x.key five)) ∷ Enter 1 (RollbackEntry 2 2 0 1) ∷ Synced 1 4 ∷ RolledBack 0 5 1 4 ∷ RolledBack 0 5 0 4 ∷ []) (RolledBackAnswer (place 0 4 ∷ place 1 4 ∷ [])))
     -- another order of the items

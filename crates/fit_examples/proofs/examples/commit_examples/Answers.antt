@@ -7,9 +7,9 @@ use Rattle.fit_examples.proofs.examples.commit_examples.Goals as goal
 
 pub returns : goal.returns
 returns c = (
-  inr (_, (_, _, refl, refl), refl, refl, inr (_, (λ e. absurd (cc e)), record { issued = _ ∷ _ ∷ []; given = []; closing = _; whole = refl; items = (2, _, _, refl, refl, (2, [], [], refl, refl, (refl, refl))); unlocks = refl; level = refl }, refl)),
-  inr (_, (_, _, refl, refl), refl, refl, inr (_, (λ e. absurd (cc e)), record { issued = _ ∷ []; given = []; closing = _; whole = refl; items = (2, [], [], refl, refl, (refl, refl)); unlocks = refl; level = refl }, refl)),
-  inr (_, (_, _, refl, refl), refl, refl, inr (_, (λ e. absurd (cc e)), record { issued = _ ∷ []; given = []; closing = _; whole = refl; items = (2, [], [], refl, refl, (refl, refl)); unlocks = refl; level = refl }, refl)),
+  (inr (_, (_, _, refl, refl), refl, refl, inr (_, (λ e. absurd (cc e)), record { issued = _ ∷ _ ∷ []; given = []; closing = _; whole = refl; together = (refl, (refl, (tt, tt))); items = (2, _, _, refl, refl, (2, [], [], refl, refl, (refl, refl))); unlocks = refl; level = refl }, refl)), (refl, (refl, (refl, tt)))),
+  (inr (_, (_, _, refl, refl), refl, refl, inr (_, (λ e. absurd (cc e)), record { issued = _ ∷ []; given = []; closing = _; whole = refl; together = (refl, (tt, tt)); items = (2, [], [], refl, refl, (refl, refl)); unlocks = refl; level = refl }, refl)), (refl, (refl, tt))),
+  λ f. absurd (cc f.1.0),
   no_commit two 0 5 false no_past _ _ _ _ (1 ∷ []) refl refl (search rules),
   no_commit two 0 5 false no_past _ _ _ _ (0 ∷ 1 ∷ []) refl refl (search rules),
   no_commit two 0 5 false no_past _ _ _ _ (0 ∷ 1 ∷ []) refl refl (search rules),

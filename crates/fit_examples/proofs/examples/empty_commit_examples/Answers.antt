@@ -7,8 +7,8 @@ use Rattle.fit_examples.proofs.examples.empty_commit_examples.Goals as goal
 
 pub returns : goal.returns
 returns c = (
-  inr (_, (_, _, refl, refl), refl, refl, inl (refl, (_ ∷ [], _, refl, record { issued = []; given = []; closing = _; whole = refl; items = (refl, refl); unlocks = refl; level = refl }, refl, refl))),
-  inr (_, (_, _, refl, refl), refl, refl, inl (refl, (_ ∷ [], _, refl, record { issued = []; given = []; closing = _; whole = refl; items = (refl, refl); unlocks = refl; level = refl }, refl, refl))),
+  (inr (_, (_, _, refl, refl), refl, refl, inl (refl, (_ ∷ [], _, refl, (refl, (tt, tt)), record { issued = []; given = []; closing = _; whole = refl; together = (tt, tt); items = (refl, refl); unlocks = refl; level = refl }, refl, refl))), (refl, (refl, tt))),
+  (inr (_, (_, _, refl, refl), refl, refl, inl (refl, (_ ∷ [], _, refl, (refl, (tt, tt)), record { issued = []; given = []; closing = _; whole = refl; together = (tt, tt); items = (refl, refl); unlocks = refl; level = refl }, refl, refl))), (refl, (refl, tt))),
   search rules,
   no_commit two 0 5 false no_past _ _ _ _ [] refl refl (search rules),
   no_commit two 0 5 false no_past _ _ _ _ [] refl refl (search rules),
@@ -19,10 +19,10 @@ returns c = (
   no_commit two 0 5 false no_past _ _ _ _ [] refl refl (search rules),
   no_commit two 0 5 false no_past _ _ _ _ [] refl refl (search rules),
   search rules,
-  inl (_, 1, (_, _, refl, refl), refl, omega arith, refl, refl, refl),
-  inl (_, 1, (_, _, refl, refl), refl, omega arith, refl, refl, refl),
+  (inl (_, 1, (_, _, refl, refl), (refl, (tt, tt)), refl, omega arith, refl, refl, refl), (refl, (refl, tt))),
+  (inl (_, 1, (_, _, refl, refl), (refl, (tt, tt)), refl, omega arith, refl, refl, refl), (refl, (refl, tt))),
   search rules,
   search rules,
-  inl (_, 1, (_, _, refl, refl), refl, omega arith, refl, refl, refl),
+  (inl (_, 1, (_, _, refl, refl), (refl, (tt, tt)), refl, omega arith, refl, refl, refl), (refl, (refl, tt))),
   search rules,
 )

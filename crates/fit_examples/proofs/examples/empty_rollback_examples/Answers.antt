@@ -6,8 +6,8 @@ use Rattle.fit_examples.proofs.examples.empty_rollback_examples.Goals as goal
 
 pub returns : goal.returns
 returns c = (
-  (_, (_, _, refl, refl), omega arith, refl, inl (refl, (_ ∷ [], _, refl, record { issued = []; given = []; closing = _; whole = refl; items = (refl, refl); unlocks = refl; level = refl }, refl, refl))),
-  (_, (_, _, refl, refl), omega arith, refl, inl (refl, (_ ∷ [], _, refl, record { issued = []; given = []; closing = _; whole = refl; items = (refl, refl); unlocks = refl; level = refl }, refl, refl))),
+  (_, (_, _, refl, refl), omega arith, refl, inl (refl, (_ ∷ [], _, refl, (refl, (tt, tt)), record { issued = []; given = []; closing = _; whole = refl; together = (tt, tt); items = (refl, refl); unlocks = refl; level = refl }, refl, refl))),
+  (_, (_, _, refl, refl), omega arith, refl, inl (refl, (_ ∷ [], _, refl, (refl, (tt, tt)), record { issued = []; given = []; closing = _; whole = refl; together = (tt, tt); items = (refl, refl); unlocks = refl; level = refl }, refl, refl))),
   search rules,
   no_rollback two 0 5 no_past _ _ _ _ [] refl (search rules),
   no_rollback two 0 5 no_past _ _ _ _ [] refl (search rules),

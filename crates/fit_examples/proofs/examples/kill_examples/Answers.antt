@@ -3,7 +3,7 @@ use Rattle.fit_examples.proofs.examples.kill_examples.Goals as goal
 
 pub returns : goal.returns
 returns c = (
-  ((1, refl, refl), refl),
+  ((1, refl, refl), (refl, tt), refl),
   search rules,
   search rules,
   search rules,

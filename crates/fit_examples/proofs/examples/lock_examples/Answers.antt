@@ -8,8 +8,8 @@ use Rattle.fit_examples.proofs.examples.lock_examples.Goals as goal
 
 pub returns : goal.returns
 returns c = (
-  (inl (_, 2, refl, refl, refl, refl), refl),
-  (inl (_, 2, refl, refl, refl, refl), refl),
+  (inl (_, 2, refl, refl, refl, (refl, tt), refl), refl),
+  (inl (_, 2, refl, refl, refl, (refl, tt), refl), refl),
   search rules,
   search rules,
   search rules,

@@ -5,7 +5,7 @@ use Rattle.fit_examples.proofs.examples.next_examples.Goals as goal
 
 pub returns : goal.returns
 returns c = (
-  ((2, Fetched, None, refl, refl), refl),
+  ((2, Fetched, None, refl, refl), (refl, tt), refl),
   search rules,
   search rules,
   search rules,

@@ -3,7 +3,7 @@ use Rattle.fit_examples.proofs.examples.sync_examples.Goals as goal
 
 pub returns : goal.returns
 returns c = (
-  ((2, refl, refl), refl),
+  ((2, refl, refl), (refl, (tt, tt)), (refl, (refl, tt)), refl),
   search rules,
   search rules,
   search rules,
