@@ -3,3 +3,4 @@ pub mod EndsOn
 pub mod EndLaws
 pub mod PartLaws
 pub mod JobLaws
+pub mod LineLaws

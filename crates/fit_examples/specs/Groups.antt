@@ -14,6 +14,13 @@ use Rattle.script_fits.specs.Moments.{Moment, moments_from, moments_of}
 use Rattle.script_fits.specs.Locking.{HeldBack, Past, no_past}
 use Rattle.script_fits.specs.Commands.{Whole, Part, RefusedAfter}
 use Rattle.script_fits.specs.JobLines.{CommandLine, Ended, DoesJob}
+use Rattle.script_fits.specs.Lines.{LineAdds}
+use Rattle.script_fits.specs.Walk.{SoFar}
+use Rattle.job_script.specs.declared.script_line.ScriptLine.{ScriptLine}
+use Rattle.job_script.specs.declared.todo.Todo.{Todo}
+use Rattle.transcript.specs.declared.piece.Piece.{Piece}
+use Rattle.transcript.specs.declared.piece.Piece.TheVariants.{Answered}
+use Rattle.std.specs.Prelude.{false, ◌==◌}
 
 -- two data servers and two application servers; the jobs 0 and 2 run on the first, job 1 on the second
 abbrev pub two : Layout
@@ -102,3 +109,19 @@ ended line answer place = record { job = 0; line = line; answer = answer; place 
 -- these acts that follow a trail are what job 0 does for its commands, and these are their ends
 abbrev pub JobDoes : List Act → List CommandLine → List Act → List Ended → Type 0
 JobDoes front commands acts ends = DoesJob two 0 commands (group front 0 acts) ends
+
+-- what stands before a line: acts, lines, pieces; and no data server is down
+abbrev pub so_far : List Act → List ScriptLine → List Piece → SoFar
+so_far acts lines pieces = record { lines = lines; acts = acts; pieces = pieces; ends = []; down = λ _. false }
+
+-- the first data server is down
+abbrev pub when_down : SoFar
+when_down = record { lines = []; acts = met; pieces = []; ends = []; down = λ d. d == 0 }
+
+-- line 5 of a script adds these acts, pieces and ends
+abbrev pub Adds : SoFar → Todo → List Act → List Piece → List Ended → Type 0
+Adds s todo acts pieces ends = LineAdds two s (record { line = 5; todo = todo }) (record { acts = acts; pieces = pieces; ends = ends })
+
+-- an answer to job 0 at a line
+abbrev pub says : ℕ → Answer → Piece
+says line answer = Answered (record { job = 0; line = line; answer = answer })

@@ -7,3 +7,4 @@ pub mod LevelExamples
 pub mod EndExamples
 pub mod RefusalExamples
 pub mod JobExamples
+pub mod LineExamples

@@ -5,6 +5,7 @@ ghost use Rattle.fit_examples.specs.LevelExamples.{EmptyCommitExamples, EmptyRol
 ghost use Rattle.fit_examples.specs.EndExamples.{AwaitedCommitExamples, CommitExamples, RollbackExamples, SyncExamples};
 ghost use Rattle.fit_examples.specs.RefusalExamples.{PartExamples, RefusalExamples};
 ghost use Rattle.fit_examples.specs.JobExamples.{JobExamples};
+ghost use Rattle.fit_examples.specs.LineExamples.{ClockExamples, PieceExamples, RestartExamples};
 
 /// Examples of a set.
 pub fn set_examples()
@@ -104,4 +105,19 @@ pub fn refusal_examples()
 /// Examples of a job's commands.
 pub fn job_examples()
     ensures { JobExamples }
+{}
+
+/// Examples of ticks and deaths.
+pub fn clock_examples()
+    ensures { ClockExamples }
+{}
+
+/// Examples of restarts.
+pub fn restart_examples()
+    ensures { RestartExamples }
+{}
+
+/// Examples of what a line prints.
+pub fn piece_examples()
+    ensures { PieceExamples }
 {}
