@@ -1,5 +1,5 @@
 -- What a line adds comes to.
-use Rattle.std.proofs.Common.{◌≡◌, ◌⊎◌, inl, inr, ℕ, Bool, true, false, List, [], ◌∷◌, ◌++◌, Option, Some, None, refl, sym, subst}
+use Rattle.std.proofs.Common.{◌≡◌, inr, ℕ, Bool, true, false, List, [], ◌∷◌, ◌++◌, Option, refl, sym, subst}
 use Rattle.std.specs.Prelude.{◌==◌, slice_get, IfSome, length}
 use Rattle.std.specs.List.{flat_map}
 use Rattle.std.proofs.lemmas.Bool.{eqb-true}
@@ -32,7 +32,9 @@ no_pump n line left (other, e, may) wrong =
 
 -- answers for two lines differ
 pub other_line : (a b : AnswerLine) → a ∷ [] ≡ b ∷ [] → ¬ (a.line ≡ b.line) → ⊥
-other_line a b e wrong = wrong (subst (λ (c : AnswerLine). a.line ≡ c.line) (cc e) refl)
+other_line a b e wrong =
+    let same : a ≡ b = cc e in
+    wrong (subst (λ (c : AnswerLine). a.line ≡ c.line) same refl)
 
 -- where only job 0 has commands, what is so of it is so of each job
 pub accounted_all : (l : Layout) (s : SoFar) → ((j : ℕ) → (0 == j) ≡ false → commands_of j s.lines ≡ []) → IsAccounted l s 0 → (j : ℕ) → IsAccounted l s j

@@ -1,20 +1,13 @@
 -- Transactions with updates at both data servers.
-use Rattle.std.specs.Prelude.{ℕ, pos, List, [], ◌∷◌, ◌++◌, Some, None, true, false}
-use Rattle.plain_orders.specs.declared.act.Act.TheVariants.{Opened, Enter, Synced, Shut, Met, Crash, Issue, Read, Grant, Granted, GiveUp, Quit, Counted, NotWhole, Range, Committed, RolledBack, Reached, Level, Done, Refused, Tick, Lose, Died}
-use Rattle.plain_orders.specs.declared.item.Item.TheVariants.{Op as OpItem, Commit as CommitItem, Rollback as RollbackItem}
-use Rattle.plain_orders.specs.declared.op.Op.TheVariants.{Set as SetOp, Kill as KillOp, Add as AddOp}
-use Rattle.app_job.specs.declared.answer.Answer.TheVariants.{Queued, Value, Shape as ShapeAnswer, Next as NextAnswer, Counted as CountedAnswer, Granted as GrantedAnswer, Done as DoneAnswer, Committed as CommittedAnswer, RolledBack as RolledBackAnswer, Waiting, Refused as RefusedAnswer}
-use Rattle.app_job.specs.declared.refusal.Refusal.TheVariants.{Network as NetworkRefusal, RollbackOnly as RollbackOnlyRefusal, NotWhole as NotWholeRefusal, Range as RangeRefusal, NoTransaction as NoTransactionRefusal, TooDeep as TooDeepRefusal, LockTimeout as LockTimeoutRefusal}
-use Rattle.app_job.specs.declared.command.Command.TheVariants.{Set, Kill, Get, Shape, Next, Incr, Lock, Unlock, Start, Commit, Rollback, Sync}
-use Rattle.fit_examples.specs.Groups.{at_x, at_y, x_at_1, two, group, five, six, place, held_x, shared_x, held_y, past_with, past_at, met, Does, DoesHeld, DoesAs}
-use Rattle.plain_orders.specs.declared.entry.Entry.TheVariants.{Opened as OpenEntry, Update, Commit as CommitEntry, Rollback as RollbackEntry}
+use Rattle.std.specs.Prelude.{[], ◌∷◌, ◌++◌, true, false}
+use Rattle.plain_orders.specs.declared.act.Act.TheVariants.{Enter, Synced, Issue, Committed, RolledBack, Reached, Level, Done}
+use Rattle.plain_orders.specs.declared.item.Item.TheVariants.{Commit as CommitItem, Rollback as RollbackItem}
+use Rattle.plain_orders.specs.declared.op.Op.TheVariants.{Set as SetOp}
+use Rattle.app_job.specs.declared.answer.Answer.TheVariants.{Queued, Granted as GrantedAnswer, Done as DoneAnswer, Committed as CommittedAnswer, RolledBack as RolledBackAnswer}
+use Rattle.app_job.specs.declared.command.Command.TheVariants.{Commit, Rollback, Sync}
+use Rattle.fit_examples.specs.Groups.{at_x, five, place, held_x, met, Does, DoesHeld, DoesAs}
+use Rattle.plain_orders.specs.declared.entry.Entry.TheVariants.{Update, Commit as CommitEntry, Rollback as RollbackEntry}
 use Rattle.script_fits.specs.Locking.{no_past}
-use Rattle.plain_orders.specs.declared.mode.Mode.TheVariants.{Exclusive, Shared}
-use Rattle.plain_orders.specs.declared.causes.ShutCause.TheVariants.{Replaced}
-use Rattle.plain_orders.specs.declared.causes.Loss.TheVariants.{Reset as ByReset}
-use Rattle.plain_orders.specs.declared.refused.Refused.TheVariants.{NoTransaction, TooDeep, RollbackOnly, LockTimeout, Network}
-use Rattle.plain_orders.specs.declared.refused.ReasonName.TheVariants.{Reset, Expired, NoWay}
-use Rattle.plain_orders.specs.declared.refused.LinkName.TheVariants.{Recovery, Trouble, NotConnected}
 use Rattle.fit_examples.specs.Trails.{set_one, set_both, set_lost}
 
 -- a commit that nobody waits for

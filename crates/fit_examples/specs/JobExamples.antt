@@ -1,14 +1,11 @@
 -- A job's commands in their order.
-use Rattle.std.specs.Prelude.{ℕ, pos, List, [], ◌∷◌, ◌++◌, Some, None, true, false}
-use Rattle.plain_orders.specs.declared.act.Act.TheVariants.{Opened, Enter, Synced, Shut, Met, Crash, Issue, Read, Grant, Granted, GiveUp, Quit, Counted, NotWhole, Range, Committed, RolledBack, Reached, Level, Done, Refused, Tick, Lose, Died}
-use Rattle.plain_orders.specs.declared.item.Item.TheVariants.{Op as OpItem, Commit as CommitItem, Rollback as RollbackItem}
-use Rattle.plain_orders.specs.declared.op.Op.TheVariants.{Set as SetOp, Kill as KillOp, Add as AddOp}
-use Rattle.app_job.specs.declared.answer.Answer.TheVariants.{Queued, Value, Shape as ShapeAnswer, Next as NextAnswer, Counted as CountedAnswer, Granted as GrantedAnswer, Done as DoneAnswer, Committed as CommittedAnswer, RolledBack as RolledBackAnswer, Waiting, Refused as RefusedAnswer}
-use Rattle.app_job.specs.declared.refusal.Refusal.TheVariants.{Network as NetworkRefusal, RollbackOnly as RollbackOnlyRefusal, NotWhole as NotWholeRefusal, Range as RangeRefusal, NoTransaction as NoTransactionRefusal, TooDeep as TooDeepRefusal, LockTimeout as LockTimeoutRefusal}
-use Rattle.app_job.specs.declared.command.Command.TheVariants.{Set, Kill, Get, Shape, Next, Incr, Lock, Unlock, Start, Commit, Rollback, Sync}
-use Rattle.fit_examples.specs.Groups.{at_x, at_y, x_at_1, two, group, five, six, place, held_x, shared_x, held_y, past_with, past_at, met, at_line, ended, JobDoes, Does, DoesHeld, DoesAs}
-use Rattle.plain_orders.specs.declared.entry.Entry.TheVariants.{Opened as OpenEntry, Update, Commit as CommitEntry, Rollback as RollbackEntry}
-use Rattle.script_fits.specs.Locking.{no_past}
+use Rattle.std.specs.Prelude.{pos, List, [], ◌∷◌}
+use Rattle.plain_orders.specs.declared.act.Act.TheVariants.{Issue, Level, Done}
+use Rattle.plain_orders.specs.declared.item.Item.TheVariants.{Op as OpItem}
+use Rattle.plain_orders.specs.declared.op.Op.TheVariants.{Set as SetOp, Add as AddOp}
+use Rattle.app_job.specs.declared.answer.Answer.TheVariants.{Queued, Done as DoneAnswer}
+use Rattle.app_job.specs.declared.command.Command.TheVariants.{Set, Incr, Start}
+use Rattle.fit_examples.specs.Groups.{at_x, five, place, met, at_line, ended, JobDoes}
 use Rattle.script_fits.specs.JobLines.{Ended}
 
 -- a job's commands

@@ -1,5 +1,6 @@
 pub mod Groups
 pub mod Trails
+pub mod Scripts
 pub mod IssueExamples
 pub mod ReadExamples
 pub mod LockExamples
@@ -8,3 +9,4 @@ pub mod EndExamples
 pub mod RefusalExamples
 pub mod JobExamples
 pub mod LineExamples
+pub mod FitExamples

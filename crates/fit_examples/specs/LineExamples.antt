@@ -1,17 +1,14 @@
 -- What a line of a script adds.
-use Rattle.std.specs.Prelude.{ℕ, pos, List, [], ◌∷◌, ◌++◌, Some, None, true, false}
-use Rattle.plain_orders.specs.declared.act.Act.TheVariants.{Opened, Enter, Synced, Shut, Met, Crash, Issue, Read, Grant, Granted, GiveUp, Quit, Counted, NotWhole, Range, Committed, RolledBack, Reached, Level, Done, Refused, Tick, Lose, Died}
-use Rattle.plain_orders.specs.declared.item.Item.TheVariants.{Op as OpItem, Commit as CommitItem, Rollback as RollbackItem}
-use Rattle.plain_orders.specs.declared.op.Op.TheVariants.{Set as SetOp, Kill as KillOp, Add as AddOp}
-use Rattle.app_job.specs.declared.answer.Answer.TheVariants.{Queued, Value, Shape as ShapeAnswer, Next as NextAnswer, Counted as CountedAnswer, Granted as GrantedAnswer, Done as DoneAnswer, Committed as CommittedAnswer, RolledBack as RolledBackAnswer, Waiting, Refused as RefusedAnswer}
-use Rattle.app_job.specs.declared.refusal.Refusal.TheVariants.{Network as NetworkRefusal, RollbackOnly as RollbackOnlyRefusal, NotWhole as NotWholeRefusal, Range as RangeRefusal, NoTransaction as NoTransactionRefusal, TooDeep as TooDeepRefusal, LockTimeout as LockTimeoutRefusal}
-use Rattle.app_job.specs.declared.command.Command.TheVariants.{Set, Kill, Get, Shape, Next, Incr, Lock, Unlock, Start, Commit, Rollback, Sync}
-use Rattle.fit_examples.specs.Groups.{at_x, at_y, x_at_1, two, group, five, six, place, held_x, shared_x, held_y, past_with, past_at, met, so_far, when_down, says, ended, Adds, Does, DoesHeld, DoesAs}
-use Rattle.plain_orders.specs.declared.entry.Entry.TheVariants.{Opened as OpenEntry, Update, Commit as CommitEntry, Rollback as RollbackEntry}
-use Rattle.script_fits.specs.Locking.{no_past}
-use Rattle.plain_orders.specs.declared.mode.Mode.TheVariants.{Exclusive, Shared}
-use Rattle.job_script.specs.declared.todo.Todo.TheVariants.{Job, Hold, Flow, Up, Down, Save, Pump, Tick as TickLine, Break, Mend, Crash as CrashLine, Restart, Die, Await}
-use Rattle.transcript.specs.declared.piece.Piece.TheVariants.{Answered, Pumped, Restarted, Halted, Gone}
+use Rattle.std.specs.Prelude.{[], ◌∷◌, ◌++◌, Some, None}
+use Rattle.plain_orders.specs.declared.act.Act.TheVariants.{Opened, Enter, Synced, Crash, Issue, Tick, Died}
+use Rattle.plain_orders.specs.declared.item.Item.TheVariants.{Op as OpItem}
+use Rattle.plain_orders.specs.declared.op.Op.TheVariants.{Set as SetOp}
+use Rattle.app_job.specs.declared.answer.Answer.TheVariants.{Queued, Waiting}
+use Rattle.app_job.specs.declared.command.Command.TheVariants.{Set, Get}
+use Rattle.fit_examples.specs.Groups.{at_x, five, place, met, so_far, when_down, says, ended, Adds}
+use Rattle.plain_orders.specs.declared.entry.Entry.TheVariants.{Opened as OpenEntry}
+use Rattle.job_script.specs.declared.todo.Todo.TheVariants.{Job, Hold, Save, Pump, Tick as TickLine, Restart, Die}
+use Rattle.transcript.specs.declared.piece.Piece.TheVariants.{Pumped, Restarted, Halted, Gone}
 use Rattle.transcript.specs.declared.piece.Restarted.TheVariants.{Kept, DiskFault, NotAJournal, NotKept, NetFault, Running}
 use Rattle.app_job.specs.declared.why.Why.TheVariants.{State, Fetch, Grant as GrantWhy}
 use Rattle.std.specs.Prelude.{None, Some}

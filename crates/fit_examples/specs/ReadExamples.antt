@@ -1,13 +1,9 @@
 -- Commands that read a node.
-use Rattle.std.specs.Prelude.{ℕ, pos, List, [], ◌∷◌, ◌++◌, Some, None, true, false}
-use Rattle.plain_orders.specs.declared.act.Act.TheVariants.{Opened, Enter, Synced, Shut, Met, Crash, Issue, Read, Grant, Granted, GiveUp, Quit, Counted, NotWhole, Range, Committed, RolledBack, Reached, Level, Done, Refused, Tick, Lose, Died}
-use Rattle.plain_orders.specs.declared.item.Item.TheVariants.{Op as OpItem, Commit as CommitItem, Rollback as RollbackItem}
-use Rattle.plain_orders.specs.declared.op.Op.TheVariants.{Set as SetOp, Kill as KillOp, Add as AddOp}
-use Rattle.app_job.specs.declared.answer.Answer.TheVariants.{Queued, Value, Shape as ShapeAnswer, Next as NextAnswer, Counted as CountedAnswer, Granted as GrantedAnswer, Done as DoneAnswer, Committed as CommittedAnswer, RolledBack as RolledBackAnswer, Waiting, Refused as RefusedAnswer}
-use Rattle.app_job.specs.declared.refusal.Refusal.TheVariants.{Network as NetworkRefusal, RollbackOnly as RollbackOnlyRefusal, NotWhole as NotWholeRefusal, Range as RangeRefusal, NoTransaction as NoTransactionRefusal, TooDeep as TooDeepRefusal, LockTimeout as LockTimeoutRefusal}
-use Rattle.app_job.specs.declared.command.Command.TheVariants.{Set, Kill, Get, Shape, Next, Incr, Lock, Unlock, Start, Commit, Rollback, Sync}
-use Rattle.fit_examples.specs.Groups.{at_x, at_y, x_at_1, two, group, five, six, place, held_x, shared_x, held_y, past_with, past_at, met, Does, DoesHeld, DoesAs}
-use Rattle.plain_orders.specs.declared.entry.Entry.TheVariants.{Opened as OpenEntry, Update, Commit as CommitEntry, Rollback as RollbackEntry}
+use Rattle.std.specs.Prelude.{[], ◌∷◌, Some, None}
+use Rattle.plain_orders.specs.declared.act.Act.TheVariants.{Read}
+use Rattle.app_job.specs.declared.answer.Answer.TheVariants.{Value, Shape as ShapeAnswer, Next as NextAnswer, Done as DoneAnswer}
+use Rattle.app_job.specs.declared.command.Command.TheVariants.{Get, Shape, Next}
+use Rattle.fit_examples.specs.Groups.{at_x, at_y, five, held_x, met, Does, DoesHeld, DoesAs}
 use Rattle.script_fits.specs.Locking.{no_past}
 use Rattle.plain_orders.specs.declared.question.Question.TheVariants.{Get as GetQuestion, Shape as DataQuestion, Next as NextQuestion}
 use Rattle.plain_orders.specs.declared.via.Via.TheVariants.{Fetched, Cached}

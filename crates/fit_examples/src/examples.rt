@@ -6,6 +6,7 @@ ghost use Rattle.fit_examples.specs.EndExamples.{AwaitedCommitExamples, CommitEx
 ghost use Rattle.fit_examples.specs.RefusalExamples.{PartExamples, RefusalExamples};
 ghost use Rattle.fit_examples.specs.JobExamples.{JobExamples};
 ghost use Rattle.fit_examples.specs.LineExamples.{ClockExamples, PieceExamples, RestartExamples};
+ghost use Rattle.fit_examples.specs.FitExamples.{DeclaredExamples, FitExamples};
 
 /// Examples of a set.
 pub fn set_examples()
@@ -120,4 +121,14 @@ pub fn restart_examples()
 /// Examples of what a line prints.
 pub fn piece_examples()
     ensures { PieceExamples }
+{}
+
+/// Examples of what is declared.
+pub fn declared_examples()
+    ensures { DeclaredExamples }
+{}
+
+/// Examples of whole outputs.
+pub fn fit_examples()
+    ensures { FitExamples }
 {}
