@@ -58,7 +58,7 @@ pub puts_on : (l : Layout) (job line : ℕ) (item : Item) (Left : List Moment �
 puts_on l job line item Left ds past put left places puts more =
     subst (λ ms. PutsOn l job line item Left past.held_back ds ms places) (cc (puts.whole, append_assoc puts.issued (puts.given ++ puts.closing ∷ []) left, append_assoc puts.given (puts.closing ∷ []) left))
     (issued_on l job line item Left past.held_back ds puts.issued (puts.given ++ puts.closing ∷ left) places puts.items
-      (gives_on l job line Left past.held_back puts.given puts.closing left puts.unlocks puts.level more))
+    (gives_on l job line Left past.held_back puts.given puts.closing left puts.unlocks puts.level more))
 
 -- the end of a transaction alone is left
 abbrev pub LeavesDone : ℕ → ℕ → List Moment → Type 0
@@ -85,6 +85,8 @@ queued_on l job line item ds past ms answer (places, some, puts, a) =
 pub answered_on : (AreAnswered : List ℕ → List Act → List Place → Type 0) (l : Layout) (job line : ℕ) (item : Item) (ds : List ℕ) (past : Past) (ms : List Moment) (places : List Place)
     → EndsAnswered AreAnswered l job line item ds past ms places
     → (numbers : List Place) × PutsOn l job line item (LeavesAnswers AreAnswered ds places) past.held_back ds ms numbers
-answered_on AreAnswered l job line item ds past ms places (put, told, numbers, some, e, together, puts, are) =
-    (numbers, subst (λ x. PutsOn l job line item (LeavesAnswers AreAnswered ds places) past.held_back ds x numbers) (sym e)
-      (puts_on l job line item (LeavesAnswers AreAnswered ds places) ds past put told numbers puts (together, are)))
+answered_on AreAnswered l job line item ds past ms places (put, told, numbers, some, e, together, puts, are) = (
+  numbers,
+  subst (λ x. PutsOn l job line item (LeavesAnswers AreAnswered ds places) past.held_back ds x numbers) (sym e)
+      (puts_on l job line item (LeavesAnswers AreAnswered ds places) ds past put told numbers puts (together, are)),
+)

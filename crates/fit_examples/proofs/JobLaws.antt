@@ -39,14 +39,14 @@ no_first l job line command cs ms ends no_part fronts does = go does.done does.r
     go [] (r ∷ rest) its begun left lines whole (none, no_ends, same) (held, part) =
         let its_command : r ≡ first = cc lines in
         no_part held (
-          subst (λ x. Part l job line command no_past x held) (cc (whole, none))
-            (subst (λ (p : Past). Part l job line command p begun held) same
-              (subst (λ (x : CommandLine). Part l job x.line x.command left begun held) its_command part)))
+        subst (λ x. Part l job line command no_past x held) (cc (whole, none))
+        (subst (λ (p : Past). Part l job line command p begun held) same
+        (subst (λ (x : CommandLine). Part l job x.line x.command left begun held) its_command part)))
     go (d ∷ done) rest its begun left lines whole (own, more, others, answer, held, e, ended, is_done, after) last =
         let same : d ≡ first = cc lines in
         at_front (IsNoFirst l job first ends) ms own (more ++ begun) fronts (cc (whole, e, append_assoc own more begun)) answer held others
-          (subst (λ (x : CommandLine). IsDone l job x.line x.command no_past own answer held) same is_done)
-          (subst (λ (x : CommandLine). ends ≡ end_of job x.line answer own ∷ others) same ended)
+        (subst (λ (x : CommandLine). IsDone l job x.line x.command no_past own answer held) same is_done)
+        (subst (λ (x : CommandLine). ends ≡ end_of job x.line answer own ∷ others) same ended)
 
 -- a job without commands does nothing
 pub no_commands : (l : Layout) (job : ℕ) (m : Moment) (ms : List Moment) (ends : List Ended) → ¬ DoesJob l job [] (m ∷ ms) ends

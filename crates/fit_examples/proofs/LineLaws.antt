@@ -73,12 +73,15 @@ pumps_wait (Gone job line ∷ ps) = pumps_wait ps
 pub waits_are : (l : Layout) (s : SoFar) (line : ScriptLine) (added : Added) → LineAdds l s line added → AreWaits l s (with_line s line added) 0 (waits_in added.pieces)
 waits_are l s line added f =
     subst (λ ws. AreWaits l s (with_line s line added) 0 ws)
-      (sym (cc (
-        f.pieces,
-        flat_map-append wait_in (flat_map restart_in added.pieces) (flat_map gone_in added.pieces ++ (f.middle ++ (flat_map pump_in added.pieces ++ f.waiting))),
-        flat_map-append wait_in (flat_map gone_in added.pieces) (f.middle ++ (flat_map pump_in added.pieces ++ f.waiting)),
-        flat_map-append wait_in f.middle (flat_map pump_in added.pieces ++ f.waiting),
-        flat_map-append wait_in (flat_map pump_in added.pieces) f.waiting,
-        restarts_wait added.pieces, gone_wait added.pieces, pumps_wait added.pieces, f.no_wait,
-      )))
-      f.waits
+    (sym (cc (
+      f.pieces,
+      flat_map-append wait_in (flat_map restart_in added.pieces) (flat_map gone_in added.pieces ++ (f.middle ++ (flat_map pump_in added.pieces ++ f.waiting))),
+      flat_map-append wait_in (flat_map gone_in added.pieces) (f.middle ++ (flat_map pump_in added.pieces ++ f.waiting)),
+      flat_map-append wait_in f.middle (flat_map pump_in added.pieces ++ f.waiting),
+      flat_map-append wait_in (flat_map pump_in added.pieces) f.waiting,
+      restarts_wait added.pieces,
+      gone_wait added.pieces,
+      pumps_wait added.pieces,
+      f.no_wait,
+    )))
+    f.waits

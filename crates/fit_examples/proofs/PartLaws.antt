@@ -60,15 +60,14 @@ awaits_on : (l : Layout) (job line : ℕ) (item_of : ℕ → Item) (past : Past)
     → (servers ≢ []) × ((places : List Place) × PutsOn l job line (item_of (txn_at m.before job)) LeavesNothing past.held_back servers (m ∷ ms) places)
 awaits_on l job line item_of past m ms held servers same (p, places, (n, rest, e, b), low, h, some, puts) =
     let q : p ≡ m.before = cc (b, first_is m n ms rest e) in
-    let now : updated l p job ≡ servers = subst (λ (x : Plain). updated l x job ≡ servers) (sym q) same in
-    (
+    let now : updated l p job ≡ servers = subst (λ (x : Plain). updated l x job ≡ servers) (sym q) same in (
       (λ none. some (cc (now, none))),
       (
         places,
         subst (λ x. PutsOn l job line (item_of (txn_at m.before job)) LeavesNothing past.held_back servers x places) (append-nil (m ∷ ms))
-          (subst (λ (x : Plain). PutsOn l job line (item_of (txn_at x job)) LeavesNothing past.held_back servers ((m ∷ ms) ++ []) places) q
+            (subst (λ (x : Plain). PutsOn l job line (item_of (txn_at x job)) LeavesNothing past.held_back servers ((m ∷ ms) ++ []) places) q
             (subst (λ s. PutsOn l job line (item_of (txn_at p job)) LeavesNothing past.held_back s ((m ∷ ms) ++ []) places) now
-              (puts_on l job line (item_of (txn_at p job)) LeavesNothing (updated l p job) past (m ∷ ms) [] places puts refl))),
+            (puts_on l job line (item_of (txn_at p job)) LeavesNothing (updated l p job) past (m ∷ ms) [] places puts refl))),
       ),
     )
 

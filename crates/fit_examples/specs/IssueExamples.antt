@@ -10,9 +10,10 @@ use Rattle.fit_examples.specs.Groups.{at_x, at_y, five, six, place, held_x, past
 use Rattle.plain_orders.specs.declared.entry.Entry.TheVariants.{Update}
 use Rattle.script_fits.specs.Locking.{no_past}
 
--- a set
-abbrev pub SetExamples : Type 0
-SetExamples =
+-- a set, and of a kill
+abbrev pub ChangeExamples : Type 0
+ChangeExamples =
+    -- a set
     Does met (Set at_x five) (Issue 0 5 0 1 (OpItem (SetOp at_x.key five)) ∷ []) (Queued (place 0 1 ∷ []))
     -- another line
     × (¬ Does met (Set at_x five) (Issue 0 6 0 1 (OpItem (SetOp at_x.key five)) ∷ []) (Queued (place 0 1 ∷ [])))
@@ -40,11 +41,8 @@ SetExamples =
     × (¬ DoesHeld met (no_past) (Set at_x five) (Issue 0 5 0 1 (OpItem (SetOp at_x.key five)) ∷ []) (Queued (place 0 1 ∷ [])) (held_x ∷ []))
     -- an unlock held back before is lost
     × (¬ DoesHeld met (past_with (held_x ∷ [])) (Set at_x five) (Issue 0 5 0 1 (OpItem (SetOp at_x.key five)) ∷ []) (Queued (place 0 1 ∷ [])) ([]))
-
--- a kill
-abbrev pub KillExamples : Type 0
-KillExamples =
-    Does met (Kill at_x) (Issue 0 5 0 1 (OpItem (KillOp at_x.key)) ∷ []) (Queued (place 0 1 ∷ []))
+    -- a kill
+    × Does met (Kill at_x) (Issue 0 5 0 1 (OpItem (KillOp at_x.key)) ∷ []) (Queued (place 0 1 ∷ []))
     -- another line
     × (¬ Does met (Kill at_x) (Issue 0 6 0 1 (OpItem (KillOp at_x.key)) ∷ []) (Queued (place 0 1 ∷ [])))
     -- another job's acts

@@ -38,9 +38,10 @@ StartExamples =
     -- an unlock held back
     × (¬ DoesHeld met (no_past) (Start) (Level 0 5 1 ∷ Done 0 5 ∷ []) (DoneAnswer) (held_x ∷ []))
 
--- a commit without updates
-abbrev pub EmptyCommitExamples : Type 0
-EmptyCommitExamples =
+-- a commit and of a rollback without updates
+abbrev pub EmptyEndExamples : Type 0
+EmptyEndExamples =
+    -- a commit
     Does within (Commit false) (Level 0 5 0 ∷ Done 0 5 ∷ []) (DoneAnswer)
     -- it waits for nothing
     × Does within (Commit true) (Level 0 5 0 ∷ Done 0 5 ∷ []) (DoneAnswer)
@@ -76,11 +77,8 @@ EmptyCommitExamples =
     × DoesHeld within_more (past_with (held_x ∷ [])) (Commit false) (Level 0 5 1 ∷ Done 0 5 ∷ []) (DoneAnswer) (held_x ∷ [])
     -- within another one what is held back is lost
     × (¬ DoesHeld within_more (past_with (held_x ∷ [])) (Commit false) (Level 0 5 1 ∷ Done 0 5 ∷ []) (DoneAnswer) ([]))
-
--- a rollback without updates
-abbrev pub EmptyRollbackExamples : Type 0
-EmptyRollbackExamples =
-    Does within (Rollback) (Level 0 5 0 ∷ Done 0 5 ∷ []) (DoneAnswer)
+    -- a rollback
+    × Does within (Rollback) (Level 0 5 0 ∷ Done 0 5 ∷ []) (DoneAnswer)
     -- it ends all transactions
     × Does within_more (Rollback) (Level 0 5 0 ∷ Done 0 5 ∷ []) (DoneAnswer)
     -- there is no transaction

@@ -10,3 +10,4 @@ pub mod RefusalExamples
 pub mod JobExamples
 pub mod LineExamples
 pub mod FitExamples
+pub mod StepExamples

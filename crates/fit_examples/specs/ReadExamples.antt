@@ -9,9 +9,10 @@ use Rattle.plain_orders.specs.declared.question.Question.TheVariants.{Get as Get
 use Rattle.plain_orders.specs.declared.via.Via.TheVariants.{Fetched, Cached}
 use Rattle.subscript_keys.specs.declared.sub.Sub.TheVariants.{Text}
 
--- a get
-abbrev pub GetExamples : Type 0
-GetExamples =
+-- a get, of a data and of a next
+abbrev pub ReadExamples : Type 0
+ReadExamples =
+    -- a get
     Does met (Get at_x) (Read 0 5 0 2 Fetched (GetQuestion at_x.key None) ∷ []) (Value None 2 Fetched)
     -- another line
     × (¬ Does met (Get at_x) (Read 0 6 0 2 Fetched (GetQuestion at_x.key None) ∷ []) (Value None 2 Fetched))
@@ -37,11 +38,8 @@ GetExamples =
     × (¬ Does met (Get at_x) ([]) (Value None 2 Fetched))
     -- an unlock held back
     × (¬ DoesHeld met (no_past) (Get at_x) (Read 0 5 0 2 Fetched (GetQuestion at_x.key None) ∷ []) (Value None 2 Fetched) (held_x ∷ []))
-
--- a data
-abbrev pub DataExamples : Type 0
-DataExamples =
-    Does met (Shape at_x) (Read 0 5 0 2 Fetched (DataQuestion at_x.key 0) ∷ []) (ShapeAnswer 0 2 Fetched)
+    -- a data
+    × Does met (Shape at_x) (Read 0 5 0 2 Fetched (DataQuestion at_x.key 0) ∷ []) (ShapeAnswer 0 2 Fetched)
     -- another line
     × (¬ Does met (Shape at_x) (Read 0 6 0 2 Fetched (DataQuestion at_x.key 0) ∷ []) (ShapeAnswer 0 2 Fetched))
     -- another job's acts
@@ -66,11 +64,8 @@ DataExamples =
     × (¬ Does met (Shape at_x) ([]) (ShapeAnswer 0 2 Fetched))
     -- an unlock held back
     × (¬ DoesHeld met (no_past) (Shape at_x) (Read 0 5 0 2 Fetched (DataQuestion at_x.key 0) ∷ []) (ShapeAnswer 0 2 Fetched) (held_x ∷ []))
-
--- a next
-abbrev pub NextExamples : Type 0
-NextExamples =
-    Does met (Next at_x (Some (Text []))) (Read 0 5 0 2 Fetched (NextQuestion at_x.key (Some (Text [])) None) ∷ []) (NextAnswer None 2 Fetched)
+    -- a next
+    × Does met (Next at_x (Some (Text []))) (Read 0 5 0 2 Fetched (NextQuestion at_x.key (Some (Text [])) None) ∷ []) (NextAnswer None 2 Fetched)
     -- another line
     × (¬ Does met (Next at_x (Some (Text []))) (Read 0 6 0 2 Fetched (NextQuestion at_x.key (Some (Text [])) None) ∷ []) (NextAnswer None 2 Fetched))
     -- another job's acts

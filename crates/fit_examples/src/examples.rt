@@ -1,21 +1,17 @@
-ghost use Rattle.fit_examples.specs.IssueExamples.{IncrementExamples, KillExamples, SetExamples};
-ghost use Rattle.fit_examples.specs.ReadExamples.{DataExamples, GetExamples, NextExamples};
+ghost use Rattle.fit_examples.specs.IssueExamples.{ChangeExamples, IncrementExamples};
+ghost use Rattle.fit_examples.specs.ReadExamples.{ReadExamples};
 ghost use Rattle.fit_examples.specs.LockExamples.{LockEndExamples, LockExamples, UnlockExamples};
-ghost use Rattle.fit_examples.specs.LevelExamples.{EmptyCommitExamples, EmptyRollbackExamples, HeldBackExamples, StartExamples};
+ghost use Rattle.fit_examples.specs.LevelExamples.{EmptyEndExamples, HeldBackExamples, StartExamples};
 ghost use Rattle.fit_examples.specs.EndExamples.{AwaitedCommitExamples, CommitExamples, RollbackExamples, SyncExamples};
 ghost use Rattle.fit_examples.specs.RefusalExamples.{PartExamples, RefusalExamples};
 ghost use Rattle.fit_examples.specs.JobExamples.{JobExamples};
 ghost use Rattle.fit_examples.specs.LineExamples.{ClockExamples, PieceExamples, RestartExamples};
 ghost use Rattle.fit_examples.specs.FitExamples.{DeclaredExamples, FitExamples};
+ghost use Rattle.fit_examples.specs.StepExamples.{StepExamples};
 
-/// Examples of a set.
-pub fn set_examples()
-    ensures { SetExamples }
-{}
-
-/// Examples of a kill.
-pub fn kill_examples()
-    ensures { KillExamples }
+/// Examples of a set, and of a kill.
+pub fn change_examples()
+    ensures { ChangeExamples }
 {}
 
 /// Examples of an increment.
@@ -23,19 +19,9 @@ pub fn increment_examples()
     ensures { IncrementExamples }
 {}
 
-/// Examples of a get.
-pub fn get_examples()
-    ensures { GetExamples }
-{}
-
-/// Examples of a data.
-pub fn data_examples()
-    ensures { DataExamples }
-{}
-
-/// Examples of a next.
-pub fn next_examples()
-    ensures { NextExamples }
+/// Examples of a get, of a data and of a next.
+pub fn read_examples()
+    ensures { ReadExamples }
 {}
 
 /// Examples of a lock that is granted.
@@ -58,14 +44,9 @@ pub fn start_examples()
     ensures { StartExamples }
 {}
 
-/// Examples of a commit without updates.
-pub fn empty_commit_examples()
-    ensures { EmptyCommitExamples }
-{}
-
-/// Examples of a rollback without updates.
-pub fn empty_rollback_examples()
-    ensures { EmptyRollbackExamples }
+/// Examples of a commit and of a rollback without updates.
+pub fn empty_end_examples()
+    ensures { EmptyEndExamples }
 {}
 
 /// Examples of an unlock that is given back at a commit.
@@ -131,4 +112,9 @@ pub fn declared_examples()
 /// Examples of whole outputs.
 pub fn fit_examples()
     ensures { FitExamples }
+{}
+
+/// Examples of a job that has to roll back first, and of acts of one step.
+pub fn step_examples()
+    ensures { StepExamples }
 {}
