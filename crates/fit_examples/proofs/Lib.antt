@@ -4,3 +4,4 @@ pub mod EndLaws
 pub mod PartLaws
 pub mod JobLaws
 pub mod LineLaws
+pub mod Keys

@@ -1,6 +1,7 @@
 pub mod Groups
 pub mod Trails
 pub mod Scripts
+pub mod TrailExamples
 pub mod IssueExamples
 pub mod ReadExamples
 pub mod LockExamples

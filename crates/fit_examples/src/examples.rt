@@ -1,3 +1,4 @@
+ghost use Rattle.fit_examples.specs.TrailExamples.{TrailExamples};
 ghost use Rattle.fit_examples.specs.IssueExamples.{ChangeExamples, IncrementExamples};
 ghost use Rattle.fit_examples.specs.ReadExamples.{ReadExamples};
 ghost use Rattle.fit_examples.specs.LockExamples.{LockEndExamples, LockExamples, UnlockExamples};
@@ -8,6 +9,11 @@ ghost use Rattle.fit_examples.specs.JobExamples.{JobExamples};
 ghost use Rattle.fit_examples.specs.LineExamples.{ClockExamples, PieceExamples, RestartExamples};
 ghost use Rattle.fit_examples.specs.FitExamples.{DeclaredExamples, FitExamples};
 ghost use Rattle.fit_examples.specs.StepExamples.{StepExamples};
+
+/// Examples of trails: those that the others begin with are runs.
+pub fn trail_examples()
+    ensures { TrailExamples }
+{}
 
 /// Examples of a set, and of a kill.
 pub fn change_examples()
