@@ -1,7 +1,6 @@
 -- What some more acts add to a trail.
-use Rattle.std.proofs.Common.{◌≡◌, ℕ, ◌+◌, ◌<◌, false, List, [], ◌∷◌, ◌++◌, length, None, Some, refl, sym, ap, ◌∙◌, append_assoc, append-nil, subst, arith}
+use Rattle.std.proofs.Common.{◌≡◌, ℕ, ◌<◌, false, List, [], ◌∷◌, ◌++◌, length, refl, sym, ap, ◌∙◌, append_assoc, subst, arith}
 use Rattle.std.specs.List.{AllByRecursion}
-use Rattle.subscript_keys.specs.Key.{IsKey}
 use Rattle.plain_orders.specs.declared.act.Act.{Act}
 use Rattle.plain_orders.specs.declared.act.Act.TheVariants.{Issue, Read, Enter, Synced, Met}
 use Rattle.plain_orders.specs.declared.entry.Entry.TheVariants.{Opened as OpenedEntry, Update}
@@ -18,7 +17,7 @@ use Rattle.plain_runs.specs.Plain.{Plain}
 use Rattle.plain_runs.specs.Run.{state_after}
 use Rattle.plain_runs.specs.Step.{after}
 use Rattle.transcript.specs.ActText.{CanPrintOp, CanPrintQuestion}
-use Rattle.cluster_call.specs.Running.{AddsAct, AddsServed, HasJob, IsAnswered, IsMade, IsQuiet, IsServed, SESSION}
+use Rattle.cluster_call.specs.Running.{AddsAct, AddsServed, HasJob, IsAnswered, IsMade, IsServed, SESSION}
 
 -- all of two lists
 pub all_both : {X : Type 0} (P : X → Type 0) (xs ys : List X) → AllByRecursion P xs → AllByRecursion P ys → AllByRecursion P (xs ++ ys)
@@ -39,7 +38,7 @@ pub made_issue : (l : Layout) (line w : ℕ) (op : Op) → HasJob l → OpMay 0 
 made_issue l line w op job may = record {
   quiet = record { declared = (has_job l job, job.server); opened = refl; failed = refl; clock = refl; deaths = refl; crashes = refl; whole = λ c. refl; printed = op_can op may };
   job = refl;
-  line = refl;
+  its_line = refl;
 }
 
 question_can : (m : Map) (question : Question) → IsAnswered m question → CanPrintQuestion question
@@ -52,7 +51,7 @@ pub made_read : (l : Layout) (line at : ℕ) (via : Via) (m : Map) (question : Q
 made_read l line at via m question job is = record {
   quiet = record { declared = (has_job l job, job.server); opened = refl; failed = refl; clock = refl; deaths = refl; crashes = refl; whole = λ c. refl; printed = question_can m question is };
   job = refl;
-  line = refl;
+  its_line = refl;
 }
 
 -- the update enters

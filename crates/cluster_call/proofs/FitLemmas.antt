@@ -1,5 +1,5 @@
 -- A script that fits its output.
-use Rattle.std.proofs.Common.{◌≡◌, ℕ, zero, suc, add-one, ◌+◌, ◌<◌, ◌≤◌, Bool, true, false, ◌==◌, if◌then◌else◌, List, [], ◌∷◌, ◌++◌, length, take, All, Option, None, Some, map, refl, sym, ap, ◌∙◌, subst, append-nil, append_assoc, inl, inr, arith, get_or, length-append}
+use Rattle.std.proofs.Common.{◌≡◌, ◌≢◌, ℕ, zero, suc, add-one, ◌+◌, ◌<◌, ◌≤◌, Bool, true, false, ◌==◌, if◌then◌else◌, List, [], ◌∷◌, ◌++◌, length, take, All, None, map, refl, sym, ap, ◌∙◌, subst, append-nil, append_assoc, inl, inr, arith, get_or, length-append}
 use Rattle.std.specs.List.{flat_map, filter, range_with_len, AllByRecursion}
 use Rattle.std.specs.Prelude.{Any, IfSome, slice_get, slice_index_or}
 use Rattle.std.proofs.lemmas.Bool.{eqb-true}
@@ -8,9 +8,9 @@ use Rattle.std.proofs.lemmas.List.Elements.{filter-append, recursion_from_All}
 use Rattle.std.proofs.lemmas.List.{map-append}
 use Rattle.std.proofs.lemmas.Option.{slice_get_past}
 use Rattle.plain_orders.specs.declared.act.Act.{Act}
-use Rattle.plain_orders.specs.declared.act.Act.TheVariants.{Opened, Issue, Read}
+use Rattle.plain_orders.specs.declared.act.Act.TheVariants.{Opened}
 use Rattle.plain_orders.specs.declared.layout.Layout.{Layout}
-use Rattle.plain_runs.specs.Plain.{Plain, app_of, start}
+use Rattle.plain_runs.specs.Plain.{start}
 use Rattle.plain_runs.specs.Run.{after_all, state_after}
 use Rattle.app_job.specs.declared.answer.Answer.{Answer}
 use Rattle.app_job.specs.declared.command.Command.{Command}
@@ -28,7 +28,7 @@ use Rattle.transcript.specs.declared.piece.Piece.TheVariants.{Answered, Gone}
 use Rattle.script_fits.specs.declared.output.Output.{Output}
 use Rattle.script_fits.specs.Moments.{Moment, moments, moments_from, moments_of, is_job, job_of}
 use Rattle.script_fits.specs.Locking.{Past, no_past}
-use Rattle.script_fits.specs.Commands.{IsDone, Whole}
+use Rattle.script_fits.specs.Commands.{Whole}
 use Rattle.script_fits.specs.JobLines.{CommandLine, Ended, AreDone, command_of, commands_of, ended_of, end_of, past_after}
 use Rattle.script_fits.specs.Pieces.{answers_in, answer_in, has_wait, if_waiting, unless_waiting, why_of}
 use Rattle.script_fits.specs.Naming.{IsDeclared, opened_in}
@@ -37,7 +37,8 @@ use Rattle.script_fits.specs.Lines.{LineAdds, LinesAdd, answer_line, tick_in, ti
 use Rattle.script_fits.specs.Breaks.{AreApart, Causes, LiesIn, no_causes, causes_after, range_of, with_causes}
 use Rattle.script_fits.specs.Fits.{AreRising, Fits, IsOpening}
 use Rattle.plain_runs.proofs.RunLemmas.{after_all-append}
-use Rattle.cluster_call.specs.Running.{AllCanPrint, AddsAct, CanRun, DidCommand, DidTodo, HasJob, IsMade, IsQuiet, IsServed, Makes, TodoRuns, found_of, own_line, pieces_of}
+use Rattle.cluster_call.specs.Found.{found_of}
+use Rattle.cluster_call.specs.Running.{AllCanPrint, AddsAct, CanRun, DidCommand, DidTodo, HasJob, IsMade, IsQuiet, IsServed, Makes, TodoRuns, own_line, pieces_of}
 use Rattle.cluster_call.proofs.AddLemmas.{all_both}
 use Rattle.cluster_call.proofs.WalkLemmas.{walk, LinesAdd-more, walk-more, causes-more, whole_acts, none_of, all_so, moments-more, own_moment, own_moments, if_own, AreDone-more, AreDone-ends, AreRising-more}
 
@@ -125,10 +126,7 @@ answer_can line (Set at value) act answer makes can = subst CanPrintAnswer (sym 
 answer_can line (Kill at) act answer makes can = subst CanPrintAnswer (sym makes.2) tt
 answer_can line (Get at) act answer makes can = subst CanPrintAnswer (sym makes.4) tt
 answer_can line (Shape at) act answer makes can = subst CanPrintAnswer (sym makes.4) tt
-answer_can line (Next parent sub) act answer makes can = subst CanPrintAnswer (sym makes.4) (subst CanPrintAct (head makes.3) can).2
-  where
-    head : {X : Type 0} {x y : X} {xs ys : List X} → x ∷ xs ≡ y ∷ ys → x ≡ y
-    head refl = refl
+answer_can line (Next parent sub) act answer makes can = subst CanPrintAnswer (sym makes.4) (subst CanPrintAct (ap (λ acts. get_or acts 0 act) makes.3) can).2
 answer_can line _ act answer makes can = absurd makes
 
 -- all acts of a line are quiet
@@ -141,7 +139,7 @@ served_no_later : (l : Layout) (line : ℕ) (a : Act) → IsServed l a → IsNoL
 served_no_later l line a s = subst (λ o. IfSome o (λ k. k ≤ line)) (sym s.line) tt
 
 made_no_later : (l : Layout) (line : ℕ) (a : Act) → IsMade l line a → IsNoLater line a
-made_no_later l line a s = subst (λ o. IfSome o (λ k. k ≤ line)) (sym s.line) (omega arith)
+made_no_later l line a s = subst (λ o. IfSome o (λ k. k ≤ line)) (sym s.its_line) (omega arith)
 
 -- no act of a line is for a later one
 line_no_later : (l : Layout) (line : ℕ) (old new : List Act) (act : Act) → (d : AddsAct l line old new act) → AllByRecursion (IsNoLater line) (d.before ++ act ∷ d.after)
@@ -150,11 +148,11 @@ line_no_later l line old new act d =
     (made_no_later l line act d.its, all_so (IsServed l) (IsNoLater line) d.after (served_no_later l line) d.served_after)
 
 -- the only moment of the job at a line
-line_moment : (l : Layout) (line : ℕ) (old new : List Act) (act : Act) → AddsAct l line old new act → Moment
+abbrev line_moment : (l : Layout) (line : ℕ) (old new : List Act) (act : Act) → AddsAct l line old new act → Moment
 line_moment l line old new act d = own_moment l (0 + length old) (after_all l start old) d.before act
 
 -- what a command's line adds
-line_added : (l : Layout) (line : ℕ) (old new : List Act) (act : Act) (answer : Answer) → AddsAct l line old new act → Added
+abbrev line_added : (l : Layout) (line : ℕ) (old new : List Act) (act : Act) (answer : Answer) → AddsAct l line old new act → Added
 line_added l line old new act answer d = record {
   acts = d.before ++ act ∷ d.after;
   pieces = Answered (own_line line answer) ∷ [];
@@ -349,7 +347,7 @@ job_line l opening xs x command old new pieces answer r todo job alive did =
           (below_more (length old) (length new) r.ends (omega (arith, ap length d.whole, length-append old y.acts)) r.below)
           (omega (arith, ap length d.whole, length-append old y.acts, length-append d.before (did.act ∷ d.after)), tt);
       answers =
-          flat_map-append answer_in pieces y.pieces ∙ ap (λ as. as ++ answers_in y.pieces) r.answers ∙ ap (λ as. map answer_line r.ends ++ as) adds.answers
+          flat_map-append answer_in pieces y.pieces ∙ ap (λ xs. xs ++ answers_in y.pieces) r.answers ∙ ap (λ xs. map answer_line r.ends ++ xs) adds.answers
           ∙ sym (map-append answer_line r.ends (e ∷ []));
       jobs = jobs;
     }
@@ -464,6 +462,33 @@ none_run l done (x ∷ lines) none runs r = subst (λ ls. IsRunTo l [] ls [] [])
     go (Job job command) e may = absurd (omega (arith, none, may.0.server))
     go (Await job) e may = still_line l [] done x job [] [] r e
     go _ e may = absurd may
+
+-- one data server at most begins once
+once : (n : ℕ) → n ≤ 1 → AllByRecursion (λ d. length (filter (λ o. o == d) (range_with_len 0 n)) ≡ 1) (range_with_len 0 n)
+once zero few = tt
+once (suc zero) few = (refl, tt)
+once (suc (suc n)) few = absurd (omega (arith, few))
+
+-- it is the first
+first_of_one : (n : ℕ) → n ≤ 1 → n ≢ 0 → 0 ∷ [] ≡ range_with_len 0 n
+first_of_one zero few some = absurd (some refl)
+first_of_one (suc zero) few some = refl
+first_of_one (suc (suc n)) few some = absurd (omega (arith, few))
+
+-- a script without a data server
+pub fits_none : (script : Script) (out : Output) → script.layout.servers ≡ 0 → CanRun script → out.trail ≡ [] → out.pieces.items ≡ [] → Fits script [] out
+fits_none script out none runs t p =
+    fits_all script [] out [] [] (sym (ap (range_with_len 0) none)) tt (once script.layout.servers runs.few)
+    (none_run script.layout [] script.lines none (recursion_from_All (λ (x : ScriptLine). TodoRuns script.layout x.todo) script.lines runs.lines) (run_none script.layout [] tt tt refl (λ j. refl))) t p
+
+-- a script with one
+pub fits_one : (script : Script) (out : Output) (acts : List Act) (pieces : List Piece) → script.layout.servers ≢ 0 → CanRun script → IsRunTo script.layout (Opened 0 [] ∷ []) script.lines acts pieces → out.trail ≡ acts → out.pieces.items ≡ pieces → Fits script [] out
+fits_one script out acts pieces some runs r t p =
+    fits_all script (Opened 0 [] ∷ []) out acts pieces (first_of_one script.layout.servers runs.few some) (refl, tt) (once script.layout.servers runs.few) r t p
+
+-- the opening of a script with one
+pub run_opened : (l : Layout) → l.servers ≢ 0 → IsRunTo l (Opened 0 [] ∷ []) [] (Opened 0 [] ∷ []) []
+run_opened l some = run_none l (Opened 0 [] ∷ []) (omega (arith, some), tt) (tt, tt) refl (λ j. refl)
 
 -- each line can be run
 pub one_runs : (l : Layout) (lines : List ScriptLine) (i : ℕ) (line : ScriptLine) → i < length lines → line ≡ get_or lines i line → All (λ (x : ScriptLine). TodoRuns l x.todo) lines → TodoRuns l line.todo

@@ -1,7 +1,6 @@
 -- Lists of a run that grow by one line: what the lines added, the moments of a job, and its commands that were done.
-use Rattle.std.proofs.Common.{◌≡◌, ℕ, ◌+◌, ◌<◌, ◌≤◌, Bool, true, false, ◌==◌, if◌then◌else◌, List, [], ◌∷◌, ◌++◌, length, Option, None, Some, refl, sym, ap, ◌∙◌, append_assoc, append-nil, subst, arith, length-append}
-use Rattle.std.specs.List.{filter, flat_map, AllByRecursion}
-use Rattle.std.proofs.lemmas.Grind.{flat_map-append}
+use Rattle.std.proofs.Common.{◌≡◌, ℕ, ◌+◌, ◌<◌, ◌≤◌, ◌==◌, if◌then◌else◌, List, [], ◌∷◌, ◌++◌, length, refl, sym, ap, ◌∙◌, append_assoc, append-nil, subst, arith}
+use Rattle.std.specs.List.{flat_map, AllByRecursion}
 use Rattle.std.proofs.lemmas.List.Elements.{filter-append}
 use Rattle.plain_orders.specs.declared.act.Act.{Act}
 use Rattle.plain_orders.specs.declared.layout.Layout.{Layout}
@@ -21,7 +20,7 @@ use Rattle.script_fits.specs.Fits.{AreRising}
 use Rattle.cluster_call.specs.Running.{IsMade, IsQuiet, IsServed}
 
 -- what stands after some lines
-pub walk : SoFar → List ScriptLine → List Added → SoFar
+abbrev pub walk : SoFar → List ScriptLine → List Added → SoFar
 walk s [] added = s
 walk s (x ∷ xs) [] = s
 walk s (x ∷ xs) (a ∷ added) = walk (with_line s x a) xs added
@@ -76,7 +75,7 @@ served_moments l j k p (a ∷ acts) all =
     ∙ served_moments l j (k + 1) (after l p a) acts all.1
 
 -- the moment of an act of the job, after some acts that no job makes
-pub own_moment : Layout → ℕ → Plain → List Act → Act → Moment
+abbrev pub own_moment : Layout → ℕ → Plain → List Act → Act → Moment
 own_moment l k p before act = record { place = k + length before; before = after_all l p before; act = act }
 
 -- this moment for the only job, none for another
@@ -128,7 +127,7 @@ AreDone-more l job past (d ∷ cs) ms ends left c its answer held (first, rest, 
 pub AreDone-ends : (l : Layout) (job : ℕ) (past : Past) (cs : List CommandLine) (ms : List Moment) (ends : List Ended) (left : Past) → AreDone l job past cs ms ends left → length ends ≡ length cs
 AreDone-ends l job past [] ms ends left done = ap length done.1
 AreDone-ends l job past (c ∷ cs) ms ends left (its, rest, others, answer, held, whole, told, done, more) =
-    ap length told ∙ ap (λ n. n + 1) (AreDone-ends l job (past_after past its held) cs rest others left more)
+    omega (arith, ap length told, AreDone-ends l job (past_after past its held) cs rest others left more)
 
 -- a place after all others
 pub AreRising-more : (k n : ℕ) (ends : List Ended) (e : Ended) → k ≤ n → n ≤ e.place → AllByRecursion (λ (x : Ended). x.place < n) ends → AreRising k ends → AreRising k (ends ++ e ∷ [])

@@ -4,3 +4,4 @@ pub mod Outside
 pub mod Reading
 pub mod Running
 pub mod StatusCauses
+pub mod Found

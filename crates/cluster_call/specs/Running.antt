@@ -1,8 +1,8 @@
 -- What a run of a script goes by.
-use Rattle.std.specs.Prelude.{◌≡◌, ℕ, ◌<◌, ◌≤◌, Bool, true, false, List, [], ◌∷◌, ◌++◌, length, Option, Some, None, IfSome, All, map}
-use Rattle.std.specs.List.{flat_map, AllByRecursion}
+use Rattle.std.specs.Prelude.{◌≡◌, ℕ, ◌<◌, ◌≤◌, Bool, true, false, List, [], ◌∷◌, ◌++◌, length, Some, None, IfSome, All, map}
+use Rattle.std.specs.List.{AllByRecursion}
 use Rattle.plain_orders.specs.declared.act.Act.{Act}
-use Rattle.plain_orders.specs.declared.act.Act.TheVariants.{Opened, Enter, Synced, Shut, Release, Met, Told, Back, Crash, Issue, Read, Grant, Granted, GiveUp, Quit, Free, Counted, NotWhole, Range, Committed, RolledBack, Reached, Level, Done, Refused, Broke, Mended, Tick, Lose, Died}
+use Rattle.plain_orders.specs.declared.act.Act.TheVariants.{Opened}
 use Rattle.plain_orders.specs.declared.entry.Entry.{Entry}
 use Rattle.plain_orders.specs.declared.entry.Entry.TheVariants.{Epoch}
 use Rattle.plain_orders.specs.declared.item.Item.TheVariants.{Op as OpItem}
@@ -154,7 +154,7 @@ pub record IsServed (l : Layout) (a : Act) : Type 0 where
 pub record IsMade (l : Layout) (line : ℕ) (a : Act) : Type 0 where
   pub quiet : IsQuiet l a
   pub job : job_of a ≡ Some 0
-  pub line : line_of a ≡ Some line
+  pub its_line : line_of a ≡ Some line
 
 -- some more acts that no job makes
 abbrev pub AddsServed : Layout → List Act → List Act → Type 0
@@ -204,8 +204,3 @@ abbrev pub DidTodo : Layout → ℕ → Todo → List Act → List Act → List 
 DidTodo l line (Job job command) old new answers =
     (answer : Answer) × DidCommand l line command old new answer × (answers ≡ own_line line answer ∷ [])
 DidTodo l line todo old new answers = (new ≡ old) × (answers ≡ [])
-
--- the entries that a data server found as it opened
-abbrev pub found_of : Act → List Entry
-found_of (Opened d entries) = entries
-found_of act = []

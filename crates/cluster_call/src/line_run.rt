@@ -5,7 +5,8 @@ ghost use Rattle.std.specs.Option.{option_to_list};
 ghost use Rattle.plain_runs.specs.Run.{IsRun};
 ghost use Rattle.transcript.specs.PieceText.{CanPrintPiece};
 ghost use Rattle.script_fits.specs.Fits.{Fits};
-ghost use Rattle.cluster_call.specs.Running.{AllCanPrint, CanRun, CommandRuns, DidCommand, DidTodo, HasJob, IsAtRest, TodoRuns, found_of, pieces_of};
+ghost use Rattle.cluster_call.specs.Found.{found_of};
+ghost use Rattle.cluster_call.specs.Running.{AllCanPrint, CanRun, CommandRuns, DidCommand, DidTodo, HasJob, IsAtRest, TodoRuns, pieces_of};
 
 use crate::copies::copy_layout;
 use crate::script_run::{JOB, ScriptRun};

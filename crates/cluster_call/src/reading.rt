@@ -45,7 +45,8 @@ impl ScriptRun {
             at,
             via: Via::Fetched,
             question,
-        })
+        })?;
+        Ok(())
     }
 
     /// Answers the value of a node.
@@ -84,7 +85,7 @@ impl ScriptRun {
         ensures did { IfOk result (DidCommand self.old.recorder.layout line (Command.Shape at.now) self.old.recorder.acts self.new.recorder.acts) }
     {
         let code = self.store.shape(at.key());
-        let question = Question::Data {
+        let question = Question::Shape {
             key: at.key().clone()?,
             code,
         };

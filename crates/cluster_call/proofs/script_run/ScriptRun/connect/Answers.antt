@@ -1,4 +1,4 @@
-use Rattle.std.proofs.Common.{◌≡◌, ◌∷◌, [], Bool, true, refl, sym, subst}
+use Rattle.std.proofs.Common.{◌≡◌, ◌∷◌, [], Bool, true, sym, subst}
 use Rattle.plain_orders.specs.declared.act.Act.TheVariants.{Synced, Met}
 use Rattle.plain_runs.specs.Plain.{Plain}
 use Rattle.plain_runs.specs.Recording.{state_of}
@@ -21,5 +21,5 @@ returns-clause-adds c =
     let l = c.args.self.now.recorder.layout in (
       open_session ∷ Synced 0 2 ∷ Met 0 0 2 ∷ [],
       three_more c.args.self.now.recorder.acts c.note.new.self.acts c.note-2.new.self.acts c.note-3.new.self.acts open_session (Synced 0 2) (Met 0 0 2) c.in_ok-note.ensures.ok c.in_ok-note-2.ensures.ok c.in_ok-note-3.ensures.ok,
-      (served_open l c.requires.job, served_save l 2 c.requires.job, served_met l c.requires.job, tt),
+      (served_open l c.requires.job, (served_save l 2 c.requires.job, (served_met l c.requires.job, tt))),
     )
