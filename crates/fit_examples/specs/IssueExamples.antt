@@ -32,15 +32,15 @@ ChangeExamples =
     -- the answer has another server
     × (¬ Does met (Set at_x five) (Issue 0 5 0 1 (OpItem (SetOp at_x.key five)) ∷ []) (Queued (place 1 1 ∷ [])))
     -- another answer
-    × (¬ Does met (Set at_x five) (Issue 0 5 0 1 (OpItem (SetOp at_x.key five)) ∷ []) (DoneAnswer))
+    × (¬ Does met (Set at_x five) (Issue 0 5 0 1 (OpItem (SetOp at_x.key five)) ∷ []) DoneAnswer)
     -- an act more
     × (¬ Does met (Set at_x five) (Issue 0 5 0 1 (OpItem (SetOp at_x.key five)) ∷ Issue 0 5 0 2 (OpItem (SetOp at_x.key five)) ∷ []) (Queued (place 0 1 ∷ [])))
     -- an act less
-    × (¬ Does met (Set at_x five) ([]) (Queued (place 0 1 ∷ [])))
+    × (¬ Does met (Set at_x five) [] (Queued (place 0 1 ∷ [])))
     -- an unlock held back
-    × (¬ DoesHeld met (no_past) (Set at_x five) (Issue 0 5 0 1 (OpItem (SetOp at_x.key five)) ∷ []) (Queued (place 0 1 ∷ [])) (held_x ∷ []))
+    × (¬ DoesHeld met no_past (Set at_x five) (Issue 0 5 0 1 (OpItem (SetOp at_x.key five)) ∷ []) (Queued (place 0 1 ∷ [])) (held_x ∷ []))
     -- an unlock held back before is lost
-    × (¬ DoesHeld met (past_with (held_x ∷ [])) (Set at_x five) (Issue 0 5 0 1 (OpItem (SetOp at_x.key five)) ∷ []) (Queued (place 0 1 ∷ [])) ([]))
+    × (¬ DoesHeld met (past_with (held_x ∷ [])) (Set at_x five) (Issue 0 5 0 1 (OpItem (SetOp at_x.key five)) ∷ []) (Queued (place 0 1 ∷ [])) [])
     -- a kill
     × Does met (Kill at_x) (Issue 0 5 0 1 (OpItem (KillOp at_x.key)) ∷ []) (Queued (place 0 1 ∷ []))
     -- another line
@@ -58,15 +58,15 @@ ChangeExamples =
     -- the answer has another server
     × (¬ Does met (Kill at_x) (Issue 0 5 0 1 (OpItem (KillOp at_x.key)) ∷ []) (Queued (place 1 1 ∷ [])))
     -- another answer
-    × (¬ Does met (Kill at_x) (Issue 0 5 0 1 (OpItem (KillOp at_x.key)) ∷ []) (DoneAnswer))
+    × (¬ Does met (Kill at_x) (Issue 0 5 0 1 (OpItem (KillOp at_x.key)) ∷ []) DoneAnswer)
     -- an act more
     × (¬ Does met (Kill at_x) (Issue 0 5 0 1 (OpItem (KillOp at_x.key)) ∷ Issue 0 5 0 2 (OpItem (KillOp at_x.key)) ∷ []) (Queued (place 0 1 ∷ [])))
     -- an act less
-    × (¬ Does met (Kill at_x) ([]) (Queued (place 0 1 ∷ [])))
+    × (¬ Does met (Kill at_x) [] (Queued (place 0 1 ∷ [])))
     -- an unlock held back
-    × (¬ DoesHeld met (no_past) (Kill at_x) (Issue 0 5 0 1 (OpItem (KillOp at_x.key)) ∷ []) (Queued (place 0 1 ∷ [])) (held_x ∷ []))
+    × (¬ DoesHeld met no_past (Kill at_x) (Issue 0 5 0 1 (OpItem (KillOp at_x.key)) ∷ []) (Queued (place 0 1 ∷ [])) (held_x ∷ []))
     -- an unlock held back before is lost
-    × (¬ DoesHeld met (past_with (held_x ∷ [])) (Kill at_x) (Issue 0 5 0 1 (OpItem (KillOp at_x.key)) ∷ []) (Queued (place 0 1 ∷ [])) ([]))
+    × (¬ DoesHeld met (past_with (held_x ∷ [])) (Kill at_x) (Issue 0 5 0 1 (OpItem (KillOp at_x.key)) ∷ []) (Queued (place 0 1 ∷ [])) [])
 
 -- an increment
 abbrev pub IncrementExamples : Type 0
@@ -112,4 +112,4 @@ IncrementExamples =
     -- an act more
     × (¬ Does met (Incr at_x (pos 3)) (Issue 0 5 0 1 (OpItem (AddOp at_x.key (pos 3))) ∷ Enter 0 (Update 2 1 0 0 (AddOp at_x.key (pos 3))) ∷ Synced 0 3 ∷ Counted 0 5 0 3 (pos 3) ∷ Done 0 5 ∷ []) (CountedAnswer (pos 3) 3))
     -- an unlock held back
-    × (¬ DoesHeld met (no_past) (Incr at_x (pos 3)) (Issue 0 5 0 1 (OpItem (AddOp at_x.key (pos 3))) ∷ Enter 0 (Update 2 1 0 0 (AddOp at_x.key (pos 3))) ∷ Synced 0 3 ∷ Counted 0 5 0 3 (pos 3) ∷ []) (CountedAnswer (pos 3) 3) (held_x ∷ []))
+    × (¬ DoesHeld met no_past (Incr at_x (pos 3)) (Issue 0 5 0 1 (OpItem (AddOp at_x.key (pos 3))) ∷ Enter 0 (Update 2 1 0 0 (AddOp at_x.key (pos 3))) ∷ Synced 0 3 ∷ Counted 0 5 0 3 (pos 3) ∷ []) (CountedAnswer (pos 3) 3) (held_x ∷ []))

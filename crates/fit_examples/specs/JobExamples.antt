@@ -18,7 +18,7 @@ JobExamples =
     -- all are done
     × JobDoes met (at_line 1 Start ∷ at_line 2 (Set at_x five) ∷ []) (Level 0 1 1 ∷ Done 0 1 ∷ Issue 0 2 0 1 (OpItem (SetOp at_x.key five)) ∷ []) (ended 1 DoneAnswer 9 ∷ ended 2 (Queued (place 0 1 ∷ [])) 10 ∷ [])
     -- none is begun
-    × JobDoes met (at_line 1 Start ∷ at_line 2 (Set at_x five) ∷ at_line 3 (Incr at_x (pos 3)) ∷ []) ([]) ([])
+    × JobDoes met (at_line 1 Start ∷ at_line 2 (Set at_x five) ∷ at_line 3 (Incr at_x (pos 3)) ∷ []) [] []
     -- the second one is begun before the first one has its end
     × ((ends : List Ended) → ¬ JobDoes met (at_line 1 (Incr at_x (pos 3)) ∷ at_line 2 (Set at_x five) ∷ []) (Issue 0 1 0 1 (OpItem (AddOp at_x.key (pos 3))) ∷ Issue 0 2 0 2 (OpItem (SetOp at_x.key five)) ∷ []) ends)
     -- they stand out of order
@@ -26,7 +26,7 @@ JobExamples =
     -- there is no command
     × ((ends : List Ended) → ¬ JobDoes met [] (Issue 0 1 0 1 (OpItem (SetOp at_x.key five)) ∷ []) ends)
     -- it has no end
-    × (¬ JobDoes met (at_line 1 (Set at_x five) ∷ []) (Issue 0 1 0 1 (OpItem (SetOp at_x.key five)) ∷ []) ([]))
+    × (¬ JobDoes met (at_line 1 (Set at_x five) ∷ []) (Issue 0 1 0 1 (OpItem (SetOp at_x.key five)) ∷ []) [])
     -- its end has another line
     × (¬ JobDoes met (at_line 1 (Set at_x five) ∷ []) (Issue 0 1 0 1 (OpItem (SetOp at_x.key five)) ∷ []) (ended 2 (Queued (place 0 1 ∷ [])) 8 ∷ []))
     -- its end has another place

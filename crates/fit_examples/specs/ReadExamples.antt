@@ -31,13 +31,13 @@ ReadExamples =
     -- the answer has another value
     × (¬ Does met (Get at_x) (Read 0 5 0 2 Fetched (GetQuestion at_x.key None) ∷ []) (Value (Some five) 2 Fetched))
     -- another answer
-    × (¬ Does met (Get at_x) (Read 0 5 0 2 Fetched (GetQuestion at_x.key None) ∷ []) (DoneAnswer))
+    × (¬ Does met (Get at_x) (Read 0 5 0 2 Fetched (GetQuestion at_x.key None) ∷ []) DoneAnswer)
     -- an act more
     × (¬ Does met (Get at_x) (Read 0 5 0 2 Fetched (GetQuestion at_x.key None) ∷ Read 0 5 0 2 Fetched (GetQuestion at_x.key None) ∷ []) (Value None 2 Fetched))
     -- an act less
-    × (¬ Does met (Get at_x) ([]) (Value None 2 Fetched))
+    × (¬ Does met (Get at_x) [] (Value None 2 Fetched))
     -- an unlock held back
-    × (¬ DoesHeld met (no_past) (Get at_x) (Read 0 5 0 2 Fetched (GetQuestion at_x.key None) ∷ []) (Value None 2 Fetched) (held_x ∷ []))
+    × (¬ DoesHeld met no_past (Get at_x) (Read 0 5 0 2 Fetched (GetQuestion at_x.key None) ∷ []) (Value None 2 Fetched) (held_x ∷ []))
     -- a data
     × Does met (Shape at_x) (Read 0 5 0 2 Fetched (DataQuestion at_x.key 0) ∷ []) (ShapeAnswer 0 2 Fetched)
     -- another line
@@ -57,13 +57,13 @@ ReadExamples =
     -- the answer has another code
     × (¬ Does met (Shape at_x) (Read 0 5 0 2 Fetched (DataQuestion at_x.key 0) ∷ []) (ShapeAnswer 1 2 Fetched))
     -- another answer
-    × (¬ Does met (Shape at_x) (Read 0 5 0 2 Fetched (DataQuestion at_x.key 0) ∷ []) (DoneAnswer))
+    × (¬ Does met (Shape at_x) (Read 0 5 0 2 Fetched (DataQuestion at_x.key 0) ∷ []) DoneAnswer)
     -- an act more
     × (¬ Does met (Shape at_x) (Read 0 5 0 2 Fetched (DataQuestion at_x.key 0) ∷ Read 0 5 0 2 Fetched (DataQuestion at_x.key 0) ∷ []) (ShapeAnswer 0 2 Fetched))
     -- an act less
-    × (¬ Does met (Shape at_x) ([]) (ShapeAnswer 0 2 Fetched))
+    × (¬ Does met (Shape at_x) [] (ShapeAnswer 0 2 Fetched))
     -- an unlock held back
-    × (¬ DoesHeld met (no_past) (Shape at_x) (Read 0 5 0 2 Fetched (DataQuestion at_x.key 0) ∷ []) (ShapeAnswer 0 2 Fetched) (held_x ∷ []))
+    × (¬ DoesHeld met no_past (Shape at_x) (Read 0 5 0 2 Fetched (DataQuestion at_x.key 0) ∷ []) (ShapeAnswer 0 2 Fetched) (held_x ∷ []))
     -- a next
     × Does met (Next at_x (Some (Text []))) (Read 0 5 0 2 Fetched (NextQuestion at_x.key (Some (Text [])) None) ∷ []) (NextAnswer None 2 Fetched)
     -- another line
@@ -87,10 +87,10 @@ ReadExamples =
     -- the answer has another subscript
     × (¬ Does met (Next at_x (Some (Text []))) (Read 0 5 0 2 Fetched (NextQuestion at_x.key (Some (Text [])) None) ∷ []) (NextAnswer (Some (Text five)) 2 Fetched))
     -- another answer
-    × (¬ Does met (Next at_x (Some (Text []))) (Read 0 5 0 2 Fetched (NextQuestion at_x.key (Some (Text [])) None) ∷ []) (DoneAnswer))
+    × (¬ Does met (Next at_x (Some (Text []))) (Read 0 5 0 2 Fetched (NextQuestion at_x.key (Some (Text [])) None) ∷ []) DoneAnswer)
     -- an act more
     × (¬ Does met (Next at_x (Some (Text []))) (Read 0 5 0 2 Fetched (NextQuestion at_x.key (Some (Text [])) None) ∷ Read 0 5 0 2 Fetched (NextQuestion at_x.key (Some (Text [])) None) ∷ []) (NextAnswer None 2 Fetched))
     -- an act less
-    × (¬ Does met (Next at_x (Some (Text []))) ([]) (NextAnswer None 2 Fetched))
+    × (¬ Does met (Next at_x (Some (Text []))) [] (NextAnswer None 2 Fetched))
     -- an unlock held back
-    × (¬ DoesHeld met (no_past) (Next at_x (Some (Text []))) (Read 0 5 0 2 Fetched (NextQuestion at_x.key (Some (Text [])) None) ∷ []) (NextAnswer None 2 Fetched) (held_x ∷ []))
+    × (¬ DoesHeld met no_past (Next at_x (Some (Text []))) (Read 0 5 0 2 Fetched (NextQuestion at_x.key (Some (Text [])) None) ∷ []) (NextAnswer None 2 Fetched) (held_x ∷ []))

@@ -4,7 +4,7 @@ use Rattle.plain_orders.specs.declared.act.Act.{Act}
 use Rattle.plain_orders.specs.declared.act.Act.TheVariants.{Enter, Synced, Shut, Release, Met, Issue, Grant, Granted, GiveUp, Level, Refused as RefusedAct, Lose}
 use Rattle.plain_orders.specs.declared.causes.ShutCause.TheVariants.{Replaced}
 use Rattle.plain_orders.specs.declared.causes.Loss.TheVariants.{Reset as ByReset}
-use Rattle.plain_orders.specs.declared.entry.Entry.TheVariants.{Opened as OpenEntry}
+use Rattle.plain_orders.specs.declared.entry.Entry.TheVariants.{Opened as OpenEntry, Update, Commit as CommitEntry, Rollback as RollbackEntry}
 use Rattle.plain_orders.specs.declared.refused.Refused.TheVariants.{Network}
 use Rattle.plain_orders.specs.declared.refused.ReasonName.TheVariants.{Reset}
 use Rattle.plain_orders.specs.declared.refused.LinkName.TheVariants.{Recovery}
@@ -75,3 +75,15 @@ set_lost = set_both ++ Shut 0 2 Replaced ∷ Synced 0 3 ∷ Lose 0 0 (ByReset 3)
 -- a session was lost
 abbrev pub barred : List Act
 barred = met ++ Shut 0 2 Replaced ∷ Synced 0 3 ∷ Lose 0 0 (ByReset 3) ∷ []
+
+-- job 0's update and its Commit enter at both data servers, and are synced
+abbrev pub commits_enter : List Act
+commits_enter =
+    Enter 0 (Update 2 1 0 1 (SetOp (120 ∷ 0 ∷ []) (53 ∷ []))) ∷ Enter 0 (CommitEntry 2 2 0 1) ∷ Synced 0 4
+    ∷ Enter 1 (Update 2 1 0 1 (SetOp (120 ∷ 0 ∷ []) (53 ∷ []))) ∷ Enter 1 (CommitEntry 2 2 0 1) ∷ Synced 1 4 ∷ []
+
+-- the same with its Rollback
+abbrev pub rollbacks_enter : List Act
+rollbacks_enter =
+    Enter 0 (Update 2 1 0 1 (SetOp (120 ∷ 0 ∷ []) (53 ∷ []))) ∷ Enter 0 (RollbackEntry 2 2 0 1) ∷ Synced 0 4
+    ∷ Enter 1 (Update 2 1 0 1 (SetOp (120 ∷ 0 ∷ []) (53 ∷ []))) ∷ Enter 1 (RollbackEntry 2 2 0 1) ∷ Synced 1 4 ∷ []
