@@ -1,17 +1,15 @@
 -- Which commands a job may be given.
-use Rattle.std.specs.Prelude.{ℕ, ◌<◌, ◌≤◌, ◌^◌, [], ◌++◌, length, Option, None, Some, IfSome, unsigned_abs}
+use Rattle.std.specs.Prelude.{ℕ, ◌<◌, ◌≤◌, ◌++◌, length, Option, None, Some, IfSome, unsigned_abs}
 use Rattle.subscript_keys.specs.declared.sub.Sub.{Sub}
-use Rattle.subscript_keys.specs.declared.sub.Sub.TheVariants.{Text}
+use Rattle.subscript_keys.specs.declared.limits.TheConstants.{NUMBER_LIMIT, VALUE_LIMIT}
 use Rattle.subscript_keys.specs.Key.{IsSub, IsWithinLimit, sub_bytes}
 use Rattle.app_job.specs.Sites.{Site, IsSite}
 use Rattle.app_job.specs.declared.command.Command.{Command}
 use Rattle.app_job.specs.declared.command.Command.TheVariants.{Set, Kill, Get, Shape, Next, Incr, Lock, Unlock, Start, Commit, Rollback, Sync}
 
--- the subscript behind which a next looks has its form, and the key with it is within the limit; so is the key with the empty
--- text where a next stands before the first
+-- the subscript after which a next looks, if it looks after one, has its form, and the key with it is within the limit
 abbrev pub NextMay : Site → Option Sub → Type 0
-NextMay parent None = IsWithinLimit (parent.key ++ sub_bytes (Text []))
-NextMay parent (Some sub) = IsSub sub × IsWithinLimit (parent.key ++ sub_bytes sub)
+NextMay parent sub = IfSome sub (λ s. IsSub s × IsWithinLimit (parent.key ++ sub_bytes s))
 
 -- how many ticks a job may wait for a grant
 abbrev pub IsWait : ℕ → Type 0
@@ -19,12 +17,12 @@ IsWait ticks = (1 ≤ ticks) × (ticks ≤ 10000)
 
 -- keys, values and numbers are within their limits
 abbrev pub CommandMay : Command → Type 0
-CommandMay (Set at value) = IsSite at × (length value ≤ 3000)
+CommandMay (Set at value) = IsSite at × (length value ≤ VALUE_LIMIT)
 CommandMay (Kill at) = IsSite at
 CommandMay (Get at) = IsSite at
 CommandMay (Shape at) = IsSite at
 CommandMay (Next parent sub) = IsSite parent × NextMay parent sub
-CommandMay (Incr at amount) = IsSite at × (unsigned_abs amount < 10 ^ 18)
+CommandMay (Incr at amount) = IsSite at × (unsigned_abs amount < NUMBER_LIMIT)
 CommandMay (Lock at mode wait) = IsSite at × IfSome wait IsWait
 CommandMay (Unlock at mode now) = IsSite at
 CommandMay Start = Unit {0}

@@ -22,7 +22,7 @@ pub enum Answer {
         at: u64,
         via: Via,
     },
-    /// None behind the last subscript.
+    /// None after the last subscript.
     Next {
         sub: Option<Sub>,
         at: u64,

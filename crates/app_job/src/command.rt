@@ -20,7 +20,7 @@ pub enum Command {
     Shape {
         at: Target,
     },
-    /// The next subscript below the parent behind `sub`, where none stands before the first.
+    /// The next subscript below the parent after `sub`, or the first where that is none.
     Next {
         parent: Target,
         sub: Option<Sub>,
@@ -36,7 +36,7 @@ pub enum Command {
         mode: Mode,
         wait: Option<u32>,
     },
-    /// `now`: in a transaction too, and not behind its end.
+    /// `now`: in a transaction too, and not only after its end.
     Unlock {
         at: Target,
         mode: Mode,

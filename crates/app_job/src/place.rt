@@ -41,7 +41,7 @@ impl Places {
         self.items.as_slice()
     }
 
-    /// Puts one more at the end. Where memory is wanting nothing changes.
+    /// Puts one more at the end. Out of memory, nothing changes.
     pub fn push(&mut self, place: Place) -> Result<(), AllocError>
         ensures ok { OnOk result (self.new ≡ self.old ++ place ∷ []) }
         ensures err { OnErr result (self.new ≡ self.old) }

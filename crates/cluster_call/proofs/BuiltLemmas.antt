@@ -53,7 +53,7 @@ both_none : (a b : Option ℕ) → first_of a b ≡ None → (a ≡ None) × (b 
 both_none None b e = (refl, e)
 both_none (Some n) b e = absurd (some_none n e)
 
--- the word of a line, behind others
+-- the word of a line, after others
 word_behind : (word : DeclaringWord) (before : List DeclaredLine) (l : DeclaredLine) → has_word word (before ++ l ∷ []) ≡ (has_word word before || is_same_word word l.word)
 word_behind word [] l = or_false (is_same_word word l.word)
 word_behind word (b ∷ before) l = ap (λ t. is_same_word word b.word || t) (word_behind word before l) ∙ or_assoc (is_same_word word b.word) (has_word word before) (is_same_word word l.word)
@@ -92,7 +92,7 @@ single_job = record { refused = go }
     go before Global same = absurd (false≢true same)
     go before Time same = absurd (false≢true same)
 
--- behind one there is no other
+-- after one there is no other
 none_more : (word : DeclaringWord) → IsSingle word → (before lines : List DeclaredLine) → has_word word before ≡ true → unbuilt_declaration before lines ≡ None → count_word word lines ≡ 0
 unfolding count_word
 none_more word single before [] there all = refl

@@ -20,7 +20,7 @@ use Rattle.plain_orders.specs.Keys.{HasKeys}
 use Rattle.plain_orders.proofs.OrderKeys.{put_keys}
 use Rattle.plain_orders.proofs.NodeKeys.{child_key}
 use Rattle.plain_runs.specs.Items.{is_change_op}
-use Rattle.plain_runs.specs.JobRows.{asked_key, asked_bytes}
+use Rattle.plain_runs.specs.JobRows.{asked_key}
 use Rattle.plain_orders.specs.declared.question.Question.TheVariants.{Next as NextQuestion}
 use Rattle.plain_orders.specs.Answers.{next_key, IsSubIn}
 use Rattle.subscript_keys.specs.declared.sub.Sub.{Sub}
@@ -203,9 +203,9 @@ asked_node : (site : Site) (sub : Option Sub) → IsSite site → NextMay site s
 asked_node site None is may = (site.node, is.node, is.key)
 asked_node site (Some sub) is may = child_key site.key sub (site.node, is.node, is.key) may.0
 
-asked_within : (site : Site) (sub : Option Sub) → NextMay site sub → IsWithinLimit (asked_bytes site.key sub)
-asked_within site None may = may
-asked_within site (Some sub) may = may.1
+asked_within : (site : Site) (sub : Option Sub) → IsSite site → NextMay site sub → IsWithinLimit (asked_key site.key sub)
+asked_within site None is may = is.within
+asked_within site (Some sub) is may = may.1
 
 asked_sub : (site : Site) (sub : Option Sub) → NextMay site sub → IfSome sub IsSub
 asked_sub site None may = tt
@@ -219,4 +219,4 @@ found_sub parent (Some key) (Some sub) is = is.0
 
 -- what a next finds is an answer
 pub next_answered : (m : Map) (site : Site) (sub found : Option Sub) → IsSite site → NextMay site sub → IsSubIn site.key (next_key m site.key sub) found → IsAnswered m (NextQuestion site.key sub found)
-next_answered m site sub found is may in_it = (in_it, asked_node site sub is may, asked_within site sub may, (site.node, is.node, is.key), asked_sub site sub may, found_sub site.key (next_key m site.key sub) found in_it)
+next_answered m site sub found is may in_it = (in_it, asked_node site sub is may, asked_within site sub is may, (site.node, is.node, is.key), asked_sub site sub may, found_sub site.key (next_key m site.key sub) found in_it)

@@ -2,8 +2,6 @@
 use Rattle.std.specs.Prelude.{◌≡◌, ℕ, ◌<◌, ◌≤◌, Bool, true, false, List, [], ◌∷◌, ◌++◌, length, Some, None, IfSome, All, map}
 use Rattle.std.specs.List.{AllByRecursion}
 use Rattle.plain_orders.specs.declared.act.Act.{Act}
-use Rattle.plain_orders.specs.declared.act.Act.TheVariants.{Opened}
-use Rattle.plain_orders.specs.declared.entry.Entry.{Entry}
 use Rattle.plain_orders.specs.declared.entry.Entry.TheVariants.{Epoch}
 use Rattle.plain_orders.specs.declared.item.Item.TheVariants.{Op as OpItem}
 use Rattle.plain_orders.specs.declared.layout.Layout.{Layout}
@@ -17,7 +15,7 @@ use Rattle.plain_orders.specs.Answers.{data_at, next_key, IsSubIn}
 use Rattle.plain_orders.specs.Ordered.{KeyMay}
 use Rattle.plain_orders.specs.PairMap.{Map, value_at}
 use Rattle.plain_orders.specs.Keys.{HasKeys}
-use Rattle.plain_runs.specs.JobRows.{asked_key, asked_bytes}
+use Rattle.plain_runs.specs.JobRows.{asked_key}
 use Rattle.plain_runs.specs.Plain.{Plain, Server, Session}
 use Rattle.plain_runs.specs.Recording.{state_of}
 use Rattle.plain_runs.specs.Run.{state_after}
@@ -126,7 +124,7 @@ abbrev pub IsAnswered : Map → Question → Type 0
 IsAnswered m (GetQuestion key value) = (value ≡ value_at m key) × KeyMay key
 IsAnswered m (ShapeQuestion key code) = (code ≡ data_at m key) × KeyMay key
 IsAnswered m (NextQuestion parent sub found) =
-    IsSubIn parent (next_key m parent sub) found × IsKey (asked_key parent sub) × IsWithinLimit (asked_bytes parent sub) × IsKey parent × IfSome sub IsSub × IfSome found IsSub
+    IsSubIn parent (next_key m parent sub) found × IsKey (asked_key parent sub) × IsWithinLimit (asked_key parent sub) × IsKey parent × IfSome sub IsSub × IfSome found IsSub
 
 -- each act can be printed
 abbrev pub AllCanPrint : List Act → Type 0

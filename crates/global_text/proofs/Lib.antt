@@ -6,6 +6,7 @@ pub mod StringLaws
 pub mod NumberSpellings
 pub mod PrintedReads
 pub mod KeyLengths
+pub mod RoomLaws
 pub mod NodeReads
 pub mod NodeParts
 pub mod Fronts

@@ -3,7 +3,6 @@ use Rattle.std.proofs.Common.{◌≡◌, ℕ, ◌-◌, ◌≤◌, List, ◌∷�
 use Rattle.std.specs.Prelude.{Result, Ok, Err, IfOk, IfErr}
 use Rattle.std.specs.Char.{is_ascii_alphanumeric}
 use Rattle.subscript_keys.specs.declared.sub.Sub.{Sub}
-use Rattle.subscript_keys.specs.declared.node.Node.{Node}
 use Rattle.subscript_keys.specs.Key.{IsName}
 use Rattle.global_text.specs.declared.text_error.TextError.{TextError}
 use Rattle.global_text.specs.declared.node_front.NodeFront.{NodeFront}
@@ -11,19 +10,18 @@ use Rattle.global_text.specs.Numbers.{BeginsOtherwise}
 use Rattle.global_text.specs.Nodes.{ReadsParts}
 use Rattle.global_text.specs.Faults.{HasNodeFault, StopsBehind}
 use Rattle.global_text.specs.NodeFronts.{IsReadTo, IsFront}
-use Rattle.global_text.proofs.NodeParts.{list-fault, parts-at, parts-shorter, parts-forms, parts-limit, key-within}
+use Rattle.global_text.proofs.NodeParts.{list-fault, parts-at, parts-shorter, parts-forms, parts-limit}
 
 -- where nothing but the rest is left, the node is read
 pub read-to : (text name rest after : List ℕ) (subs : List Sub) → text ≡ 94 ∷ (name ++ rest) → ReadsParts name subs (94 ∷ (name ++ rest)) after → IsReadTo text name subs (length text - length after)
 read-to text name rest after subs e is =
     let P : List ℕ → Type 0 = λ t. ReadsParts name subs t after in
-    let node : Node = record { name = name; subs = subs } in
     let short : length after ≤ length text = parts-shorter name text after subs (subst P (sym e) is) in
     record {
       within = omega arith;
       parts = parts-at name name text (94 ∷ (name ++ rest)) after subs refl e is;
       forms = parts-forms name (94 ∷ (name ++ rest)) after subs is;
-      limit = key-within node name refl (parts-limit name (94 ∷ (name ++ rest)) after subs is);
+      limit = parts-limit name (94 ∷ (name ++ rest)) after subs is;
     }
 
 -- a name, and what is read after it

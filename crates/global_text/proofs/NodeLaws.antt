@@ -1,27 +1,27 @@
 -- A text begins with one node at most, and a node that is read is refused by no fault.
 use Rattle.std.proofs.Common.{◌≡◌, ◌⊎◌, ℕ, ◌+◌, ◌≤◌, Bool, true, false, List, [], ◌∷◌, ◌++◌, length, refl, sym, ap, subst, ◌∙◌, inl, inr, arith, length-append}
-use Rattle.std.specs.Prelude.{◌||◌, ◌==◌, if◌then◌else◌}
+use Rattle.std.specs.Prelude.{◌||◌, ◌==◌}
 use Rattle.std.specs.Char.{is_ascii_alphanumeric}
-use Rattle.std.proofs.lemmas.Bool.{cases_eq, eq-eqb, ne_eqb, false≢true}
+use Rattle.std.proofs.lemmas.Bool.{false≢true}
 use Rattle.std.proofs.Math.Nat.{add-zero}
-use Rattle.std.proofs.lemmas.List.{length-map}
 use Rattle.subscript_keys.specs.declared.node.Node.{Node}
 use Rattle.subscript_keys.specs.declared.sub.Sub.{Sub}
 use Rattle.subscript_keys.specs.declared.sub.Sub.TheVariants.{Num, Text}
-use Rattle.subscript_keys.specs.Decimal.{AreCanonical, IsNumberText, decimal_text, number_text, digit_text}
-use Rattle.subscript_keys.specs.Key.{escaped, sub_bytes, subs_bytes, HasForm, IsName}
+use Rattle.subscript_keys.specs.Decimal.{IsNumberText}
+use Rattle.subscript_keys.specs.Key.{HasForm, IsName}
 use Rattle.subscript_keys.proofs.NumberTexts.{one-number, text_is_canonical}
 use Rattle.global_text.specs.declared.text_error.TextError.{TextError}
 use Rattle.global_text.specs.declared.text_error.TextError.TheVariants.{NoCaret, BadName, BadSubscript, Unclosed, KeyTooLong, BadValue, ValueTooLong, Memory}
 use Rattle.global_text.specs.Numbers.{BeginsOtherwise, is_number_byte}
+use Rattle.global_text.specs.declared.room.Room.TheVariants.{Sub as SubRoom}
 use Rattle.global_text.specs.Strings.{ReadsString, IsLineEnd}
-use Rattle.global_text.specs.Nodes.{sub_string, extends_name, room_behind, ReadsSub, ReadsSubs, key_length, ReadsParts, ReadsNode}
+use Rattle.global_text.specs.Nodes.{sub_string, sub_size, subs_size, extends_name, ReadsSub, ReadsSubs, key_length, ReadsParts, ReadsNode}
 use Rattle.global_text.specs.Faults.{HasSubFault, HasMarkFault, HasListFault, HasNodeFault, IsMemory}
 use Rattle.global_text.proofs.ItemLaws.{apart}
 use Rattle.global_text.proofs.NumberTokens.{one-span, number-bytes, number-some}
 use Rattle.global_text.proofs.StringLaws.{one-string, read-is-closed, read-is-good, read-is-short}
 use Rattle.global_text.proofs.NodeParts.{name-every}
-use Rattle.global_text.proofs.KeyLengths.{text-length}
+use Rattle.global_text.proofs.RoomLaws.{sub-room}
 
 one-form : (a b : Sub) → HasForm a → HasForm b → sub_string a ≡ sub_string b → a ≡ b
 one-form (Num a) (Num b) p q e = ap Num (one-number a b p q e)
@@ -35,28 +35,6 @@ one-sub a b text r q (p, is) (o, it) =
     let same = one-string (sub_string a) (sub_string b) text r q is it in
     (one-form a b p o same.0, same.1)
 
-canonical-short : (negative : Bool) (whole fraction : List ℕ) → AreCanonical whole fraction → length (number_text negative whole fraction) ≤ 20
-canonical-short true whole [] p = omega (arith, p.limit, length-append (45 ∷ digit_text whole) [], length-map whole (λ d. d + 48))
-canonical-short true whole (d ∷ fraction) p = omega (arith, p.limit, length-append (45 ∷ digit_text whole) (46 ∷ digit_text (d ∷ fraction)), length-map whole (λ d. d + 48), length-map (d ∷ fraction) (λ d. d + 48))
-canonical-short false whole [] p = omega (arith, p.limit, length-append (digit_text whole) [], length-map whole (λ d. d + 48))
-canonical-short false whole (d ∷ fraction) p = omega (arith, p.limit, length-append (digit_text whole) (46 ∷ digit_text (d ∷ fraction)), length-map whole (λ d. d + 48), length-map (d ∷ fraction) (λ d. d + 48))
-
-number-short : (text : List ℕ) → IsNumberText text → length text ≤ 20
-number-short text (inl e) = omega (arith, ap length e)
-number-short text (inr (negative, whole, fraction, p, e)) = omega (arith, ap length e, canonical-short negative whole fraction p)
-
-escaped-longer : (text : List ℕ) → length text ≤ length (escaped text)
-escaped-longer [] = omega arith
-escaped-longer (c ∷ text) = elim (cases_eq c 0) [
-  | inl e ↦ omega (arith, escaped-longer text, ap (λ b. length (if b then 0 ∷ 0xFF ∷ escaped text else c ∷ escaped text)) (eq-eqb c 0 e))
-  | inr n ↦ omega (arith, escaped-longer text, ap (λ b. length (if b then 0 ∷ 0xFF ∷ escaped text else c ∷ escaped text)) (ne_eqb c 0 n))
-]
-
--- a subscript that a key has room for has a string within the room
-pub within-room : (key : ℕ) (s : Sub) → HasForm s → key + length (sub_bytes s) ≤ 500 → length (sub_string s) ≤ room_behind key
-within-room key (Num d) p h = omega (arith, number-short (decimal_text d) (text_is_canonical d p))
-within-room key (Text t) p h = omega (arith, text-length t, escaped-longer t)
-
 -- a string doesn't begin where the line ends
 pub string-no-end : (s text rest : List ℕ) → ReadsString s text rest → IsLineEnd text → ⊥
 string-no-end s [] rest (inl (is, e, n)) end = absurd (omega (arith, number-some s is, ap length e, length-append s rest))
@@ -68,13 +46,13 @@ string-no-end s [] rest (inr ((items, is, e), n)) end = cc
 string-no-end s (c ∷ text) rest (inr ((items, is, e), n)) end = let first : c ≡ 34 = cc in absurd (omega arith)
 
 -- a subscript that is read, and for which the key has room, has no fault
-pub sub-no-fault : (key : ℕ) (s : Sub) (text rest : List ℕ) (error : TextError) → ReadsSub s text rest → key + length (sub_bytes s) ≤ 500 → HasSubFault key text error → IsMemory error
+pub sub-no-fault : (key : ℕ) (s : Sub) (text rest : List ℕ) (error : TextError) → ReadsSub s text rest → key + sub_size s ≤ 500 → HasSubFault key text error → IsMemory error
 sub-no-fault key s text rest Unclosed (p, is) h (inl end) = string-no-end (sub_string s) text rest is end
-sub-no-fault key s text rest Unclosed (p, is) h (inr fault) = read-is-closed (room_behind key) (sub_string s) text rest is fault
-sub-no-fault key s text rest BadSubscript (p, is) h fault = read-is-good (room_behind key) (sub_string s) text rest is fault.1
-sub-no-fault key s text rest KeyTooLong (p, is) h (inl fault) = read-is-short (room_behind key) (sub_string s) text rest is (within-room key s p h) fault
+sub-no-fault key s text rest Unclosed (p, is) h (inr fault) = read-is-closed (SubRoom key) (sub_string s) text rest is fault
+sub-no-fault key s text rest BadSubscript (p, is) h fault = read-is-good (SubRoom key) (sub_string s) text rest is fault.1
+sub-no-fault key s text rest KeyTooLong (p, is) h (inl fault) = read-is-short (SubRoom key) (sub_string s) text rest is (sub-room key s p h) fault
 sub-no-fault key s text rest KeyTooLong (p, is) h (inr (t, q, it, long)) =
-    absurd (omega (arith, ap (λ x. length (sub_bytes x)) (one-sub s t text rest q (p, is) it).0))
+    absurd (omega (arith, ap (λ x. sub_size x) (one-sub s t text rest q (p, is) it).0))
 sub-no-fault key s text rest (Memory error) is h fault = tt
 sub-no-fault key s text rest NoCaret is h fault = fault
 sub-no-fault key s text rest BadName is h fault = fault
@@ -85,20 +63,20 @@ comma-no-close : (a b : List ℕ) → 44 ∷ a ≡ 41 ∷ b → ⊥
 comma-no-close a b e = apart 44 41 (44 ∷ a) a b refl e (λ h. omega arith)
 
 -- subscripts up to a closing parenthesis, and a fault before one of them
-list-no-fault : (key : ℕ) (front subs : List Sub) (last : Sub) (list place rest at : List ℕ) (error : TextError) → ReadsSubs front list place → ReadsSub last place (41 ∷ rest) → key + length (subs_bytes (front ++ last ∷ [])) ≤ 500 → ReadsSubs subs list at → HasSubFault (key + length (subs_bytes subs)) at error → IsMemory error
+list-no-fault : (key : ℕ) (front subs : List Sub) (last : Sub) (list place rest at : List ℕ) (error : TextError) → ReadsSubs front list place → ReadsSub last place (41 ∷ rest) → key + subs_size (front ++ last ∷ []) ≤ 500 → ReadsSubs subs list at → HasSubFault (key + subs_size subs) at error → IsMemory error
 list-no-fault key [] [] last list place rest at error p is h q fault =
-    sub-no-fault key last at (41 ∷ rest) error (subst (λ (t : List ℕ). ReadsSub last t (41 ∷ rest)) (sym p ∙ q) is) (omega (arith, length-append (sub_bytes last) [])) (subst (λ (k : ℕ). HasSubFault k at error) (add-zero key) fault)
+    sub-no-fault key last at (41 ∷ rest) error (subst (λ (t : List ℕ). ReadsSub last t (41 ∷ rest)) (sym p ∙ q) is) (omega arith) (subst (λ (k : ℕ). HasSubFault k at error) (add-zero key) fault)
 list-no-fault key (f ∷ front) [] last list place rest at error (after, first, more) is h q fault =
-    sub-no-fault key f at (44 ∷ after) error (subst (λ (t : List ℕ). ReadsSub f t (44 ∷ after)) q first) (omega (arith, length-append (sub_bytes f) (subs_bytes (front ++ last ∷ [])))) (subst (λ (k : ℕ). HasSubFault k at error) (add-zero key) fault)
+    sub-no-fault key f at (44 ∷ after) error (subst (λ (t : List ℕ). ReadsSub f t (44 ∷ after)) q first) (omega arith) (subst (λ (k : ℕ). HasSubFault k at error) (add-zero key) fault)
 list-no-fault key [] (s ∷ subs) last list place rest at error p is h (after, first, more) fault =
     absurd (comma-no-close after rest (one-sub s last list (44 ∷ after) (41 ∷ rest) first (subst (λ (t : List ℕ). ReadsSub last t (41 ∷ rest)) (sym p) is)).1)
 list-no-fault key (f ∷ front) (s ∷ subs) last list place rest at error (after, first, more) is h (next, one, others) fault =
     let same = one-sub f s list (44 ∷ after) (44 ∷ next) first one in
     let tails : after ≡ next = let whole : 44 ∷ after ≡ 44 ∷ next = same.1 in cc in
-    list-no-fault (key + length (sub_bytes f)) front subs last after place rest at error more is
-    (omega (arith, length-append (sub_bytes f) (subs_bytes (front ++ last ∷ []))))
+    list-no-fault (key + sub_size f) front subs last after place rest at error more is
+    (omega arith)
     (subst (λ (t : List ℕ). ReadsSubs subs t at) (sym tails) others)
-    (subst (λ (k : ℕ). HasSubFault k at error) (omega (arith, length-append (sub_bytes s) (subs_bytes subs), ap (λ x. length (sub_bytes x)) same.0)) fault)
+    (subst (λ (k : ℕ). HasSubFault k at error) (omega (arith, ap (λ x. sub_size x) same.0)) fault)
 
 -- a comma or a closing parenthesis is no fault
 pub mark-no-fault : (c : ℕ) (rest at : List ℕ) (error : TextError) → at ≡ c ∷ rest → ((c ≡ 41) ⊎ (c ≡ 44)) → HasMarkFault at error → ⊥
@@ -179,7 +157,7 @@ no-list-fault name text rest subs error (inr read) (other, more, (at, inl (befor
     let same = one-name name other text (40 ∷ here.listed.0) (40 ∷ before.listed.0) here.named before.named (paren-ends here.listed.0) (paren-ends before.listed.0) here.listed.2 before.listed.2 in
     let lists : before.listed.0 ≡ here.listed.0 = let whole : 40 ∷ here.listed.0 ≡ 40 ∷ before.listed.0 = same.1 in cc in
     list-no-fault (length name + 1) read.last.0 more read.last.1 here.listed.0 read.last.2 rest at error here.listed.1 read.last.4
-    (omega (arith, read.within, ap (λ l. length (subs_bytes l)) read.last.5))
+    (omega (arith, read.within, ap (λ l. subs_size l) read.last.5))
     (subst (λ (t : List ℕ). ReadsSubs more t at) lists before.listed.1)
     (subst (λ (n : List ℕ). HasSubFault (key_length n more) at error) (sym same.0) fault)
 no-list-fault name text rest subs error (inr read) (other, more, (at, inr (behind, fault))) =

@@ -1,17 +1,19 @@
 -- What is known of a node that was read.
-use Rattle.std.proofs.Common.{◌≡◌, ℕ, ◌-◌, ◌≤◌, Bool, true, false, List, [], ◌∷◌, ◌++◌, length, drop, refl, sym, ap, subst, ◌∙◌, inl, inr, arith, append_assoc, length-append}
+use Rattle.std.proofs.Common.{◌≡◌, ◌⊎◌, ℕ, ◌-◌, ◌≤◌, Bool, true, false, List, [], ◌∷◌, ◌++◌, length, drop, refl, sym, ap, subst, ◌∙◌, inl, inr, arith, append_assoc, length-append}
 use Rattle.std.specs.Prelude.{◌||◌}
 use Rattle.std.specs.List.{AllByRecursion}
 use Rattle.std.specs.Char.{is_ascii_alphabetic, is_ascii_alphanumeric}
 use Rattle.std.specs.Int.{is_in_range}
 use Rattle.subscript_keys.specs.declared.sub.Sub.{Sub}
+use Rattle.subscript_keys.specs.declared.sub.Sub.TheVariants.{Num, Text}
+use Rattle.global_text.proofs.KeyLengths.{full-subs, low-subs}
 use Rattle.subscript_keys.specs.declared.node.Node.{Node}
-use Rattle.subscript_keys.specs.Key.{subs_bytes, key_of, HasForm, IsName, IsWithinLimit}
+use Rattle.subscript_keys.specs.Key.{subs_bytes, key_of, HasEmpty, HasForm, IsName, IsWithinLimit}
 use Rattle.global_text.specs.declared.text_error.TextError.{TextError}
 use Rattle.global_text.specs.declared.text_error.TextError.TheVariants.{NoCaret, BadName, BadSubscript, Unclosed, KeyTooLong, BadValue, ValueTooLong, Memory}
 use Rattle.global_text.specs.Numbers.{Every, BeginsOtherwise}
 use Rattle.global_text.specs.Strings.{ReadsString}
-use Rattle.global_text.specs.Nodes.{sub_string, ReadsSubs, key_length, ReadsParts}
+use Rattle.global_text.specs.Nodes.{subs_size, sub_string, ReadsSubs, key_length, ReadsParts}
 use Rattle.global_text.specs.Faults.{HasListFault, HasBadName, HasNodeFault}
 use Rattle.global_text.proofs.NumberTokens.{one-span}
 use Rattle.global_text.proofs.StringReads.{drop-behind, spelling}
@@ -102,13 +104,42 @@ parts-forms name text rest subs (inr behind) =
 
 -- and the key is within its limit
 pub parts-limit : (name text rest : List ℕ) (subs : List Sub) → ReadsParts name subs text rest → key_length name subs ≤ 500
-parts-limit name text rest subs (inl (none, (is, e, n))) = omega (arith, name-short name is, ap (λ l. length (subs_bytes l)) none)
+parts-limit name text rest subs (inl (none, (is, e, n))) = omega (arith, name-short name is, ap (λ l. subs_size l) none)
 parts-limit name text rest subs (inr behind) = behind.within
 
-pub key-within : (node : Node) (name : List ℕ) → node.name ≡ name → key_length name node.subs ≤ 500 → IsWithinLimit (key_of node)
+-- where no subscript is empty, so is the node's key
+pub key-within : (node : Node) → key_length node.name node.subs ≤ 500 → (HasEmpty node.subs → ⊥) → IsWithinLimit (key_of node)
 unfolding key_of
-key-within node name e h = omega (arith, ap length e, length-append node.name (0 ∷ subs_bytes node.subs))
+key-within node h full = omega (arith, h, full-subs node.subs full, length-append node.name (0 ∷ subs_bytes node.subs))
+
+-- some subscript is empty, or none
+pub empty-or-full : (subs : List Sub) → HasEmpty subs ⊎ (HasEmpty subs → ⊥)
+empty-or-full [] = inr (λ e. e)
+empty-or-full (Text [] ∷ subs) = inl (inl refl)
+empty-or-full (Num d ∷ subs) = elim (empty-or-full subs) [
+  | inl some ↦ inl (inr some)
+  | inr none ↦ inr (either none)
+]
+  where
+    either : (HasEmpty subs → ⊥) → HasEmpty (Num d ∷ subs) → ⊥
+    either none (inl e) = cc
+    either none (inr some) = none some
+empty-or-full (Text (b ∷ text) ∷ subs) = elim (empty-or-full subs) [
+  | inl some ↦ inl (inr some)
+  | inr none ↦ inr (either none)
+]
+  where
+    either : (HasEmpty subs → ⊥) → HasEmpty (Text (b ∷ text) ∷ subs) → ⊥
+    either none (inl e) = cc
+    either none (inr some) = none some
+
+-- what is known of the limit of a node that was read
+pub key_within : (node : Node) → key_length node.name node.subs ≤ 500 → HasEmpty node.subs ⊎ IsWithinLimit (key_of node)
+key_within node h = elim (empty-or-full node.subs) [
+  | inl some ↦ inl some
+  | inr none ↦ inr (key-within node h none)
+]
 
 pub key-length : (node : Node) → IsWithinLimit (key_of node) → key_length node.name node.subs ≤ 500
 unfolding key_of
-key-length node h = omega (arith, h, length-append node.name (0 ∷ subs_bytes node.subs))
+key-length node h = omega (arith, h, low-subs node.subs, length-append node.name (0 ∷ subs_bytes node.subs))

@@ -1,5 +1,5 @@
 -- What was read of a node is a spelling of its own, and what is printed is read back.
-use Rattle.std.proofs.Common.{◌≡◌, ℕ, ◌≤◌, List, [], ◌∷◌, ◌++◌, length, refl, sym, ap, subst, ◌∙◌, inl, inr, arith, append_assoc}
+use Rattle.std.proofs.Common.{◌≡◌, ℕ, ◌≤◌, List, [], ◌∷◌, ◌++◌, refl, sym, ap, subst, ◌∙◌, inl, inr, arith, append_assoc}
 use Rattle.std.specs.Prelude.{◌==◌}
 use Rattle.std.specs.List.{AllByRecursion}
 use Rattle.std.proofs.lemmas.Bool.{false≢true}
@@ -8,14 +8,14 @@ use Rattle.subscript_keys.specs.declared.sub.Sub.{Sub}
 use Rattle.subscript_keys.specs.declared.sub.Sub.TheVariants.{Num, Text}
 use Rattle.subscript_keys.specs.declared.node.Node.{Node}
 use Rattle.subscript_keys.specs.Decimal.{decimal_text}
-use Rattle.subscript_keys.specs.Key.{subs_bytes, HasForm, IsName}
+use Rattle.subscript_keys.specs.Key.{HasForm, IsName}
 use Rattle.subscript_keys.proofs.NumberTexts.{text_is_canonical}
 use Rattle.global_text.specs.Numbers.{BeginsOtherwise, is_number_byte}
 use Rattle.global_text.specs.Strings.{ReadsString}
-use Rattle.global_text.specs.Nodes.{sub_string, extends_name, ReadsSub, ReadsSubs, key_length, ReadsParts, ReadsNode, sub_text, more_subs_text, subs_text, node_text, HasBytes}
+use Rattle.global_text.specs.Nodes.{subs_size, sub_string, extends_name, ReadsSub, ReadsSubs, key_length, ReadsParts, ReadsNode, sub_text, more_subs_text, subs_text, node_text, HasBytes}
 use Rattle.global_text.proofs.NumberSpellings.{number-of-any}
 use Rattle.global_text.proofs.PrintedReads.{quoted-read}
-use Rattle.global_text.proofs.KeyLengths.{subs-length}
+use Rattle.global_text.proofs.KeyLengths.{subs-size}
 
 -- a string that ends at a byte, whatever follows that byte
 abbrev EndsAt : List ℕ → List ℕ → ℕ → Type 0
@@ -108,6 +108,6 @@ printed-node node rest is forms bytes within n = printed node.name node.subs res
         let whole : (94 ∷ (name ++ subs_text (s ∷ subs))) ++ rest ≡ 94 ∷ (name ++ 40 ∷ list) =
         ap (λ x. 94 ∷ x) (append_assoc name (40 ∷ (sub_text s ++ (more_subs_text subs ++ 41 ∷ []))) rest ∙ ap (λ x. name ++ 40 ∷ x) (append_assoc (sub_text s) (more_subs_text subs ++ 41 ∷ []) rest ∙ ap (λ x. sub_text s ++ x) (append_assoc (more_subs_text subs) (41 ∷ []) rest))) in
         inr record {
-          last = (read.front, read.last, read.place, record { named = is; listed = (list, read.read, whole); within = omega (arith, within, ap (λ l. length (subs_bytes l)) read.all, subs-length read.front read.last) }, read.closed, read.all);
+          last = (read.front, read.last, read.place, record { named = is; listed = (list, read.read, whole); within = omega (arith, within, ap (λ l. subs_size l) read.all, subs-size read.front read.last) }, read.closed, read.all);
           within = within;
         }

@@ -1,12 +1,12 @@
 -- A text stops at one subscript, after one name.
-use Rattle.std.proofs.Common.{◌≡◌, ℕ, ◌+◌, ◌≤◌, List, [], ◌∷◌, ◌++◌, length, refl, sym, ap, subst, ◌∙◌, inl, inr, arith, length-append}
+use Rattle.std.proofs.Common.{◌≡◌, ℕ, ◌+◌, ◌≤◌, List, [], ◌∷◌, ◌++◌, length, refl, sym, ap, subst, ◌∙◌, inl, inr, arith}
 use Rattle.std.specs.Prelude.{◌==◌}
 use Rattle.std.specs.Char.{is_ascii_alphanumeric}
 use Rattle.subscript_keys.specs.declared.sub.Sub.{Sub}
-use Rattle.subscript_keys.specs.Key.{sub_bytes, subs_bytes, IsName}
+use Rattle.subscript_keys.specs.Key.{IsName}
 use Rattle.global_text.specs.declared.text_error.TextError.TheVariants.{KeyTooLong}
 use Rattle.global_text.specs.Numbers.{BeginsOtherwise}
-use Rattle.global_text.specs.Nodes.{ReadsSub, ReadsSubs, key_length, ReadsParts}
+use Rattle.global_text.specs.Nodes.{sub_size, subs_size, ReadsSub, ReadsSubs, key_length, ReadsParts}
 use Rattle.global_text.specs.Faults.{HasSubFault, StopsBehind, HasBadName}
 use Rattle.global_text.proofs.NodeLaws.{sub-no-fault, one-name, no-caret, parts-name}
 use Rattle.global_text.proofs.OneFault.{key-none, key-next, same-head, same-list}
@@ -32,19 +32,19 @@ pub parts-named : (name text rest : List ℕ) (subs : List Sub) → ReadsParts n
 parts-named name text rest subs is = parts-name name text rest subs is
 
 -- a subscript after which a longer list goes on doesn't pass the limit
-both-long : (key : ℕ) (ss ts : List Sub) (list place at : List ℕ) → ReadsSubs ss list place → ReadsSubs ts list at → key + length (subs_bytes ss) ≤ 500 → key + length (subs_bytes ts) ≤ 500 → HasSubFault (key + length (subs_bytes ss)) place KeyTooLong → HasSubFault (key + length (subs_bytes ts)) at KeyTooLong → ss ≡ ts
+both-long : (key : ℕ) (ss ts : List Sub) (list place at : List ℕ) → ReadsSubs ss list place → ReadsSubs ts list at → key + subs_size ss ≤ 500 → key + subs_size ts ≤ 500 → HasSubFault (key + subs_size ss) place KeyTooLong → HasSubFault (key + subs_size ts) at KeyTooLong → ss ≡ ts
 both-long key [] [] list place at p q h k fault also = refl
 both-long key [] (b ∷ ts) list place at p (next, one, others) h k fault also =
-    absurd (sub-no-fault key b place (44 ∷ next) KeyTooLong (subst (λ (t : List ℕ). ReadsSub b t (44 ∷ next)) p one) (omega (arith, length-append (sub_bytes b) (subs_bytes ts))) (key-none key place KeyTooLong fault))
+    absurd (sub-no-fault key b place (44 ∷ next) KeyTooLong (subst (λ (t : List ℕ). ReadsSub b t (44 ∷ next)) p one) (omega arith) (key-none key place KeyTooLong fault))
 both-long key (a ∷ ss) [] list place at (after, first, more) q h k fault also =
-    absurd (sub-no-fault key a at (44 ∷ after) KeyTooLong (subst (λ (t : List ℕ). ReadsSub a t (44 ∷ after)) q first) (omega (arith, length-append (sub_bytes a) (subs_bytes ss))) (key-none key at KeyTooLong also))
+    absurd (sub-no-fault key a at (44 ∷ after) KeyTooLong (subst (λ (t : List ℕ). ReadsSub a t (44 ∷ after)) q first) (omega arith) (key-none key at KeyTooLong also))
 both-long key (a ∷ ss) (b ∷ ts) list place at (after, first, more) (next, one, others) h k fault also =
     let same = same-head a b list after next first one in
-    let rest = both-long (key + length (sub_bytes a)) ss ts after place at more (subst (λ (t : List ℕ). ReadsSubs ts t at) (sym same.1) others)
-    (omega (arith, length-append (sub_bytes a) (subs_bytes ss)))
-    (omega (arith, length-append (sub_bytes b) (subs_bytes ts), ap (λ x. length (sub_bytes x)) same.0))
+    let rest = both-long (key + sub_size a) ss ts after place at more (subst (λ (t : List ℕ). ReadsSubs ts t at) (sym same.1) others)
+    (omega arith)
+    (omega (arith, ap (λ x. sub_size x) same.0))
     (key-next key a ss place KeyTooLong fault)
-    (subst (λ (k : ℕ). HasSubFault k at KeyTooLong) (omega (arith, length-append (sub_bytes b) (subs_bytes ts), ap (λ x. length (sub_bytes x)) same.0)) also) in
+    (subst (λ (k : ℕ). HasSubFault k at KeyTooLong) (omega (arith, ap (λ x. sub_size x) same.0)) also) in
     ap (λ x. x ∷ ss) same.0 ∙ ap (λ l. b ∷ l) rest
 
 -- where the key of a text passes its limit, it does so after the same subscripts

@@ -1,10 +1,14 @@
 -- A text begins with one string at most, and a string that is read is refused by no fault.
-use Rattle.std.proofs.Common.{◌≡◌, ℕ, ◌≤◌, true, List, [], ◌∷◌, ◌++◌, length, refl, sym, ap, subst, ◌∙◌, inl, inr, arith, append_assoc, length-append}
+use Rattle.std.proofs.Common.{◌≡◌, ℕ, ◌≤◌, true, List, [], ◌∷◌, ◌++◌, length, refl, sym, ap, subst, ◌∙◌, inl, inr, arith, append_assoc}
 use Rattle.std.specs.Prelude.{◌==◌}
 use Rattle.std.proofs.lemmas.Bool.{false≢true}
 use Rattle.std.proofs.lemmas.List.{append-nil}
 use Rattle.global_text.specs.Numbers.{BeginsOtherwise, is_number_byte}
 use Rattle.global_text.specs.Strings.{AreItems, NoItem, BeginsQuoted, ReadsBare, ReadsString, IsLineEnd, IsUnclosed, IsBad, IsTooLong}
+use Rattle.global_text.specs.declared.room.Room.{Room}
+use Rattle.global_text.specs.declared.room.Room.TheVariants.{Value}
+use Rattle.global_text.specs.Rooms.{HasRoom}
+use Rattle.global_text.proofs.RoomLaws.{room-front}
 use Rattle.global_text.specs.declared.text_error.TextError.{TextError}
 use Rattle.global_text.specs.declared.text_error.TextError.TheVariants.{NoCaret, BadName, BadSubscript, Unclosed, KeyTooLong, BadValue, ValueTooLong, Memory}
 use Rattle.global_text.specs.Faults.{HasValueFault, IsMemory}
@@ -36,11 +40,11 @@ one-stop s t text r q p n o m = nothing-more (quoted-front s t text r q p o m)
     nothing-more ([], c, is, e, f) = (sym (append-nil s) ∙ sym e, f ∙ ap (λ x. x ++ q) is)
     nothing-more (x ∷ u, c, (i, more, is, rest, g), e, f) = absurd (n x i (more ++ q) is (f ∙ ap (λ y. y ++ q) g ∙ append_assoc i more q))
 
--- a string is no longer than the one that goes on to where no item stands
-pub front-shorter : (s t text r q : List ℕ) → BeginsQuoted s text r → BeginsQuoted t text q → NoItem q → length s ≤ length t
-front-shorter s t text r q p o m =
+-- where the string that goes on to where no item stands has room, one that it begins with has
+pub front-room : (room : Room) (s t text r q : List ℕ) → BeginsQuoted s text r → BeginsQuoted t text q → NoItem q → HasRoom room t → HasRoom room s
+front-room room s t text r q p o m h =
     let more = quoted-front s t text r q p o m in
-    omega (arith, ap length more.3, length-append s more.0)
+    room-front room s more.0 (subst (HasRoom room) more.3 h)
 
 -- a number doesn't begin with a quote
 pub bare-no-quote : (s t text r q : List ℕ) → ReadsBare s text r → BeginsQuoted t text q → ⊥
@@ -65,38 +69,38 @@ quote-is-no-end rest [] end e = cc
 quote-is-no-end rest (c ∷ q) end e = let h : 34 ≡ c = cc in absurd (omega arith)
 
 -- a string that is read isn't unclosed
-pub read-is-closed : (limit : ℕ) (s text r : List ℕ) → ReadsString s text r → IsUnclosed limit text → ⊥
-read-is-closed limit s text r (inl p) (t, q, o, end, within) = bare-no-quote s t text r q p o
-read-is-closed limit s text r (inr p) (t, q, o, end, within) =
+pub read-is-closed : (room : Room) (s text r : List ℕ) → ReadsString s text r → IsUnclosed room text → ⊥
+read-is-closed room s text r (inl p) (t, q, o, end, within) = bare-no-quote s t text r q p o
+read-is-closed room s text r (inr p) (t, q, o, end, within) =
     quote-is-no-end r q end (one-stop s t text (34 ∷ r) q p.0 (no-item-at-quote r p.1) o (no-item-at-end q end)).1
 
 -- nor is it bad
-pub read-is-good : (limit : ℕ) (s text r : List ℕ) → ReadsString s text r → IsBad limit text → ⊥
-read-is-good limit s text r (inl p) (inl none) = none.no_number s r p
-read-is-good limit s text r (inl p) (inr (t, q, o, m, within)) = bare-no-quote s t text r (92 ∷ q) p o
-read-is-good limit s text r (inr ((a, p, e), n)) (inl none) = no-quote text (a ++ 34 ∷ r) none.no_quote e
+pub read-is-good : (room : Room) (s text r : List ℕ) → ReadsString s text r → IsBad room text → ⊥
+read-is-good room s text r (inl p) (inl none) = none.no_number s r p
+read-is-good room s text r (inl p) (inr (t, q, o, m, within)) = bare-no-quote s t text r (92 ∷ q) p o
+read-is-good room s text r (inr ((a, p, e), n)) (inl none) = no-quote text (a ++ 34 ∷ r) none.no_quote e
   where
     no-quote : (text rest : List ℕ) → BeginsOtherwise (λ b. b == 34) text → text ≡ 34 ∷ rest → ⊥
     no-quote [] rest n e = cc
     no-quote (c ∷ text) rest n e = let h : c ≡ 34 = cc in n (ap (λ x. x == 34) h)
-read-is-good limit s text r (inr p) (inr (t, q, o, m, within)) =
+read-is-good room s text r (inr p) (inr (t, q, o, m, within)) =
     let same : 34 ∷ r ≡ 92 ∷ q = (one-stop s t text (34 ∷ r) (92 ∷ q) p.0 (no-item-at-quote r p.1) o m).1 in
     apart 34 92 (34 ∷ r) r q refl same (λ h. omega arith)
 
--- nor too long, if it is within the limit
-pub read-is-short : (limit : ℕ) (s text r : List ℕ) → ReadsString s text r → length s ≤ limit → IsTooLong limit text → ⊥
-read-is-short limit s text r (inl p) within (t, q, inl (is, e, n), long) =
-    absurd (omega (arith, ap length (one-bare s text r t q p e (number-bytes t is) n).0))
-read-is-short limit s text r (inl p) within (t, q, inr o, long) = bare-no-quote s t text r q p o
-read-is-short limit s text r (inr p) within (t, q, inl o, long) = bare-no-quote t s text q (34 ∷ r) o p.0
-read-is-short limit s text r (inr p) within (t, q, inr o, long) =
-    absurd (omega (arith, front-shorter t s text q (34 ∷ r) o p.0 (no-item-at-quote r p.1)))
+-- nor too long, if it has room
+pub read-is-short : (room : Room) (s text r : List ℕ) → ReadsString s text r → HasRoom room s → IsTooLong room text → ⊥
+read-is-short room s text r (inl p) within (t, q, inl (is, e, n), long) =
+    long (subst (HasRoom room) (one-bare s text r t q p e (number-bytes t is) n).0 within)
+read-is-short room s text r (inl p) within (t, q, inr o, long) = bare-no-quote s t text r q p o
+read-is-short room s text r (inr p) within (t, q, inl o, long) = bare-no-quote t s text q (34 ∷ r) o p.0
+read-is-short room s text r (inr p) within (t, q, inr o, long) =
+    long (front-room room t s text q (34 ∷ r) o p.0 (no-item-at-quote r p.1) within)
 
 -- a value that is read has no fault
 pub value-no-fault : (s text rest : List ℕ) (error : TextError) → ReadsString s text rest → length s ≤ 3000 → HasValueFault text error → IsMemory error
-value-no-fault s text rest Unclosed is within fault = read-is-closed 3000 s text rest is fault
-value-no-fault s text rest BadValue is within fault = read-is-good 3000 s text rest is fault
-value-no-fault s text rest ValueTooLong is within fault = read-is-short 3000 s text rest is within fault
+value-no-fault s text rest Unclosed is within fault = read-is-closed Value s text rest is fault
+value-no-fault s text rest BadValue is within fault = read-is-good Value s text rest is fault
+value-no-fault s text rest ValueTooLong is within fault = read-is-short Value s text rest is within fault
 value-no-fault s text rest (Memory error) is within fault = tt
 value-no-fault s text rest NoCaret is within fault = fault
 value-no-fault s text rest BadName is within fault = fault

@@ -1,11 +1,13 @@
 -- Strings that are read from the left.
-use Rattle.std.proofs.Common.{◌≡◌, ◌≢◌, ℕ, ◌-◌, ◌≤◌, List, [], ◌∷◌, ◌++◌, length, drop, refl, sym, ap, subst, ◌∙◌, inl, inr, arith, append_assoc, length-append}
+use Rattle.std.proofs.Common.{◌≡◌, ◌≢◌, ℕ, ◌-◌, List, [], ◌∷◌, ◌++◌, length, drop, refl, sym, ap, subst, ◌∙◌, inl, inr, arith, append_assoc, length-append}
 use Rattle.std.specs.Prelude.{◌==◌}
 use Rattle.std.proofs.lemmas.Bool.{cases_eq, eqb-true}
 use Rattle.std.proofs.lemmas.List.{append-nil}
 use Rattle.std.proofs.Math.Seq.{drop-append_seam}
 use Rattle.global_text.specs.Numbers.{Every, BeginsOtherwise, IsNumber, is_number_byte}
 use Rattle.global_text.specs.Strings.{IsItem, AreItems, NoItem, BeginsQuoted, ReadsBare, ReadsString, IsBad}
+use Rattle.global_text.specs.declared.room.Room.{Room}
+use Rattle.global_text.specs.Rooms.{HasRoom}
 use Rattle.global_text.proofs.Items.{Takes}
 use Rattle.global_text.proofs.NumberTokens.{one-span, number-bytes}
 
@@ -34,8 +36,8 @@ read-quoted s text rest after c read none e k =
     let whole : rest ≡ 34 ∷ after = cc in
     inr (subst (λ (r : List ℕ). BeginsQuoted s (34 ∷ text) r) whole read, quote-ends after (subst NoItem whole none))
 
-pub read-bad : (limit : ℕ) (s text rest after : List ℕ) (c : ℕ) → BeginsQuoted s (34 ∷ text) rest → NoItem rest → length s ≤ limit → rest ≡ c ∷ after → c ≢ 10 → c ≢ 34 → IsBad limit (34 ∷ text)
-read-bad limit s text rest after c read none within e n m =
+pub read-bad : (room : Room) (s text rest after : List ℕ) (c : ℕ) → BeginsQuoted s (34 ∷ text) rest → NoItem rest → HasRoom room s → rest ≡ c ∷ after → c ≢ 10 → c ≢ 34 → IsBad room (34 ∷ text)
+read-bad room s text rest after c read none within e n m =
     let last : c ≡ 92 = bad-item c after (subst NoItem e none) n m in
     let whole : rest ≡ 92 ∷ after = cc in
     inr (s, after, subst (λ (r : List ℕ). BeginsQuoted s (34 ∷ text) r) whole read, subst NoItem whole none, within)
@@ -44,8 +46,8 @@ read-bad limit s text rest after c read none within e n m =
 pub one-bare : (s text rest token after : List ℕ) → ReadsBare s text rest → text ≡ token ++ after → Every is_number_byte token → BeginsOtherwise is_number_byte after → (s ≡ token) × (rest ≡ after)
 one-bare s text rest token after (is, e, n) k p m = one-span is_number_byte s token rest after (number-bytes s is) p n m (sym e ∙ k)
 
-pub no-string : (limit : ℕ) (text token after : List ℕ) → BeginsOtherwise (λ b. b == 34) text → text ≡ token ++ after → Every is_number_byte token → BeginsOtherwise is_number_byte after → (IsNumber token → ⊥) → IsBad limit text
-no-string limit text token after quote e p n none = inl record {
+pub no-string : (room : Room) (text token after : List ℕ) → BeginsOtherwise (λ b. b == 34) text → text ≡ token ++ after → Every is_number_byte token → BeginsOtherwise is_number_byte after → (IsNumber token → ⊥) → IsBad room text
+no-string room text token after quote e p n none = inl record {
   no_quote = quote;
   no_number = λ s rest is. none (subst IsNumber (one-bare s text rest token after is e p n).0 is.0);
 }

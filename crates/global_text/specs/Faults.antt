@@ -1,11 +1,13 @@
 -- Why a text begins with no string, no value or no node.
-use Rattle.std.specs.Prelude.{◌≡◌, ◌≢◌, ◌⊎◌, ℕ, ◌+◌, ◌<◌, ◌==◌, List, [], ◌∷◌, ◌++◌, length}
+use Rattle.std.specs.Prelude.{◌≡◌, ◌≢◌, ◌⊎◌, ℕ, ◌+◌, ◌<◌, ◌==◌, List, [], ◌∷◌, ◌++◌}
 use Rattle.std.specs.Char.{is_ascii_alphanumeric}
 use Rattle.subscript_keys.specs.declared.sub.Sub.{Sub}
-use Rattle.subscript_keys.specs.declared.limits.TheConstants.{KEY_LIMIT, VALUE_LIMIT}
-use Rattle.subscript_keys.specs.Key.{sub_bytes, IsName}
+use Rattle.subscript_keys.specs.declared.limits.TheConstants.{KEY_LIMIT}
+use Rattle.subscript_keys.specs.Key.{IsName}
 use Rattle.global_text.specs.Numbers.{BeginsOtherwise}
-use Rattle.global_text.specs.Nodes.{ReadsSub, key_length, room_behind, BeforeSub, BehindSub}
+use Rattle.global_text.specs.Nodes.{ReadsSub, sub_size, key_length, BeforeSub, BehindSub}
+use Rattle.global_text.specs.declared.room.Room.{Room}
+use Rattle.global_text.specs.declared.room.Room.TheVariants.{Value, Sub as SubRoom}
 use Rattle.global_text.specs.declared.string_error.StringError.{StringError}
 use Rattle.global_text.specs.declared.string_error.StringError.TheVariants.{Bad, Unclosed, TooLong, Memory}
 use Rattle.global_text.specs.declared.text_error.TextError.{TextError}
@@ -13,17 +15,17 @@ use Rattle.global_text.specs.declared.text_error.TextError.TheVariants.{NoCaret,
 use Rattle.global_text.specs.Strings.{IsLineEnd, IsUnclosed, IsBad, IsTooLong}
 
 -- what each fault of a string says; the fault is the first from the left
-abbrev pub HasStringFault : ℕ → List ℕ → StringError → Type 0
-HasStringFault limit text Bad = IsBad limit text
-HasStringFault limit text Unclosed = IsUnclosed limit text
-HasStringFault limit text TooLong = IsTooLong limit text
-HasStringFault limit text (Memory error) = Unit {0}
+abbrev pub HasStringFault : Room → List ℕ → StringError → Type 0
+HasStringFault room text Bad = IsBad room text
+HasStringFault room text Unclosed = IsUnclosed room text
+HasStringFault room text TooLong = IsTooLong room text
+HasStringFault room text (Memory error) = Unit {0}
 
 -- what each refusal of a value says
 abbrev pub HasValueFault : List ℕ → TextError → Type 0
-HasValueFault text UnclosedText = IsUnclosed VALUE_LIMIT text
-HasValueFault text BadValue = IsBad VALUE_LIMIT text
-HasValueFault text ValueTooLong = IsTooLong VALUE_LIMIT text
+HasValueFault text UnclosedText = IsUnclosed Value text
+HasValueFault text BadValue = IsBad Value text
+HasValueFault text ValueTooLong = IsTooLong Value text
 HasValueFault text (NoMemory error) = Unit {0}
 HasValueFault text NoCaret = ⊥
 HasValueFault text BadName = ⊥
@@ -43,9 +45,9 @@ IsMemory ValueTooLong = ⊥
 
 -- what each refusal says where a subscript must stand, after a key of this length
 abbrev pub HasSubFault : ℕ → List ℕ → TextError → Type 0
-HasSubFault key text UnclosedText = IsLineEnd text ⊎ IsUnclosed (room_behind key) text
-HasSubFault key text BadSubscript = (IsLineEnd text → ⊥) × IsBad (room_behind key) text
-HasSubFault key text KeyTooLong = IsTooLong (room_behind key) text ⊎ ((sub : Sub) × (rest : List ℕ) × ReadsSub sub text rest × (KEY_LIMIT < key + length (sub_bytes sub)))
+HasSubFault key text UnclosedText = IsLineEnd text ⊎ IsUnclosed (SubRoom key) text
+HasSubFault key text BadSubscript = (IsLineEnd text → ⊥) × IsBad (SubRoom key) text
+HasSubFault key text KeyTooLong = IsTooLong (SubRoom key) text ⊎ ((sub : Sub) × (rest : List ℕ) × ReadsSub sub text rest × (KEY_LIMIT < key + sub_size sub))
 HasSubFault key text (NoMemory error) = Unit {0}
 HasSubFault key text NoCaret = ⊥
 HasSubFault key text BadName = ⊥

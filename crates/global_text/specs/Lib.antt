@@ -1,4 +1,5 @@
 pub mod Numbers
+pub mod Rooms
 pub mod Strings
 pub mod Printed
 pub mod Nodes

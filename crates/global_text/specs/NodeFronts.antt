@@ -2,8 +2,9 @@
 use Rattle.std.specs.Prelude.{ℕ, ◌≤◌, List, length, drop, IfOk, IfErr}
 use Rattle.std.specs.List.{AllByRecursion}
 use Rattle.subscript_keys.specs.declared.sub.Sub.{Sub}
-use Rattle.subscript_keys.specs.Key.{key_of, HasForm, IsWithinLimit}
-use Rattle.global_text.specs.Nodes.{HasGlobal, ReadsParts}
+use Rattle.subscript_keys.specs.declared.limits.TheConstants.{KEY_LIMIT}
+use Rattle.subscript_keys.specs.Key.{HasForm}
+use Rattle.global_text.specs.Nodes.{HasGlobal, ReadsParts, key_length}
 use Rattle.global_text.specs.Faults.{StopsBehind}
 use Rattle.global_text.specs.declared.node_front.NodeFront.{NodeFront}
 
@@ -12,7 +13,7 @@ pub record IsReadTo (text name : List ℕ) (subs : List Sub) (taken : ℕ) : Typ
   pub within : taken ≤ length text
   pub parts : ReadsParts name subs text (drop taken text)
   pub forms : AllByRecursion HasForm subs
-  pub limit : IsWithinLimit (key_of (record { name = name; subs = subs }))
+  pub limit : key_length name subs ≤ KEY_LIMIT
 
 -- the name stands here, and the subscripts after it are read to the node's end or to their fault
 pub record IsFront (text : List ℕ) (front : NodeFront) : Type 0 where

@@ -1,12 +1,12 @@
 -- Nodes as they are written, and their one printed spelling.
-use Rattle.std.specs.Prelude.{◌≡◌, ◌⊎◌, ℕ, ◌+◌, ◌-◌, ◌≤◌, ◌==◌, ◌||◌, max, Bool, List, [], ◌∷◌, ◌++◌, length}
+use Rattle.std.specs.Prelude.{◌≡◌, ◌⊎◌, ℕ, ◌+◌, ◌≤◌, ◌==◌, ◌||◌, Bool, List, [], ◌∷◌, ◌++◌, length}
 use Rattle.std.specs.Char.{is_ascii_alphanumeric}
 use Rattle.subscript_keys.specs.declared.sub.Sub.{Sub}
 use Rattle.subscript_keys.specs.declared.sub.Sub.TheVariants.{Num, Text}
 use Rattle.subscript_keys.specs.declared.node.Node.{Node}
-use Rattle.subscript_keys.specs.declared.limits.TheConstants.{DIGIT_LIMIT, KEY_LIMIT}
+use Rattle.subscript_keys.specs.declared.limits.TheConstants.{KEY_LIMIT}
 use Rattle.subscript_keys.specs.Decimal.{decimal_text}
-use Rattle.subscript_keys.specs.Key.{subs_bytes, AreBytes, HasForm, IsName}
+use Rattle.subscript_keys.specs.Key.{sub_bytes, AreBytes, HasForm, IsName}
 use Rattle.global_text.specs.Numbers.{BeginsOtherwise}
 use Rattle.global_text.specs.Strings.{ReadsString}
 use Rattle.global_text.specs.Printed.{quoted}
@@ -25,13 +25,20 @@ abbrev pub ReadsSubs : List Sub → List ℕ → List ℕ → Type 0
 ReadsSubs [] text rest = text ≡ rest
 ReadsSubs (s ∷ subs) text rest = (after : List ℕ) × ReadsSub s text (44 ∷ after) × ReadsSubs subs after rest
 
--- how many bytes the key of a name and subscripts has
-abbrev pub key_length : List ℕ → List Sub → ℕ
-key_length name subs = length name + 1 + length (subs_bytes subs)
+-- how many bytes of a key's limit a subscript takes: the empty text, which no key has, takes none
+abbrev pub sub_size : Sub → ℕ
+sub_size (Num number) = length (sub_bytes (Num number))
+sub_size (Text []) = 0
+sub_size (Text (b ∷ bytes)) = length (sub_bytes (Text (b ∷ bytes)))
 
--- how long a string may be after a key of this length: a text takes three bytes more, a number has a sign and a point at most beside its digits
-abbrev pub room_behind : ℕ → ℕ
-room_behind key = max (DIGIT_LIMIT + 2) (KEY_LIMIT - 3 - key)
+-- and subscripts together
+abbrev pub subs_size : List Sub → ℕ
+subs_size [] = 0
+subs_size (s ∷ subs) = sub_size s + subs_size subs
+
+-- how many bytes of its limit the key of a name and subscripts takes
+abbrev pub key_length : List ℕ → List Sub → ℕ
+key_length name subs = length name + 1 + subs_size subs
 
 -- reading stands before a subscript, after a caret, a name, a parenthesis and subscripts with their commas
 pub record BeforeSub (text name : List ℕ) (subs : List Sub) (rest : List ℕ) : Type 0 where

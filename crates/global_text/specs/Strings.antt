@@ -1,5 +1,7 @@
 -- Strings as they are written: a canonical number bare, any string in quotes.
-use Rattle.std.specs.Prelude.{◌≡◌, ◌≢◌, ◌⊎◌, ℕ, ◌+◌, ◌/◌, ◌%◌, ◌<◌, ◌≤◌, ◌==◌, nat_lt, if◌then◌else◌, List, [], ◌∷◌, ◌++◌, length}
+use Rattle.std.specs.Prelude.{◌≡◌, ◌≢◌, ◌⊎◌, ℕ, ◌+◌, ◌/◌, ◌%◌, ◌<◌, ◌==◌, nat_lt, if◌then◌else◌, List, [], ◌∷◌, ◌++◌}
+use Rattle.global_text.specs.declared.room.Room.{Room}
+use Rattle.global_text.specs.Rooms.{HasRoom}
 use Rattle.global_text.specs.Numbers.{BeginsOtherwise, IsNumber, is_number_byte}
 
 -- a hexadecimal digit, in lower case
@@ -48,13 +50,13 @@ abbrev pub IsLineEnd : List ℕ → Type 0
 IsLineEnd [] = Unit {0}
 IsLineEnd (b ∷ bytes) = b ≡ 10
 
--- the quoted string doesn't end, and is within the limit so far
-abbrev pub IsUnclosed : ℕ → List ℕ → Type 0
-IsUnclosed limit text = (string : List ℕ) × (rest : List ℕ) × BeginsQuoted string text rest × IsLineEnd rest × (length string ≤ limit)
+-- the quoted string doesn't end, and has room so far
+abbrev pub IsUnclosed : Room → List ℕ → Type 0
+IsUnclosed room text = (string : List ℕ) × (rest : List ℕ) × BeginsQuoted string text rest × IsLineEnd rest × HasRoom room string
 
--- a backslash begins no item, and the string is within the limit so far
-abbrev pub HasBadItem : ℕ → List ℕ → Type 0
-HasBadItem limit text = (string : List ℕ) × (rest : List ℕ) × BeginsQuoted string text (92 ∷ rest) × NoItem (92 ∷ rest) × (length string ≤ limit)
+-- a backslash begins no item, and the string has room so far
+abbrev pub HasBadItem : Room → List ℕ → Type 0
+HasBadItem room text = (string : List ℕ) × (rest : List ℕ) × BeginsQuoted string text (92 ∷ rest) × NoItem (92 ∷ rest) × HasRoom room string
 
 -- neither a quote nor a canonical number stands here
 pub record NoString (text : List ℕ) : Type 0 where
@@ -62,9 +64,9 @@ pub record NoString (text : List ℕ) : Type 0 where
   pub no_number : (string rest : List ℕ) → ReadsBare string text rest → ⊥
 
 -- the text begins with no string
-abbrev pub IsBad : ℕ → List ℕ → Type 0
-IsBad limit text = NoString text ⊎ HasBadItem limit text
+abbrev pub IsBad : Room → List ℕ → Type 0
+IsBad room text = NoString text ⊎ HasBadItem room text
 
--- a bare number is too long, or more items stand here than the limit
-abbrev pub IsTooLong : ℕ → List ℕ → Type 0
-IsTooLong limit text = (string : List ℕ) × (rest : List ℕ) × (ReadsBare string text rest ⊎ BeginsQuoted string text rest) × (limit < length string)
+-- a bare number has no room, or the items that stand here have none
+abbrev pub IsTooLong : Room → List ℕ → Type 0
+IsTooLong room text = (string : List ℕ) × (rest : List ℕ) × (ReadsBare string text rest ⊎ BeginsQuoted string text rest) × (HasRoom room string → ⊥)

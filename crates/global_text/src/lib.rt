@@ -11,6 +11,7 @@ mod node_printer;
 mod node_reader;
 mod number_form;
 mod number_laws;
+mod room;
 mod string_error;
 mod string_laws;
 mod string_reader;

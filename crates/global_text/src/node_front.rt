@@ -66,8 +66,8 @@ fn read_end(
 }
 
 /// The name of the node that a text begins with, and its subscripts as far as they are read. Of several faults
-/// the first from the left counts; a bare number's is where it begins, and a key passes its limit after a
-/// subscript, or in a string that no key has room for.
+/// the first from the left counts; a bare number's is where it begins, and a key passes its limit within a text,
+/// or where a subscript ends. The empty text stands in no key and takes no room.
 pub fn read_front(alloc: Global, text: &[u8]) -> Result<NodeFront, TextError>
     ensures ok { IfOk result (IsFront text.now) }
     ensures err { IfErr result (HasGlobalFault text.now) }

@@ -7,7 +7,7 @@ pub enum StringError {
     Bad,
     /// The string in quotes doesn't end on its line.
     Unclosed,
-    /// The string passes its limit.
+    /// The string has more bytes than there is room for.
     TooLong,
     Memory(AllocError),
 }

@@ -1,9 +1,10 @@
 //! How many bytes a subscript takes in a key.
 ghost use Rattle.std.specs.Prelude.{◌≡◌, ◌≤◌, ◌+◌, ◌*◌, length};
 ghost use Rattle.subscript_keys.specs.declared.limits.TheConstants.{KEY_LIMIT};
+ghost use Rattle.subscript_keys.specs.declared.sub.Sub.TheVariants.{Text};
 ghost use Rattle.subscript_keys.specs.Decimal.{digits};
-ghost use Rattle.subscript_keys.specs.Key.{decimal_bytes, text_bytes, sub_bytes};
-ghost use Rattle.global_text.specs.Nodes.{sub_string};
+ghost use Rattle.subscript_keys.specs.Key.{decimal_bytes, text_bytes};
+ghost use Rattle.global_text.specs.Nodes.{sub_string, sub_size};
 
 use subscript_keys::{Decimal, Sub};
 
@@ -33,7 +34,7 @@ fn number_length(number: &Decimal) -> usize
 }
 
 /// How many bytes a text takes in a key; a zero byte takes two.
-fn text_length(text: &[u8]) -> usize
+pub fn text_length(text: &[u8]) -> usize
     requires { length text.now ≤ KEY_LIMIT }
     ensures value { result ≡ length (text_bytes text.now) }
     ensures within { result ≤ 2 * KEY_LIMIT + 3 }
@@ -45,14 +46,26 @@ fn text_length(text: &[u8]) -> usize
     count
 }
 
-/// How many bytes a subscript takes in a key.
+/// How many bytes of a key's limit a text takes; the empty one stands in no key.
+fn text_size(text: &[u8]) -> usize
+    requires { length text.now ≤ KEY_LIMIT }
+    ensures value { result ≡ sub_size (Text text.now) }
+    ensures within { result ≤ 2 * KEY_LIMIT + 3 }
+{
+    match text {
+        [] => 0,
+        _ => text_length(text),
+    }
+}
+
+/// How many bytes of a key's limit a subscript takes.
 pub fn sub_length(sub: &Sub) -> usize
     requires { length (sub_string sub.now) ≤ KEY_LIMIT }
-    ensures value { result ≡ length (sub_bytes sub.now) }
+    ensures value { result ≡ sub_size sub.now }
     ensures within { result ≤ 2 * KEY_LIMIT + 3 }
 {
     match sub {
         Sub::Num(number) => number_length(number),
-        Sub::Text(text) => text_length(text.as_slice()),
+        Sub::Text(text) => text_size(text.as_slice()),
     }
 }

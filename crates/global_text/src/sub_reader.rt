@@ -1,32 +1,18 @@
 //! Reading a subscript.
 ghost use Rattle.std.specs.Prelude.{◌≡◌, ◌≤◌, ◌+◌, ◌↔◌, length, IfOk, IfErr, IsTrue};
 ghost use Rattle.subscript_keys.specs.declared.limits.TheConstants.{KEY_LIMIT};
-ghost use Rattle.subscript_keys.specs.Key.{sub_bytes, HasForm};
+ghost use Rattle.subscript_keys.specs.Key.{HasForm};
 ghost use Rattle.global_text.specs.Strings.{ReadsString, IsLineEnd};
-ghost use Rattle.global_text.specs.Nodes.{sub_string, room_behind, ReadsSub};
+ghost use Rattle.global_text.specs.Nodes.{sub_string, sub_size, ReadsSub};
 ghost use Rattle.global_text.specs.Faults.{HasSubFault};
 
+use crate::room::Room;
 use crate::string_error::StringError;
 use crate::string_reader::read_string;
 use crate::sub_length::sub_length;
 use crate::text_error::TextError;
 use std::alloc::Global;
-use std::cmp::max;
-use subscript_keys::{DIGIT_LIMIT, Decimal, KEY_LIMIT, Sub, SubText};
-
-/// How many characters a number has at most that is no text: a sign, a point and its digits.
-const NUMBER_ROOM: usize = DIGIT_LIMIT + 2;
-
-/// How many bytes a text takes in a key beside its own: its tag and its end.
-const TEXT_MARKS: usize = 3;
-
-/// How long a string may be after a key of this length.
-fn room_behind(key: usize) -> usize
-    ensures value { result ≡ room_behind key }
-    ensures within { result ≤ KEY_LIMIT }
-{
-    max(NUMBER_ROOM, (KEY_LIMIT - TEXT_MARKS).saturating_sub(key))
-}
+use subscript_keys::{Decimal, KEY_LIMIT, Sub, SubText};
 
 /// Whether the text ends here, or its line does.
 pub fn is_line_end(text: &[u8]) -> bool
@@ -58,7 +44,7 @@ fn read_sub_string(alloc: Global, text: &[u8], key: usize) -> Result<(Vec<u8>, &
     if is_line_end(text) {
         return Err(TextError::Unclosed);
     }
-    match read_string(alloc, text, room_behind(key)) {
+    match read_string(alloc, text, Room::Sub { key }) {
         Ok(read) => Ok(read),
         Err(StringError::Bad) => Err(TextError::BadSubscript),
         Err(StringError::Unclosed) => Err(TextError::Unclosed),
@@ -67,11 +53,12 @@ fn read_sub_string(alloc: Global, text: &[u8], key: usize) -> Result<(Vec<u8>, &
     }
 }
 
-/// The subscript after a key of this length, how long the key is with it, and what follows the subscript.
+/// The subscript after a key of this length, how much of its limit the key takes with it, and what follows the
+/// subscript.
 pub fn read_sub(alloc: Global, text: &[u8], key: usize) -> Result<(Sub, usize, &[u8]), TextError>
     requires { key ≤ KEY_LIMIT }
     ensures ok { IfOk result (λ read. ReadsSub read.0 text.now read.2.now) }
-    ensures key { IfOk result (λ read. read.1 ≡ key + length (sub_bytes read.0)) }
+    ensures key { IfOk result (λ read. read.1 ≡ key + sub_size read.0) }
     ensures within { IfOk result (λ read. read.1 ≤ KEY_LIMIT) }
     ensures err { IfErr result (HasSubFault key text.now) }
 {

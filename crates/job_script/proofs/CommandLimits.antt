@@ -1,5 +1,5 @@
 -- What a line asks for is declared, and a command is within its limits.
-use Rattle.std.proofs.Common.{◌≡◌, ℕ, ◌<◌, ◌≤◌, Bool, true, false, List, [], ◌∷◌, ◌++◌, length, sym, ap, subst, arith, length-append}
+use Rattle.std.proofs.Common.{◌≡◌, ◌≢◌, ℕ, ◌<◌, ◌≤◌, Bool, true, false, List, [], ◌∷◌, ◌++◌, length, sym, ap, subst, arith, length-append}
 use Rattle.std.specs.Prelude.{Option, None, Some, IfSome, All, if◌then◌else◌}
 use Rattle.std.specs.List.{AllByRecursion}
 use Rattle.std.proofs.lemmas.List.Quantifiers.{position-Some}
@@ -7,7 +7,8 @@ use Rattle.subscript_keys.specs.declared.sub.Sub.{Sub}
 use Rattle.subscript_keys.specs.declared.sub.Sub.TheVariants.{Num, Text}
 use Rattle.subscript_keys.specs.Key.{AreBytes, HasForm, IsWithinLimit, key_of, sub_bytes, subs_bytes}
 use Rattle.global_text.specs.Nodes.{HasBytes, key_length}
-use Rattle.global_text.proofs.KeyLengths.{subs-length}
+use Rattle.global_text.proofs.KeyLengths.{subs-size, full-sub, full-subs}
+use Rattle.job_script.proofs.NodeFaults.{no-empty}
 use Rattle.global_text.proofs.NodeParts.{parts-forms, parts-limit}
 use Rattle.global_text.proofs.ByteReads.{last-bytes}
 use Rattle.app_job.specs.Limits.{IsWait, NextMay, CommandMay, server_of as named_server}
@@ -52,16 +53,24 @@ server-below count (g ∷ globals) name server all e = either (is_same g.name na
     either true own other below rest e = let same : own ≡ server = cc in subst (λ (n : ℕ). n < count) same below
     either false own other below rest e = rest e
 
--- the key with the subscript behind which a next looks is within the limit
-asked-within : (parent : Site) (last : Sub) → key_of parent.node ≡ parent.key → key_length parent.node.name (parent.node.subs ++ last ∷ []) ≤ 500 → IsWithinLimit (parent.key ++ sub_bytes last)
+-- the key with the subscript after which a next looks is within the limit
+asked-within : (parent : Site) (last : Sub) → IsSite parent → key_length parent.node.name (parent.node.subs ++ last ∷ []) ≤ 500 → last ≢ Text [] → IsWithinLimit (parent.key ++ sub_bytes last)
 unfolding key_of
-asked-within parent last e within =
-    omega (arith, within, ap length e, length-append parent.key (sub_bytes last), length-append parent.node.name (0 ∷ subs_bytes parent.node.subs), subs-length parent.node.subs last)
+asked-within parent last site within some = omega (
+  arith,
+  within,
+  ap length site.key,
+  length-append parent.key (sub_bytes last),
+  length-append parent.node.name (0 ∷ subs_bytes parent.node.subs),
+  subs-size parent.node.subs last,
+  full-subs parent.node.subs (no-empty parent.node.subs site.node.subs),
+  full-sub last some,
+)
 
-next-may : (parent : Site) (last : Sub) → HasForm last → HasBytes last → IsWithinLimit (parent.key ++ sub_bytes last) → NextMay parent (asked last)
-next-may parent (Num number) form bytes within = (form, within)
-next-may parent (Text []) form bytes within = within
-next-may parent (Text (b ∷ text)) form bytes within = (record { some = λ e. cc; no_number = form; bytes = bytes }, within)
+next-may : (parent : Site) (last : Sub) → HasForm last → HasBytes last → (last ≢ Text [] → IsWithinLimit (parent.key ++ sub_bytes last)) → NextMay parent (asked last)
+next-may parent (Num number) form bytes within = (form, within (λ e. cc))
+next-may parent (Text []) form bytes within = tt
+next-may parent (Text (b ∷ text)) form bytes within = (record { some = λ e. cc; no_number = form; bytes = bytes }, within (λ e. cc))
 
 last-form : (subs : List Sub) (last : Sub) → AllByRecursion HasForm (subs ++ last ∷ []) → HasForm last
 last-form [] last p = p.0
@@ -72,7 +81,7 @@ next-part d parent sub text rest bytes (last, behind, read, is, site, known, end
     let subs = parent.node.subs ++ last ∷ [] in
     let form = last-form parent.node.subs last (parts-forms parent.node.name text behind subs read) in
     let few = last-bytes parent.node.name text behind parent.node.subs last read bytes in
-    let within = asked-within parent last site.key (parts-limit parent.node.name text behind subs read) in
+    let within = asked-within parent last site (parts-limit parent.node.name text behind subs read) in
     let may = next-may parent last form few within in
     (site, subst (λ (s : Option Sub). NextMay parent s) (sym is) may, known)
 

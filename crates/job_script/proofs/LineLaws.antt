@@ -14,7 +14,7 @@ use Rattle.job_script.specs.declared.name_kind.NameKind.TheVariants.{Job}
 use Rattle.job_script.specs.declared.todo.Todo.{Todo}
 use Rattle.job_script.specs.declared.todo.Todo.TheVariants.{Job as JobTodo, Hold, Flow, Up, Down, Save, Pump, Tick, Break, Mend, Crash, Restart, Die, Await}
 use Rattle.job_script.specs.Names.{index_of}
-use Rattle.job_script.specs.Refusals.{IsMemoryFault, Refuses}
+use Rattle.job_script.specs.Refusals.{IsMemoryFault, RefusesRow}
 use Rattle.job_script.specs.Rows.{Row, Reads, IsUnknown, declaration_row, todo_row, command_row}
 use Rattle.job_script.specs.Scripts.{IsJobAhead, ReadsTodo, ReadsText, RefusesCommand, RefusesJob, IsLate, IsNoLine, RefusesText}
 use Rattle.job_script.specs.Words.{IsSilent, first_word}
@@ -53,7 +53,7 @@ todo-cases d text (Await job) h = inr h
 reads-begins : {X : Type 0} (row_of : X → Row) (d : Declared) (text : List ℕ) (x : X) → Reads row_of d text x → BeginsRow row_of text
 reads-begins row_of d text x p = (x, p.behind.word_is)
 
-refused-begins : {X : Type 0} (row_of : X → Row) (d : Declared) (text : List ℕ) (fault : LineFault) → Refuses row_of d text fault → BeginsRow row_of text
+refused-begins : {X : Type 0} (row_of : X → Row) (d : Declared) (text : List ℕ) (fault : LineFault) → RefusesRow row_of d text fault → BeginsRow row_of text
 refused-begins row_of d text fault p = (p.behind.line, p.behind.word_is)
 
 -- no line begins with the words of two kinds
@@ -136,8 +136,8 @@ abbrev Reasons : Declared → List ℕ → LineFault → Type 0
 Reasons d text fault =
     (IsNoLine text × (fault ≡ Bad Unknown))
     ⊎ ((IsLate d text × (fault ≡ Bad Late))
-    ⊎ (((d.is_closed ≡ false) × Refuses declaration_row d text fault)
-    ⊎ (Refuses todo_row d text fault
+    ⊎ (((d.is_closed ≡ false) × RefusesRow declaration_row d text fault)
+    ⊎ (RefusesRow todo_row d text fault
     ⊎ RefusesJob d text fault)))
 
 reasons : (d : Declared) (text : List ℕ) (fault : LineFault) → RefusesText d text fault → IsMemoryFault fault ⊎ Reasons d text fault

@@ -129,7 +129,8 @@ node-apart d text = record {
 pub one-node-refusal : (d : Declared) (text : List ℕ) (fault other : LineFault) → RefusesNode d text fault → RefusesNode d text other → AreOne fault other
 one-node-refusal d text fault other p q = one-cause (RefusesNode d text) (Bad Words) (Bad Node) UnknownName (Bad Key) (Bad Unknown) fault other (node-apart d text) (node-causes d text fault p) (node-causes d text other q)
 
-no-empty : (subs : List Sub) → AllByRecursion IsSub subs → HasEmpty subs → ⊥
+-- no subscript of a node is empty
+pub no-empty : (subs : List Sub) → AllByRecursion IsSub subs → HasEmpty subs → ⊥
 no-empty [] all h = h
 no-empty (s ∷ subs) all (inl e) = let is : IsText [] = subst IsSub e all.0 in is.some refl
 no-empty (s ∷ subs) all (inr h) = no-empty subs all.1 h

@@ -1,16 +1,17 @@
 -- Why a node among the parts of a line is refused.
-use Rattle.std.proofs.Common.{◌≡◌, ◌≢◌, ◌⊎◌, ℕ, List, [], ◌∷◌, ◌++◌, drop, None, Some, Ok, length, refl, sym, ap, ◌∙◌, subst, inl, inr, arith, length-append}
+use Rattle.std.proofs.Common.{◌≤◌, ◌≡◌, ◌≢◌, ◌⊎◌, ℕ, List, [], ◌∷◌, ◌++◌, drop, None, Some, Ok, refl, sym, ap, ◌∙◌, subst, inl, inr, arith}
 use Rattle.std.specs.declared.alloc.AllocError.{AllocError}
 use Rattle.subscript_keys.specs.declared.sub.Sub.{Sub}
-use Rattle.subscript_keys.specs.Key.{key_of, subs_bytes, HasEmpty, IsWithinLimit}
+use Rattle.subscript_keys.specs.Key.{key_of, HasEmpty, IsWithinLimit}
 use Rattle.global_text.specs.declared.text_error.TextError.{TextError}
 use Rattle.global_text.specs.declared.text_error.TextError.TheVariants.{NoCaret, BadName, BadSubscript, Unclosed, KeyTooLong, BadValue, ValueTooLong, Memory}
-use Rattle.global_text.specs.Nodes.{HasGlobal}
+use Rattle.global_text.specs.Nodes.{HasGlobal, subs_size, key_length}
+use Rattle.subscript_keys.specs.declared.limits.TheConstants.{KEY_LIMIT}
 use Rattle.global_text.specs.Faults.{StopsBehind}
 use Rattle.global_text.specs.declared.node_front.NodeFront.{NodeFront}
 use Rattle.global_text.specs.NodeFronts.{IsReadTo, IsFront}
-use Rattle.global_text.proofs.KeyLengths.{subs-length}
-use Rattle.global_text.proofs.NodeParts.{list-fault}
+use Rattle.global_text.proofs.KeyLengths.{subs-size}
+use Rattle.global_text.proofs.NodeParts.{list-fault, key_within}
 use Rattle.global_text.proofs.NodeEnds.{front_read}
 use Rattle.job_script.specs.declared.declared.Declared.{Declared}
 use Rattle.job_script.specs.declared.line_fault.LineFault.{LineFault}
@@ -78,7 +79,6 @@ next_refused d text front server taken Unknown subs last is e read whole (inl me
 next_refused d text front server taken fault subs last is e read whole (inr (bad, empty)) = let P : LineFault → Type 0 = λ f. RefusesNext d text f in subst P (sym bad) (bad-subs d HasEmptyFront text front server taken is e read (subs, last, whole, empty))
 
 -- the key is within its limit without the last subscript too
-pub parent_within : (name : List ℕ) (subs front : List Sub) (last : Sub) → subs ≡ front ++ last ∷ [] → IsWithinLimit (key_of (record { name = name; subs = subs })) → IsWithinLimit (key_of (record { name = name; subs = front }))
-unfolding key_of
+pub parent_within : (name : List ℕ) (subs front : List Sub) (last : Sub) → subs ≡ front ++ last ∷ [] → key_length name subs ≤ KEY_LIMIT → HasEmpty front ⊎ IsWithinLimit (key_of (record { name = name; subs = front }))
 parent_within name subs front last e within =
-    omega (arith, within, length-append name (0 ∷ subs_bytes subs), length-append name (0 ∷ subs_bytes front), ap (λ l. length (subs_bytes l)) e, subs-length front last)
+    key_within (record { name = name; subs = front }) (omega (arith, within, ap subs_size e, subs-size front last))

@@ -3,7 +3,7 @@ use Rattle.std.proofs.Common.{◌≡◌, ℕ, List, [], ◌∷◌, map, sym, ap,
 use Rattle.job_script.specs.declared.declared.Declared.{Declared}
 use Rattle.job_script.specs.declared.line_fault.LineFault.{LineFault}
 use Rattle.job_script.specs.Parts.{Part, NewName, NewGlobal, OfKind, ASetting, ANumber, APick, AnAmount, ANode, ANext, AValue, AFlag, AWait, TakesPart, TakesParts}
-use Rattle.job_script.specs.Refusals.{IsMemoryFault, RefusesNewName, RefusesNewGlobal, RefusesOfKind, RefusesSetting, RefusesNumber, RefusesPick, RefusesAmount, RefusesNode, RefusesNext, RefusesValue, RefusesWait, RefusesPart, RefusesParts, Refuses}
+use Rattle.job_script.specs.Refusals.{IsMemoryFault, RefusesNewName, RefusesNewGlobal, RefusesOfKind, RefusesSetting, RefusesNumber, RefusesPick, RefusesAmount, RefusesNode, RefusesNext, RefusesValue, RefusesWait, RefusesPart, RefusesParts, RefusesRow}
 use Rattle.job_script.specs.Rows.{Row, Reads}
 use Rattle.job_script.specs.Words.{first_word}
 use Rattle.job_script.proofs.WordLaws.{one-ahead}
@@ -139,7 +139,7 @@ one-row row_of table d text x y p q =
     )
 
 -- a line of the table is not refused
-pub row-taken : {X : Type 0} (row_of : X → Row) → IsTable row_of → (d : Declared) (text : List ℕ) (x : X) (fault : LineFault) → Reads row_of d text x → Refuses row_of d text fault → IsMemoryFault fault
+pub row-taken : {X : Type 0} (row_of : X → Row) → IsTable row_of → (d : Declared) (text : List ℕ) (x : X) (fault : LineFault) → Reads row_of d text x → RefusesRow row_of d text fault → IsMemoryFault fault
 row-taken row_of table d text x fault p q =
     let y = q.behind.line in
     let rest = (one-ahead (first_word text) (first_word text) text p.rest q.rest p.ahead q.ahead).1 in
@@ -147,7 +147,7 @@ row-taken row_of table d text x fault p q =
     parts-taken d (row_of x).parts (row_of y).parts q.rest fault kinds (table.fit x) (subst (λ (t : List ℕ). TakesParts d (row_of x).parts t) rest p.behind.parts) q.behind.parts
 
 -- and else for one fault
-pub one-row-refusal : {X : Type 0} (row_of : X → Row) → IsTable row_of → (d : Declared) (text : List ℕ) (fault other : LineFault) → Refuses row_of d text fault → Refuses row_of d text other → AreOne fault other
+pub one-row-refusal : {X : Type 0} (row_of : X → Row) → IsTable row_of → (d : Declared) (text : List ℕ) (fault other : LineFault) → RefusesRow row_of d text fault → RefusesRow row_of d text other → AreOne fault other
 one-row-refusal row_of table d text fault other p q =
     let x = p.behind.line in
     let y = q.behind.line in

@@ -17,7 +17,7 @@ use Rattle.job_script.specs.declared.todo_word.TodoWord.{TodoWord}
 use Rattle.job_script.specs.declared.todo_word.TodoWord.TheVariants.{Hold as HoldWord, Flow as FlowWord, Up as UpWord, Down as DownWord, Save as SaveWord, Pump as PumpWord, Tick as TickWord, Break as BreakWord, Mend as MendWord, Crash as CrashWord, Restart as RestartWord, Die as DieWord, Await as AwaitWord}
 use Rattle.job_script.specs.FirstWords.{declaring_text, todo_text}
 use Rattle.job_script.specs.Names.{IsNodeName}
-use Rattle.job_script.specs.Refusals.{IsMemoryFault, Refuses, RefusesBehind}
+use Rattle.job_script.specs.Refusals.{IsMemoryFault, RefusesRow, RefusesBehind}
 use Rattle.job_script.specs.Rows.{Row, Reads, ReadsBehind, IsUnknown, declaration_row, todo_row}
 use Rattle.job_script.specs.Scripts.{IsJobAhead, ReadsTodo, ReadsText, ReadsNamed, RefusesText, RefusesNamed, RefusesJob, IsLate, IsNoLine}
 use Rattle.job_script.specs.Words.{IsAhead, IsSilent, first_word, behind_word}
@@ -42,7 +42,7 @@ reads-ahead row_of d text word rest other x s same r = record {
   behind = record { word_is = r.word_is ∙ sym same ∙ sym s.first; parts = r.parts };
 }
 
-refuses-ahead : {X : Type 0} (row_of : X → Row) (d : Declared) (text word rest other : List ℕ) (fault : LineFault) → IsSplit text word rest → word ≡ other → RefusesBehind row_of d other rest fault → Refuses row_of d text fault
+refuses-ahead : {X : Type 0} (row_of : X → Row) (d : Declared) (text word rest other : List ℕ) (fault : LineFault) → IsSplit text word rest → word ≡ other → RefusesBehind row_of d other rest fault → RefusesRow row_of d text fault
 refuses-ahead row_of d text word rest other fault s same r = record {
   rest = rest;
   ahead = ahead-of text word rest s;
@@ -113,7 +113,7 @@ pub named_read : (d : Declared) (text word rest name : List ℕ) (x : Todo) → 
 named_read d text word rest name x s named is r = named-reads d text rest name x (job-ahead text word rest name s named is) r
 
 -- the five reasons refuse a line
-refuses-text : (d : Declared) (text : List ℕ) (fault : LineFault) → (IsNoLine text × (fault ≡ Bad Unknown)) ⊎ ((IsLate d text × (fault ≡ Bad Late)) ⊎ (((d.is_closed ≡ false) × Refuses declaration_row d text fault) ⊎ (Refuses todo_row d text fault ⊎ RefusesJob d text fault))) → RefusesText d text fault
+refuses-text : (d : Declared) (text : List ℕ) (fault : LineFault) → (IsNoLine text × (fault ≡ Bad Unknown)) ⊎ ((IsLate d text × (fault ≡ Bad Late)) ⊎ (((d.is_closed ≡ false) × RefusesRow declaration_row d text fault) ⊎ (RefusesRow todo_row d text fault ⊎ RefusesJob d text fault))) → RefusesText d text fault
 refuses-text d text (Bad kind) r = r
 refuses-text d text UnknownName r = r
 refuses-text d text (Memory error) r = tt

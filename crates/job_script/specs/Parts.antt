@@ -3,6 +3,7 @@ use Rattle.std.specs.Prelude.{◌≡◌, ◌≢◌, ◌⊎◌, ℕ, ◌<◌, ◌
 use Rattle.std.specs.Fmt.{decimal, signed_decimal}
 use Rattle.subscript_keys.specs.declared.sub.Sub.{Sub}
 use Rattle.subscript_keys.specs.declared.sub.Sub.TheVariants.{Num, Text}
+use Rattle.subscript_keys.specs.declared.limits.TheConstants.{NUMBER_LIMIT, VALUE_LIMIT}
 use Rattle.subscript_keys.specs.Key.{IsName}
 use Rattle.global_text.specs.Strings.{ReadsString}
 use Rattle.global_text.specs.Nodes.{ReadsParts}
@@ -58,14 +59,14 @@ TakesPart d (OfKind kind index) text rest = (name : List ℕ) × IsAhead name te
 TakesPart d (ASetting setting) text rest = IsAhead (setting_word setting) text rest
 TakesPart d (ANumber least most number) text rest = IsAhead (decimal number) text rest × (least ≤ number) × (number ≤ most)
 TakesPart d (APick pick) text rest = ((text ≡ []) × (rest ≡ []) × (pick ≡ 0)) ⊎ (IsAhead (decimal pick) text rest × (pick < 2 ^ 64))
-TakesPart d (AnAmount amount) text rest = IsAhead (signed_decimal amount) text rest × (unsigned_abs amount < 10 ^ 18)
+TakesPart d (AnAmount amount) text rest = IsAhead (signed_decimal amount) text rest × (unsigned_abs amount < NUMBER_LIMIT)
 TakesPart d (ANode site) text rest =
     (behind : List ℕ) × ReadsParts site.node.name site.node.subs text behind × IsSite site
     × (server_of d.globals site.node.name ≡ Some site.server) × EndsBefore behind rest
 TakesPart d (ANext parent sub) text rest =
     (last : Sub) × (behind : List ℕ) × ReadsParts parent.node.name (parent.node.subs ++ last ∷ []) text behind × (sub ≡ asked last) × IsSite parent
     × (server_of d.globals parent.node.name ≡ Some parent.server) × EndsBefore behind rest
-TakesPart d (AValue value) text rest = (behind : List ℕ) × ReadsString value text behind × (length value ≤ 3000) × EndsBefore behind rest
+TakesPart d (AValue value) text rest = (behind : List ℕ) × ReadsString value text behind × (length value ≤ VALUE_LIMIT) × EndsBefore behind rest
 TakesPart d (AFlag word is_there) text rest = TakesFlag word is_there text rest
 TakesPart d (AWait wait) text rest = TakesWait wait text rest
 

@@ -2,6 +2,7 @@
 use Rattle.std.specs.Prelude.{◌≡◌, ◌≢◌, ◌⊎◌, ℕ, ◌≤◌, ◌<◌, ◌^◌, true, false, List, [], ◌∷◌, ◌++◌, length, None, ℤ, unsigned_abs, codes}
 use Rattle.std.specs.Fmt.{decimal, signed_decimal}
 use Rattle.subscript_keys.specs.declared.sub.Sub.{Sub}
+use Rattle.subscript_keys.specs.declared.limits.TheConstants.{NUMBER_LIMIT, VALUE_LIMIT}
 use Rattle.subscript_keys.specs.Key.{IsName, HasEmpty}
 use Rattle.global_text.specs.declared.text_error.TextError.TheVariants.{NoCaret, BadName, BadSubscript, Unclosed, KeyTooLong, BadValue, ValueTooLong}
 use Rattle.global_text.specs.Nodes.{HasGlobal, ReadsParts}
@@ -73,7 +74,7 @@ RefusesPick text fault = ⊥
 -- an increment's amount
 abbrev pub RefusesAmount : List ℕ → LineFault → Type 0
 RefusesAmount text (Bad Words) = text ≡ []
-RefusesAmount text (Bad Number) = (text ≢ []) × ((z : ℤ) → unsigned_abs z < 10 ^ 18 → first_word text ≢ signed_decimal z)
+RefusesAmount text (Bad Number) = (text ≢ []) × ((z : ℤ) → unsigned_abs z < NUMBER_LIMIT → first_word text ≢ signed_decimal z)
 RefusesAmount text fault = ⊥
 
 -- the global that stands here is declared
@@ -130,7 +131,7 @@ RefusesValue text (Bad Value) =
     (text ≢ [])
     × (HasValueFault text BadValue
     ⊎ (HasValueFault text Unclosed
-    ⊎ ((value : List ℕ) × (rest : List ℕ) × ReadsString value text rest × (length value ≤ 3000) × (IsWordEnd rest → ⊥))))
+    ⊎ ((value : List ℕ) × (rest : List ℕ) × ReadsString value text rest × (length value ≤ VALUE_LIMIT) × (IsWordEnd rest → ⊥))))
 RefusesValue text (Bad Long) = HasValueFault text ValueTooLong
 RefusesValue text (Memory error) = Unit {0}
 RefusesValue text fault = ⊥
@@ -182,7 +183,7 @@ pub record RefusesBehind {X : Type 0} (row_of : X → Row) (d : Declared) (word 
   pub parts : RefusesParts d (row_of line).parts text fault
 
 -- the first word begins a line of a table, and a part behind it is refused
-pub record Refuses {X : Type 0} (row_of : X → Row) (d : Declared) (text : List ℕ) (fault : LineFault) : Type 0 where
+pub record RefusesRow {X : Type 0} (row_of : X → Row) (d : Declared) (text : List ℕ) (fault : LineFault) : Type 0 where
   pub rest : List ℕ
   pub ahead : IsAhead (first_word text) text rest
   pub behind : RefusesBehind row_of d (first_word text) rest fault

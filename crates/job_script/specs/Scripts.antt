@@ -27,7 +27,7 @@ use Rattle.job_script.specs.declared.todo.Todo.{Todo}
 use Rattle.job_script.specs.declared.todo.Todo.TheVariants.{Job as JobTodo, Hold, Flow, Up, Down, Save, Pump, Tick, Break, Mend, Crash, Restart, Die, Await}
 use Rattle.job_script.specs.Lines.{script_lines}
 use Rattle.job_script.specs.Names.{IsNodeName, index_of, HasRoom}
-use Rattle.job_script.specs.Refusals.{Refuses}
+use Rattle.job_script.specs.Refusals.{RefusesRow}
 use Rattle.job_script.specs.Rows.{Reads, IsUnknown, declaration_row, todo_row, command_row}
 use Rattle.job_script.specs.Words.{IsAhead, IsSilent, first_word, trimmed}
 
@@ -54,7 +54,7 @@ ReadsLine d raw line = ReadsText d (trimmed raw) line
 
 -- a job's command is refused, its first word among it
 abbrev pub RefusesCommand : Declared → List ℕ → LineFault → Type 0
-RefusesCommand d text fault = (IsUnknown command_row (first_word text) × (fault ≡ Bad Unknown)) ⊎ Refuses command_row d text fault
+RefusesCommand d text fault = (IsUnknown command_row (first_word text) × (fault ≡ Bad Unknown)) ⊎ RefusesRow command_row d text fault
 
 -- a job's line asks for this, behind its name
 abbrev pub ReadsNamed : Declared → List ℕ → List ℕ → Todo → Type 0
@@ -88,8 +88,8 @@ RefusesText d text (Memory error) = Unit {0}
 RefusesText d text fault =
     (IsNoLine text × (fault ≡ Bad Unknown))
     ⊎ ((IsLate d text × (fault ≡ Bad Late))
-    ⊎ (((d.is_closed ≡ false) × Refuses declaration_row d text fault)
-    ⊎ (Refuses todo_row d text fault
+    ⊎ (((d.is_closed ≡ false) × RefusesRow declaration_row d text fault)
+    ⊎ (RefusesRow todo_row d text fault
     ⊎ RefusesJob d text fault)))
 
 -- a line is refused behind these declarations

@@ -1,6 +1,5 @@
 //! Nodes of declared globals.
-ghost use Rattle.std.specs.Prelude.{◌≡◌, ◌≢◌, ◌↔◌, List, ℕ, drop, Some, None, IfOk, IfErr, IsTrue};
-ghost use Rattle.subscript_keys.specs.Key.{HasEmpty};
+ghost use Rattle.std.specs.Prelude.{◌≡◌, ◌≢◌, List, ℕ, drop, Some, None, IfOk, IfErr};
 ghost use Rattle.global_text.specs.Faults.{StopsBehind};
 ghost use Rattle.global_text.specs.NodeFronts.{IsReadTo, IsFront};
 ghost use Rattle.job_script.specs.declared.declared.Declared.{Declared};
@@ -14,7 +13,7 @@ use crate::line_kind::LineKind;
 use crate::word_end::word_end;
 use global_text::{NodeFront, TextError, read_front};
 use std::alloc::Global;
-use subscript_keys::Sub;
+use subscript_keys::{Sub, has_empty};
 
 /// As much of a node as a text begins with, and the data server of its global, which is declared.
 #[derive(Drop)]
@@ -52,20 +51,6 @@ pub fn read_known(alloc: Global, declared: &Declared, text: &[u8]) -> Result<Kno
         Some(server) => Ok(KnownFront { server, front }),
         None => Err(LineFault::Unknown),
     }
-}
-
-/// Whether some subscript is the empty text.
-fn has_empty(subs: &[Sub]) -> bool
-    ensures { IsTrue result ↔ HasEmpty subs.now }
-{
-    for sub in subs {
-        if let Sub::Text(text) = sub {
-            if text.as_slice().is_empty() {
-                return true;
-            }
-        }
-    }
-    false
 }
 
 /// What a fault of a node's subscripts is in a line. An empty one in front of it is a bad node.

@@ -13,7 +13,7 @@ pub enum LineKind {
     Name,
     /// No node stands where one must, or an empty subscript where none may.
     Node,
-    /// A key has more than 500 bytes.
+    /// A key has more than `KEY_LIMIT` bytes.
     Key,
     /// A next asks for a node without subscripts.
     NoSub,
@@ -21,7 +21,7 @@ pub enum LineKind {
     NoValue,
     /// No value stands where one must.
     Value,
-    /// A value has more than 3000 bytes.
+    /// A value has more than `VALUE_LIMIT` bytes.
     Long,
     /// A number is outside its form or its limits.
     Number,

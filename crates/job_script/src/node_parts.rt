@@ -21,7 +21,7 @@ use subscript_keys::{KeyError, Node, Sub, Subs};
 fn target_at(alloc: Global, server: u8, node: Node) -> Result<Target, LineFault>
     requires name { IsName node.name }
     requires subs { AllByRecursion HasForm node.subs }
-    requires limit { IsWithinLimit (key_of node) }
+    requires limit { HasEmpty node.subs ⊎ IsWithinLimit (key_of node) }
     ensures server { IfOk result (λ target. target.server ≡ server) }
     ensures node { IfOk result (λ target. target.node ≡ node) }
     ensures site { IfOk result IsSite }
@@ -51,7 +51,7 @@ pub fn take_node<'a>(
     Ok((target, rest))
 }
 
-/// The subscript behind which a next looks: the empty text stands before the first.
+/// The subscript after which a next looks: the empty text stands before the first.
 fn asked(last: Sub) -> Option<Sub>
     ensures { result ≡ asked last }
 {
@@ -63,7 +63,8 @@ fn asked(last: Sub) -> Option<Sub>
     Some(last)
 }
 
-/// The node below which a next looks, the subscript behind which it looks, which may be empty, and what follows.
+/// The node below which a next looks, the subscript after which it looks, if it looks after one, and what follows.
+/// The empty text takes no room in the key.
 pub fn take_next<'a>(
     alloc: Global,
     declared: &Declared,

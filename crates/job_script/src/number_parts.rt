@@ -2,6 +2,7 @@
 ghost use Rattle.std.specs.Prelude.{◌≡◌, ◌≢◌, ◌↔◌, ℕ, ◌<◌, ◌≤◌, ◌^◌, ◌⊎◌, [], ℤ, unsigned_abs, IsTrue, IfOk, IfErr, IfSome, IfNone};
 ghost use Rattle.std.specs.Fmt.{decimal, signed_decimal};
 ghost use Rattle.std.specs.Int.Signed.{mag};
+ghost use Rattle.subscript_keys.specs.declared.limits.TheConstants.{NUMBER_LIMIT};
 ghost use Rattle.job_script.specs.Words.{IsAhead};
 ghost use Rattle.job_script.specs.Refusals.{RefusesNumber, RefusesPick, RefusesAmount};
 
@@ -10,9 +11,7 @@ use crate::line_kind::LineKind;
 use crate::splits::{is_same, split_word};
 use itoa::Buffer;
 use std::str;
-
-/// The largest amount of an increment has 18 digits.
-const AMOUNT_LIMIT: u64 = 1_000_000_000_000_000_000;
+use subscript_keys::NUMBER_LIMIT;
 
 /// Whether a word is this number's text.
 fn is_text_of(word: &[u8], number: u64) -> bool
@@ -43,7 +42,7 @@ fn number_of(word: &[u8]) -> Option<u64>
 /// The number, maybe behind a minus, that a word spells, without a 0 in front.
 fn signed_number_of(word: &[u8]) -> Option<i64>
     ensures some { IfSome result (λ z. (word.now ≡ signed_decimal z) × (mag z < 2 ^ 63)) }
-    ensures none { IfNone result ((z : ℤ) → unsigned_abs z < 10 ^ 18 → word.now ≢ signed_decimal z) }
+    ensures none { IfNone result ((z : ℤ) → unsigned_abs z < NUMBER_LIMIT → word.now ≢ signed_decimal z) }
 {
     let Ok(text) = str::from_utf8(word) else {
         return None;
@@ -95,9 +94,9 @@ pub fn take_pick(text: &[u8]) -> Result<(u64, &[u8]), LineFault>
     Ok((number, rest))
 }
 
-/// An increment's amount of at most 18 digits, and what follows it.
+/// An increment's amount of at most `DIGIT_LIMIT` digits, and what follows it.
 pub fn take_amount(text: &[u8]) -> Result<(i64, &[u8]), LineFault>
-    ensures ok { IfOk result (λ got. IsAhead (signed_decimal got.0) text.now got.1.now × (unsigned_abs got.0 < 10 ^ 18)) }
+    ensures ok { IfOk result (λ got. IsAhead (signed_decimal got.0) text.now got.1.now × (unsigned_abs got.0 < NUMBER_LIMIT)) }
     ensures err { IfErr result (RefusesAmount text.now) }
 {
     if text.is_empty() {
@@ -107,7 +106,7 @@ pub fn take_amount(text: &[u8]) -> Result<(i64, &[u8]), LineFault>
     let Some(amount) = signed_number_of(word) else {
         return Err(LineFault::Bad(LineKind::Number));
     };
-    if amount.unsigned_abs() >= AMOUNT_LIMIT {
+    if amount.unsigned_abs() >= NUMBER_LIMIT {
         return Err(LineFault::Bad(LineKind::Number));
     }
     Ok((amount, rest))

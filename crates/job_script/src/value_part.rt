@@ -1,5 +1,6 @@
 //! Values among the parts of a line.
 ghost use Rattle.std.specs.Prelude.{◌≡◌, ℕ, ◌≤◌, List, length, drop, IfOk, IfErr};
+ghost use Rattle.subscript_keys.specs.declared.limits.TheConstants.{VALUE_LIMIT};
 ghost use Rattle.global_text.specs.Strings.{ReadsString};
 ghost use Rattle.job_script.specs.declared.line_fault.LineFault.{LineFault};
 ghost use Rattle.job_script.specs.declared.line_kind.LineKind.{LineKind};
@@ -28,10 +29,10 @@ fn behind_value(text: &[u8], taken: usize) -> Result<&[u8], LineFault>
     }
 }
 
-/// A value of at most 3000 bytes, and what follows it.
+/// A value of at most `VALUE_LIMIT` bytes, and what follows it.
 pub fn take_value(alloc: Global, text: &[u8]) -> Result<(ValueBytes, &[u8]), LineFault>
     ensures ok { IfOk result (λ got. (behind : List ℕ) × ReadsString got.0 text.now behind
-        × (length got.0 ≤ 3000) × EndsBefore behind got.1.now) }
+        × (length got.0 ≤ VALUE_LIMIT) × EndsBefore behind got.1.now) }
     ensures err { IfErr result (RefusesValue text.now) }
 {
     if text.is_empty() {

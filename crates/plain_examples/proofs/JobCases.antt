@@ -12,14 +12,14 @@ use Rattle.plain_orders.specs.declared.refused.LinkName.TheVariants.{NotConnecte
 use Rattle.plain_runs.specs.Plain.{Plain, start}
 use Rattle.plain_runs.specs.Step.{after}
 use Rattle.plain_runs.specs.Run.{RunFrom}
-use Rattle.plain_examples.specs.Leads.{small, nothing, met, issued, kept}
+use Rattle.plain_examples.specs.Leads.{full_key, small, nothing, met, issued, kept}
 use Rattle.plain_examples.specs.JobLeads.{updated_next, levels, level_two, updated_in, updated_more, commit_issued, updated_lost, barred, connect_failed}
 use Rattle.plain_examples.proofs.LeadRuns.{open_saved_runs, met_runs, issued_runs, kept_runs, app_broke_runs, met_dead_runs, nothing_runs}
 use Rattle.plain_examples.specs.LockLeads.{quitted}
 use Rattle.plain_examples.proofs.LockLeadRuns.{quitted_runs, quitted_dead_runs}
 use Rattle.plain_examples.proofs.JobLeadRuns.{back_to_0, level_one_runs, level_two_runs, updated_runs, updated_in_runs, updated_more_runs, updated_next_runs, updated_other_runs, updated_both_runs, updated_again_runs, commit_issued_runs, rollback_issued_runs, updated_lost_runs, updated_dead_runs, barred_runs, used_no_way_runs, connect_failed_runs, no_way_dead_runs}
 use Rattle.plain_runs.proofs.RunLemmas.{run_more}
-use Rattle.plain_examples.proofs.Keys.{x_may, x_key, no_empty_key, long_key_is_key, near_key_is_key, x_long_is_key}
+use Rattle.plain_examples.proofs.Keys.{x_may, x_key, no_empty_key, full_key_is_key, long_key_is_key, x_long_is_key}
 use Rattle.plain_examples.specs.JobExamples.{IssueExamples, ReadExamples, LevelExamples, DoneExamples, RefusedExamples, TooDeepExamples}
 use Rattle.std.proofs.Common.{◌∙◌, ◌==◌, ◌||◌, eqb, ap, Bool, true, false}
 use Rattle.std.proofs.lemmas.Bool.{eq-eqb, ne_eqb}
@@ -97,7 +97,8 @@ read_examples = (
   (kept_runs, search (rules, x_key)),
   (issued_runs, search (rules, x_key)),
   (met_runs, (omega arith, (refl, (refl, (refl, (omega arith, (omega arith, (tt, (refl, (refl, (no_empty_key, (omega arith, tt)))))))))))),
-  (kept_runs, (omega arith, (refl, (refl, (refl, (omega arith, (omega arith, (tt, (refl, (refl, (near_key_is_key, ((λ e. omega (arith, e)), tt)))))))))))),
+  run_more small start kept (Read 0 6 0 3 Cached (Next full_key None None)) kept_runs ((record { known = omega arith; alive = refl; free = refl }, record { there = refl; no_less = omega arith; within = omega arith; answer = record { result = tt; by = refl; entered = refl; node = full_key_is_key; within = omega arith } })),
+  (kept_runs, (omega arith, (refl, (refl, (refl, (omega arith, (omega arith, (tt, (refl, (refl, (long_key_is_key, ((λ e. omega (arith, e)), tt)))))))))))),
   (kept_runs, (omega arith, (refl, (refl, (refl, (omega arith, (omega arith, (tt, (refl, (refl, (x_long_is_key, ((λ e. omega (arith, e)), tt)))))))))))),
 )
 

@@ -5,7 +5,7 @@ use Rattle.subscript_keys.specs.declared.sub.Sub.TheVariants.{Text}
 use Rattle.subscript_keys.specs.Key.{AreBytes, IsKey, IsText, escaped, key_of, text_bytes}
 use Rattle.subscript_keys.specs.Decimal.{AreDigits, IsNumberText, number_text}
 use Rattle.plain_runs.specs.JobRows.{asked_key}
-use Rattle.plain_examples.specs.Leads.{below_x, long_key, long_text, near_key}
+use Rattle.plain_examples.specs.Leads.{below_x, full_key, long_key, long_text}
 use Rattle.plain_orders.specs.Ordered.{KeyMay}
 
 -- ^x is a node
@@ -77,9 +77,9 @@ pub long_key_is_key : IsKey long_key
 unfolding text_bytes
 long_key_is_key = subst IsKey (ap (λ cs. 120 ∷ 0 ∷ 64 ∷ cs ++ 0 ∷ 1 ∷ []) (letters_escaped 496)) (letters_key 495)
 
-pub near_key_is_key : IsKey near_key
+pub full_key_is_key : IsKey full_key
 unfolding text_bytes
-near_key_is_key = subst IsKey (ap (λ cs. 120 ∷ 0 ∷ 64 ∷ cs ++ 0 ∷ 1 ∷ []) (letters_escaped 493)) (letters_key 492)
+full_key_is_key = subst IsKey (ap (λ cs. 120 ∷ 0 ∷ 64 ∷ cs ++ 0 ∷ 1 ∷ []) (letters_escaped 495)) (letters_key 494)
 
 pub below_x_is_key : IsKey below_x
 unfolding text_bytes

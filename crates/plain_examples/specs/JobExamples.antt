@@ -10,7 +10,7 @@ use Rattle.plain_orders.specs.declared.refused.ReasonName.TheVariants.{Reset, Ex
 use Rattle.plain_orders.specs.declared.refused.LinkName.TheVariants.{NotConnected, Normal, Trouble, Recovery}
 use Rattle.subscript_keys.specs.declared.limits.TheConstants.{NUMBER_LIMIT}
 use Rattle.subscript_keys.specs.declared.sub.Sub.TheVariants.{Text}
-use Rattle.plain_examples.specs.Leads.{Accepted, MayNotCome, FailsAt, long_key, long_text, near_key, long_value, nothing, open_saved, met, issued, kept, app_broke, met_dead}
+use Rattle.plain_examples.specs.Leads.{Accepted, MayNotCome, FailsAt, full_key, long_key, long_text, long_value, nothing, open_saved, met, issued, kept, app_broke, met_dead}
 use Rattle.plain_examples.specs.JobLeads.{levels, level_one, level_two, updated, updated_in, updated_more, updated_next, updated_other, updated_both, updated_again, commit_issued, rollback_issued, updated_lost, updated_dead, barred, used_no_way, connect_failed, no_way_dead}
 use Rattle.plain_examples.specs.LockLeads.{quitted, quitted_dead}
 
@@ -140,8 +140,10 @@ ReadExamples =
     × FailsAt 8 issued (Read 0 6 0 2 Cached (Next (120 ∷ 0 ∷ []) None None))
     -- node of a next
     × FailsAt 9 met (Read 0 6 0 2 Cached (Next [] None None))
-    -- within of a next: the parent with the empty text
-    × FailsAt 10 kept (Read 0 6 0 3 Cached (Next near_key None None))
+    -- a next from the start needs no room for a subscript
+    × Accepted kept (Read 0 6 0 3 Cached (Next full_key None None))
+    -- within of a next: the parent, where it looks from the start
+    × FailsAt 10 kept (Read 0 6 0 3 Cached (Next long_key None None))
     -- within of a next: the parent with the subscript
     × FailsAt 10 kept (Read 0 6 0 3 Cached (Next (120 ∷ 0 ∷ []) (Some (Text long_text)) None))
 

@@ -38,9 +38,9 @@ nines_text = replicate 18 57
 abbrev pub long_key : List ℕ
 long_key = 120 ∷ 0 ∷ 64 ∷ replicate 496 97 ++ 0 ∷ 1 ∷ []
 
--- a key of 498 bytes, which has 501 with the empty text as a subscript
-abbrev pub near_key : List ℕ
-near_key = 120 ∷ 0 ∷ 64 ∷ replicate 493 97 ++ 0 ∷ 1 ∷ []
+-- a key of 500 bytes
+abbrev pub full_key : List ℕ
+full_key = 120 ∷ 0 ∷ 64 ∷ replicate 495 97 ++ 0 ∷ 1 ∷ []
 
 -- a key below ^x
 abbrev pub below_x : List ℕ

@@ -1,7 +1,7 @@
 use crate::op::Op;
 
 /// What a job issues at a data server.
-#[derive(Clone, Debug, PartialEq, Eq, Drop)]
+#[derive(Debug, PartialEq, Eq, Drop)]
 pub enum Item {
     Op(Op),
     Commit { txn: u32 },

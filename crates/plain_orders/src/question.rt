@@ -1,7 +1,7 @@
 use subscript_keys::{KeyBytes, Sub, ValueBytes};
 
 /// What a read asked and was answered.
-#[derive(Debug, Drop)]
+#[derive(Drop)]
 pub enum Question {
     Get {
         key: KeyBytes,

@@ -8,7 +8,6 @@ use Rattle.plain_orders.specs.declared.item.Item.TheVariants.{Op, Commit, Rollba
 use Rattle.plain_orders.specs.declared.via.Via.{Via}
 use Rattle.plain_orders.specs.declared.via.Via.TheVariants.{Own, Cached, Fetched}
 use Rattle.subscript_keys.specs.declared.sub.Sub.{Sub}
-use Rattle.subscript_keys.specs.declared.sub.Sub.TheVariants.{Text}
 use Rattle.subscript_keys.specs.Key.{IsKey, IsWithinLimit, sub_bytes}
 use Rattle.plain_orders.specs.declared.question.Question.{Question}
 use Rattle.plain_orders.specs.declared.question.Question.TheVariants.{Get, Shape, Next}
@@ -89,35 +88,30 @@ pub record GetIs (s : Server) (app job n : ℕ) (via : Via) (key : List ℕ) (va
   pub by : is_own via ≡ touches_own (own_behind s app job n) key
   pub node : KeyMay key
 
--- data wants that the job's own updates have entered
-pub record DataIs (s : Server) (app job n : ℕ) (via : Via) (key : List ℕ) (code : ℕ) : Type 0 where
+-- a shape wants that the job's own updates have entered
+pub record ShapeIs (s : Server) (app job n : ℕ) (via : Via) (key : List ℕ) (code : ℕ) : Type 0 where
   pub result : code ≡ data_on (take n (told_order s app)) key
   pub by : is_own via ≡ false
   pub entered : own_behind s app job n ≡ []
   pub node : KeyMay key
 
--- the node that a next asks for; an empty last subscript is left out
+-- the node after which a next looks; before the first subscript it is the parent
 abbrev pub asked_key : List ℕ → Option Sub → List ℕ
 asked_key parent None = parent
 asked_key parent (Some sub) = parent ++ sub_bytes sub
 
--- the bytes that its limit counts, an empty last subscript among them
-abbrev pub asked_bytes : List ℕ → Option Sub → List ℕ
-asked_bytes parent None = parent ++ sub_bytes (Text [])
-asked_bytes parent (Some sub) = parent ++ sub_bytes sub
-
--- so does next, within the limit that counts an empty last subscript too
+-- so does next, and the node after which it looks is within the limit
 pub record NextIs (s : Server) (app job n : ℕ) (via : Via) (parent : List ℕ) (sub found : Option Sub) : Type 0 where
   pub result : IsNextOn (take n (told_order s app)) parent sub found
   pub by : is_own via ≡ false
   pub entered : own_behind s app job n ≡ []
   pub node : IsKey (asked_key parent sub)
-  pub within : IsWithinLimit (asked_bytes parent sub)
+  pub within : IsWithinLimit (asked_key parent sub)
 
 -- what a read is answered
 abbrev pub AnswerIs : Server → ℕ → ℕ → ℕ → Via → Question → Type 0
 AnswerIs s app job n via (Get key value) = GetIs s app job n via key value
-AnswerIs s app job n via (Shape key code) = DataIs s app job n via key code
+AnswerIs s app job n via (Shape key code) = ShapeIs s app job n via key code
 AnswerIs s app job n via (Next parent sub found) = NextIs s app job n via parent sub found
 
 -- a read is answered on a prefix that is no shorter than what the job has seen

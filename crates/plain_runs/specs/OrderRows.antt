@@ -1,5 +1,5 @@
 -- The rows on the order of a data server.
-use Rattle.std.specs.Prelude.{◌≡◌, ℕ, Bool, true, false, ◌==◌, ◌&&◌, ◌+◌, ◌-◌, ◌≤◌, ◌^◌, if◌then◌else◌, List, [], ◌∷◌, ◌++◌, length, take, drop, Option, Some, None, slice_get, map, is_some}
+use Rattle.std.specs.Prelude.{◌≡◌, ℕ, Bool, true, false, ◌==◌, ◌&&◌, ◌+◌, ◌-◌, ◌≤◌, if◌then◌else◌, List, [], ◌∷◌, ◌++◌, length, take, drop, Option, Some, None, slice_get, map, is_some}
 use Rattle.std.specs.List.{list_any, list_all}
 use Rattle.std.specs.Option.{option_map}
 use Rattle.plain_orders.specs.declared.entry.Entry.{Entry}
@@ -8,7 +8,8 @@ use Rattle.plain_orders.specs.declared.layout.Layout.{Layout}
 use Rattle.plain_orders.specs.declared.limits.TheConstants.{START_EPOCH_LIMIT}
 use Rattle.plain_orders.specs.Entries.{count, live, last_epoch, live_session}
 use Rattle.plain_orders.specs.Ordered.{IsOrdered}
-use Rattle.plain_runs.specs.Plain.{Server, put, current, until, issued_in, session_in}
+use Rattle.plain_orders.specs.Times.{until}
+use Rattle.plain_runs.specs.Plain.{Server, put, current, issued_in, session_in}
 use Rattle.plain_runs.specs.Items.{entry_of}
 use Rattle.plain_orders.specs.Sessions.{live_sessions, app_in, is_close}
 use Rattle.plain_runs.specs.Holds.{hold_after_crash, hold_after_back}

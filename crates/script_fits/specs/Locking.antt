@@ -10,7 +10,8 @@ use Rattle.app_job.specs.declared.answer.Answer.{Answer}
 use Rattle.app_job.specs.declared.answer.Answer.TheVariants.{Granted as GrantedAnswer, Done as DoneAnswer, Refused as RefusedAnswer}
 use Rattle.app_job.specs.declared.refusal.Refusal.TheVariants.{RollbackOnly as RollbackOnlyRefusal, LockTimeout as LockTimeoutRefusal}
 use Rattle.app_job.specs.Sites.{Site}
-use Rattle.plain_runs.specs.Plain.{Plain, Hold, app_of, pair_session, until}
+use Rattle.plain_orders.specs.Times.{until}
+use Rattle.plain_runs.specs.Plain.{Plain, Hold, app_of, pair_session}
 use Rattle.plain_runs.specs.JobRows.{has_session}
 use Rattle.plain_runs.specs.Holds.{is_sent_at, is_kept, is_lock}
 use Rattle.script_fits.specs.Moments.{Moment, acts_in, AreTogether, IsFree}

@@ -1,6 +1,12 @@
 use Rattle.std.proofs.lemmas.Result.{err_from_is_err_and}
+use Rattle.global_text.proofs.NodeParts.{key_within}
 use Rattle.job_script.proofs.NodeRefusals.{node_refused}
 use Rattle.job_script.proofs.node_parts.take_node.Goals as goal
+
+pub target_at-requires-clause-limit : goal.target_at-requires-clause-limit
+target_at-requires-clause-limit c =
+    let known = c.in_ok-server.field-0.front in
+    key_within (record { name = known.name; subs = known.subs }) c.in_ok-rest.ensures.ok.1.limit
 
 pub returns-in_err-target-clause-err : goal.returns-in_err-target-clause-err
 returns-in_err-target-clause-err c =
