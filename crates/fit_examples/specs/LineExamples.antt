@@ -7,7 +7,7 @@ use Rattle.app_job.specs.declared.answer.Answer.TheVariants.{Queued, Waiting}
 use Rattle.app_job.specs.declared.command.Command.TheVariants.{Set, Get}
 use Rattle.fit_examples.specs.Groups.{at_x, five, place, met, so_far, when_down, says, ended, Adds}
 use Rattle.plain_orders.specs.declared.entry.Entry.TheVariants.{Opened as OpenEntry}
-use Rattle.job_script.specs.declared.todo.Todo.TheVariants.{Job, Hold, Save, Pump, Tick as TickLine, Restart, Die}
+use Rattle.job_script.specs.declared.todo.Todo.TheVariants.{Crash as CrashLine, Job, Hold, Save, Pump, Tick as TickLine, Restart, Die}
 use Rattle.transcript.specs.declared.piece.Piece.TheVariants.{Pumped, Restarted, Halted, Gone}
 use Rattle.transcript.specs.declared.piece.Restarted.TheVariants.{Kept, DiskFault, NotAJournal, NotKept, NetFault, Running}
 use Rattle.app_job.specs.declared.why.Why.TheVariants.{State, Fetch, Grant as GrantWhy}
@@ -87,9 +87,15 @@ RestartExamples =
     -- another data server
     × (¬ Adds when_down (Restart 0) [] (Restarted 1 5 DiskFault ∷ []) [])
     -- a crash at a line that restarts nothing
-    × (¬ Adds when_down Hold (Crash 0 2 ∷ []) [] [])
+    × (¬ Adds (so_far met [] []) Hold (Crash 0 2 ∷ []) [] [])
     -- a word at a line that restarts nothing
     × (¬ Adds when_down Hold [] (Restarted 0 5 DiskFault ∷ []) [])
+    -- a data server that is down acts
+    × (¬ Adds when_down Hold (Synced 0 2 ∷ []) [] [])
+    -- a data server acts at the line that takes it down
+    × (¬ Adds (so_far met [] []) (CrashLine 0 7) (Synced 0 2 ∷ []) [] [])
+    -- one acts while another one is down
+    × Adds when_down Hold (Enter 1 (OpenEntry 3 1) ∷ []) [] []
 
 -- what a line prints
 abbrev pub PieceExamples : Type 0
@@ -119,15 +125,17 @@ PieceExamples =
     -- a job is gone at a line that is not one of its own
     × (¬ Adds (so_far (met ++ Died 0 ∷ []) [] []) Hold [] (Gone 0 5 ∷ []) [])
     -- a data server halts
-    × Adds (so_far met [] []) (Save 0) [] (Halted 0 5 ∷ []) []
+    × Adds (so_far (met ++ Enter 0 (OpenEntry 3 1) ∷ []) [] []) (Save 0) [] (Halted 0 5 ∷ []) []
     -- it halts twice
-    × (¬ Adds (so_far met [] []) (Save 0) [] (Halted 0 5 ∷ Halted 0 5 ∷ []) [])
+    × (¬ Adds (so_far (met ++ Enter 0 (OpenEntry 3 1) ∷ []) [] []) (Save 0) [] (Halted 0 5 ∷ Halted 0 5 ∷ []) [])
     -- it halts while it is down
-    × (¬ Adds when_down (Save 0) [] (Halted 0 5 ∷ []) [])
+    × (¬ Adds (record when_down { acts = met ++ Enter 0 (OpenEntry 3 1) ∷ [] }) (Save 0) [] (Halted 0 5 ∷ []) [])
     -- it halts at another line
-    × (¬ Adds (so_far met [] []) (Save 0) [] (Halted 0 6 ∷ []) [])
+    × (¬ Adds (so_far (met ++ Enter 0 (OpenEntry 3 1) ∷ []) [] []) (Save 0) [] (Halted 0 6 ∷ []) [])
     -- a foreign data server halts
     × (¬ Adds (so_far met [] []) (Save 0) [] (Halted 2 5 ∷ []) [])
+    -- a data server halts that has nothing unsaved
+    × (¬ Adds (so_far met [] []) (Save 0) [] (Halted 0 5 ∷ []) [])
     -- an answer
     × Adds (so_far met [] []) (Job 0 (Set at_x five)) (Issue 0 5 0 1 (OpItem (SetOp at_x.key five)) ∷ []) (says 5 (Queued (place 0 1 ∷ [])) ∷ []) (ended 5 (Queued (place 0 1 ∷ [])) 8 ∷ [])
     -- an answer of another line
