@@ -97,7 +97,7 @@ impl ScriptRun {
         requires stands { IsAtRest self.old }
         requires job { HasJob self.old.recorder.layout }
         requires here { IsHere at.now }
-        requires within { length value.now ≤ 3000 }
+        requires within { length value.now ≤ VALUE_LIMIT }
         ensures stands { OnOk result (IsAtRest self.new) }
         ensures layout { self.new.recorder.layout ≡ self.old.recorder.layout }
         ensures did { IfOk result (DidCommand self.old.recorder.layout line (Command.Set at.now value.now) self.old.recorder.acts self.new.recorder.acts) }
