@@ -289,9 +289,9 @@ job_more l j xs x command old new act answer ends d todo makes jobs = go (0 == j
         let (left, done) = jobs 0 in (
           past_after left (m ∷ []) left.held_back,
           moved l 0 (commands_of 0 xs ++ record { line = x.line; command = command } ∷ []) (commands_of 0 (xs ++ x ∷ [])) (moments_of 0 (moments l old) ++ m ∷ []) (moments_of 0 (moments l new)) (ended_of 0 ends ++ e ∷ []) (ended_of 0 (ends ++ e ∷ []))
-          (past_after left (m ∷ []) left.held_back) (commands_more 0 xs x (Job 0 command) todo) (line_moments l 0 x.line old new act d) (ended 0)
-          (AreDone-more l 0 no_past (commands_of 0 xs) (moments_of 0 (moments l old)) (ended_of 0 ends) left (record { line = x.line; command = command }) (m ∷ []) answer left.held_back done
-          (inl (makes_done l x.line command left m answer free makes))),
+              (past_after left (m ∷ []) left.held_back) (commands_more 0 xs x (Job 0 command) todo) (line_moments l 0 x.line old new act d) (ended 0)
+              (AreDone-more l 0 no_past (commands_of 0 xs) (moments_of 0 (moments l old)) (ended_of 0 ends) left (record { line = x.line; command = command }) (m ∷ []) answer left.held_back done
+              (inl (makes_done l x.line command left m answer free makes))),
         )
 
     other : (0 == j) ≡ false → Goal j
@@ -299,9 +299,9 @@ job_more l j xs x command old new act answer ends d todo makes jobs = go (0 == j
         let (left, done) = jobs j in (
           left,
           moved l j (commands_of j xs) (commands_of j (xs ++ x ∷ [])) (moments_of j (moments l old)) (moments_of j (moments l new)) (ended_of j ends) (ended_of j (ends ++ e ∷ [])) left
-          (commands_more j xs x (Job 0 command) todo ∙ ap (λ b. commands_of j xs ++ (if b then record { line = x.line; command = command } ∷ [] else [])) ne ∙ append-nil (commands_of j xs))
-          (line_moments l j x.line old new act d ∙ ap (λ b. moments_of j (moments l old) ++ (if b then line_moment l x.line old new act d ∷ [] else [])) ne ∙ append-nil (moments_of j (moments l old)))
-          (ended j ∙ ap (λ b. ended_of j ends ++ (if b then e ∷ [] else [])) ne ∙ append-nil (ended_of j ends)) done,
+              (commands_more j xs x (Job 0 command) todo ∙ ap (λ b. commands_of j xs ++ (if b then record { line = x.line; command = command } ∷ [] else [])) ne ∙ append-nil (commands_of j xs))
+              (line_moments l j x.line old new act d ∙ ap (λ b. moments_of j (moments l old) ++ (if b then line_moment l x.line old new act d ∷ [] else [])) ne ∙ append-nil (moments_of j (moments l old)))
+              (ended j ∙ ap (λ b. ended_of j ends ++ (if b then e ∷ [] else [])) ne ∙ append-nil (ended_of j ends)) done,
         )
 
     go : (b : Bool) → (0 == j) ≡ b → Goal j
