@@ -36,7 +36,7 @@ op_can (Add key amount) may = may.key_may.is_key
 -- an item of the job
 pub made_issue : (l : Layout) (line w : ℕ) (op : Op) → HasJob l → OpMay 0 op → IsMade l line (Issue 0 line 0 w (OpItem op))
 made_issue l line w op job may = record {
-  quiet = record { declared = (has_job l job, job.server); opened = refl; failed = refl; clock = refl; deaths = refl; crashes = refl; whole = λ c. refl; printed = op_can op may };
+  quiet = record { declared = (has_job l job, job.server); opened = refl; failed = refl; kept = refl; clock = refl; deaths = refl; crashes = refl; whole = λ c. refl; printed = op_can op may };
   job = refl;
   its_line = refl;
 }
@@ -49,7 +49,7 @@ question_can m (NextQuestion parent sub found) is = (is.3, is.4, is.5)
 -- a read of the job
 pub made_read : (l : Layout) (line at : ℕ) (via : Via) (m : Map) (question : Question) → HasJob l → IsAnswered m question → IsMade l line (Read 0 line 0 at via question)
 made_read l line at via m question job is = record {
-  quiet = record { declared = (has_job l job, job.server); opened = refl; failed = refl; clock = refl; deaths = refl; crashes = refl; whole = λ c. refl; printed = question_can m question is };
+  quiet = record { declared = (has_job l job, job.server); opened = refl; failed = refl; kept = refl; clock = refl; deaths = refl; crashes = refl; whole = λ c. refl; printed = question_can m question is };
   job = refl;
   its_line = refl;
 }
@@ -57,7 +57,7 @@ made_read l line at via m question job is = record {
 -- the update enters
 pub served_update : (l : Layout) (w : ℕ) (op : Op) → HasJob l → OpMay 0 op → IsServed l (Enter 0 (Update SESSION w 0 0 op))
 served_update l w op job may = record {
-  quiet = record { declared = (job.server, has_job l job); opened = refl; failed = refl; clock = refl; deaths = refl; crashes = refl; whole = λ c. refl; printed = op_can op may };
+  quiet = record { declared = (job.server, has_job l job); opened = refl; failed = refl; kept = refl; clock = refl; deaths = refl; crashes = refl; whole = λ c. refl; printed = op_can op may };
   job = refl;
   line = refl;
 }
@@ -65,7 +65,7 @@ served_update l w op job may = record {
 -- it is saved
 pub served_save : (l : Layout) (n : ℕ) → HasJob l → IsServed l (Synced 0 n)
 served_save l n job = record {
-  quiet = record { declared = job.server; opened = refl; failed = refl; clock = refl; deaths = refl; crashes = refl; whole = λ c. refl; printed = tt };
+  quiet = record { declared = job.server; opened = refl; failed = refl; kept = refl; clock = refl; deaths = refl; crashes = refl; whole = λ c. refl; printed = tt };
   job = refl;
   line = refl;
 }
@@ -73,7 +73,7 @@ served_save l n job = record {
 -- a session is opened
 pub served_open : (l : Layout) → HasJob l → IsServed l (Enter 0 (OpenedEntry SESSION 0))
 served_open l job = record {
-  quiet = record { declared = (job.server, job.app); opened = refl; failed = refl; clock = refl; deaths = refl; crashes = refl; whole = λ c. refl; printed = tt };
+  quiet = record { declared = (job.server, job.app); opened = refl; failed = refl; kept = refl; clock = refl; deaths = refl; crashes = refl; whole = λ c. refl; printed = tt };
   job = refl;
   line = refl;
 }
@@ -81,7 +81,7 @@ served_open l job = record {
 -- and met
 pub served_met : (l : Layout) → HasJob l → IsServed l (Met 0 0 SESSION)
 served_met l job = record {
-  quiet = record { declared = (job.app, job.server); opened = refl; failed = refl; clock = refl; deaths = refl; crashes = refl; whole = λ c. refl; printed = tt };
+  quiet = record { declared = (job.app, job.server); opened = refl; failed = refl; kept = refl; clock = refl; deaths = refl; crashes = refl; whole = λ c. refl; printed = tt };
   job = refl;
   line = refl;
 }

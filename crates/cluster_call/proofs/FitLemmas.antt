@@ -37,7 +37,7 @@ use Rattle.script_fits.specs.Lines.{LineAdds, LinesAdd, answer_line, tick_in, ti
 use Rattle.script_fits.specs.Breaks.{AreApart, Causes, LiesIn, no_causes, causes_after, range_of, with_causes}
 use Rattle.script_fits.specs.Fits.{AreRising, Fits, IsOpening}
 use Rattle.plain_runs.proofs.RunLemmas.{after_all-append}
-use Rattle.cluster_call.specs.Found.{found_of}
+use Rattle.cluster_call.specs.Stage.{IsUndisturbed, found_of, loss_of}
 use Rattle.cluster_call.specs.Running.{AllCanPrint, AddsAct, CanRun, DidCommand, DidTodo, HasJob, IsMade, IsQuiet, IsServed, Makes, TodoRuns, own_line, pieces_of}
 use Rattle.cluster_call.proofs.AddLemmas.{all_both}
 use Rattle.cluster_call.proofs.WalkLemmas.{walk, LinesAdd-more, walk-more, causes-more, whole_acts, none_of, all_so, moments-more, own_moment, own_moments, if_own, AreDone-more, AreDone-ends, AreRising-more}
@@ -59,6 +59,8 @@ pub record IsRunTo (l : Layout) (opening : List Act) (lines : List ScriptLine) (
   pub failed : flat_map range_of acts ≡ []
   pub opened : flat_map opened_in acts ≡ flat_map opened_in opening
   pub found : flat_map found_of acts ≡ flat_map found_of opening
+  pub kept : flat_map loss_of acts ≡ flat_map loss_of opening
+  pub all_answers : length (answers_in pieces) ≡ length pieces
   pub declared : AllByRecursion (IsDeclared l) acts
   pub printed : AllCanPrint acts
   pub answered : AllByRecursion CanPrintPiece pieces
@@ -85,6 +87,8 @@ run_none l opening declared printed failed none = record {
   failed = failed;
   opened = refl;
   found = refl;
+  kept = refl;
+  all_answers = refl;
   declared = declared;
   printed = printed;
   answered = tt;
@@ -361,6 +365,10 @@ job_line l opening xs x command old new pieces answer r todo job alive did =
       failed = ap (flat_map range_of) d.whole ∙ more_none l range_of old y.acts [] (λ a q. q.failed) quiet r.failed;
       opened = ap (flat_map opened_in) d.whole ∙ more_none l opened_in old y.acts (flat_map opened_in opening) (λ a q. q.opened) quiet r.opened;
       found = ap (flat_map found_of) d.whole ∙ more_none l found_of old y.acts (flat_map found_of opening) (λ a q. found_none a q.opened) quiet r.found;
+      kept = ap (flat_map loss_of) d.whole ∙ more_none l loss_of old y.acts (flat_map loss_of opening) (λ a q. q.kept) quiet r.kept;
+      all_answers =
+          omega
+          (arith, ap length (flat_map-append answer_in pieces y.pieces), length-append (answers_in pieces) (answers_in y.pieces), length-append pieces y.pieces, r.all_answers, ap length adds.answers);
       declared = subst (AllByRecursion (IsDeclared l)) (sym d.whole) (all_both (IsDeclared l) old y.acts r.declared (all_so (IsQuiet l) (IsDeclared l) y.acts (λ a q. q.declared) quiet));
       printed = subst AllCanPrint (sym d.whole) (all_both CanPrintAct old y.acts r.printed (all_so (IsQuiet l) CanPrintAct y.acts (λ a q. q.printed) quiet));
       answered = all_both CanPrintPiece pieces y.pieces r.answered (answer_can x.line command did.act answer did.makes d.its.quiet.printed, tt);
@@ -403,6 +411,8 @@ still_line l opening xs x job acts pieces r todo =
       failed = r.failed;
       opened = r.opened;
       found = r.found;
+      kept = r.kept;
+      all_answers = r.all_answers;
       declared = r.declared;
       printed = r.printed;
       answered = r.answered;
@@ -475,6 +485,15 @@ fits_all script opening out acts pieces begins openings once r t p = record {
     failed = subst (AllByRecursion (λ q. Any (LiesIn q) [])) (sym (ap (flat_map range_of) t ∙ r.failed)) tt;
     apart = subst AreApart (sym (ap (flat_map range_of) t ∙ r.failed)) tt;
   };
+}
+
+-- nothing came from outside
+pub undisturbed : (l : Layout) (opening : List Act) (lines : List ScriptLine) (out : Output) (acts : List Act) (pieces : List Piece) → flat_map found_of opening ≡ [] → flat_map loss_of opening ≡ [] → IsRunTo l opening lines acts pieces
+    → out.trail ≡ acts → out.pieces.items ≡ pieces → IsUndisturbed out
+undisturbed l opening lines out acts pieces fresh kept r t p = record {
+  fresh = ap (flat_map found_of) t ∙ r.found ∙ fresh;
+  kept = ap (flat_map loss_of) t ∙ r.kept ∙ kept;
+  answered = subst (λ ps. length (answers_in ps) ≡ length ps) (sym p) r.all_answers;
 }
 
 -- where there is no data server no line does anything

@@ -1,14 +1,13 @@
 -- What a call answers.
-use Rattle.std.proofs.Common.{◌≡◌, ◌≢◌, ◌⊎◌, ℕ, List, [], None, inl, inr, subst, sym, ◌∙◌}
+use Rattle.std.proofs.Common.{◌≡◌, ◌≢◌, ◌⊎◌, ℕ, List, None, inl, inr, subst, sym, ◌∙◌}
 use Rattle.std.specs.Io.KnownBytes.{Appends}
-use Rattle.std.specs.List.{flat_map}
 use Rattle.outer_io.specs.Told.{SourceTold, SinkStopped, HoldsFrontOf, WasPut}
 use Rattle.plain_runs.specs.Run.{IsRun}
 use Rattle.job_script.specs.declared.script.Script.{Script}
 use Rattle.script_fits.specs.declared.output.Output.{Output}
 use Rattle.script_fits.specs.Fits.{Fits}
 use Rattle.cluster_call.specs.Built.{first_unbuilt}
-use Rattle.cluster_call.specs.Found.{found_of}
+use Rattle.cluster_call.specs.Stage.{IsUndisturbed}
 use Rattle.cluster_call.specs.OutputText.{IsOutputText}
 use Rattle.cluster_call.specs.declared.status.Status.{Status}
 use Rattle.cluster_call.specs.declared.status.Status.TheVariants.{Ok, Usage, BadLine, UnknownName, NotBuilt, TooLarge, ReadFault, WriteFault, OutOfMemory}
@@ -34,9 +33,9 @@ Answers-refused o status result (inl e) because put front = subst (Answers o) (s
 Answers-refused o status result (inr e) because put front = subst (Answers o) (sym e) (inr (inl (status, record { because = because; put = front })))
 
 -- a script that was read and run
-pub has_run : (words : List (List ℕ)) (source : SourceTold) (script : Script) (out : Output) → HasRead words source script → first_unbuilt script ≡ None → IsRun script.layout out.trail → Fits script no_nets out → flat_map found_of out.trail ≡ []
+pub has_run : (words : List (List ℕ)) (source : SourceTold) (script : Script) (out : Output) → HasRead words source script → first_unbuilt script ≡ None → IsRun script.layout out.trail → Fits script no_nets out → IsUndisturbed out
     → RanScript words source no_nets script out
-has_run words source script out read built run fits fresh = record { read = read; built = built; run = run; fits = fits; fresh = fresh }
+has_run words source script out read built run fits calm = record { read = read; built = built; run = run; fits = fits; calm = calm }
 
 -- the output was put
 pub Answers-ran : (o : Outside) (script : Script) (out : Output) (text bytes : List ℕ) → RanScript o.words o.source no_nets script out → IsOutputText script out text → bytes ≡ text → Appends o.sink.held_before o.sink.held_after bytes → Answers o Ok

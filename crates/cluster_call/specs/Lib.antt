@@ -3,5 +3,5 @@ pub mod OutputText
 pub mod Outside
 pub mod Reading
 pub mod Running
+pub mod Stage
 pub mod StatusCauses
-pub mod Found

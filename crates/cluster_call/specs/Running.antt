@@ -37,6 +37,7 @@ use Rattle.script_fits.specs.Breaks.{Causes, after_act, range_of}
 use Rattle.script_fits.specs.Moments.{job_of}
 use Rattle.script_fits.specs.Naming.{IsDeclared, opened_in}
 use Rattle.script_fits.specs.Lines.{tick_in, death_in, crash_in, line_of}
+use Rattle.cluster_call.specs.Stage.{loss_of}
 use Rattle.cluster_call.specs.declared.script_run.ScriptRun.{ScriptRun}
 
 -- a node at the only data server
@@ -137,6 +138,7 @@ pub record IsQuiet (l : Layout) (a : Act) : Type 0 where
   pub declared : IsDeclared l a
   pub opened : opened_in a ≡ []
   pub failed : range_of a ≡ []
+  pub kept : loss_of a ≡ []
   pub clock : tick_in a ≡ []
   pub deaths : death_in a ≡ []
   pub crashes : crash_in a ≡ []

@@ -2,7 +2,6 @@
 use Rattle.std.specs.Prelude.{◌≡◌, ◌≢◌, ◌⊎◌, ℕ, ◌<◌, ◌≤◌, List, [], ◌∷◌, ◌++◌, length, slice_get, None, Some, IfSome, codes}
 use Rattle.std.specs.Fmt.{decimal}
 use Rattle.std.specs.Io.KnownBytes.{Appends}
-use Rattle.std.specs.List.{flat_map}
 use Rattle.outer_io.specs.Told.{SourceTold, SinkTold, IsReadToEnd, SourceFailed, SinkStopped, HoldsFrontOf, WasPut}
 use Rattle.plain_runs.specs.Run.{IsRun}
 use Rattle.job_script.specs.declared.limits.TheConstants.{LINE_LIMIT}
@@ -18,7 +17,7 @@ use Rattle.cluster_call.specs.declared.limits.TheConstants.{TEXT_LIMIT}
 use Rattle.cluster_call.specs.declared.status.Status.{Status}
 use Rattle.cluster_call.specs.declared.status.Status.TheVariants.{Ok, Usage, BadLine, UnknownName, NotBuilt, TooLarge, ReadFault, WriteFault, OutOfMemory}
 use Rattle.cluster_call.specs.Built.{first_unbuilt}
-use Rattle.cluster_call.specs.Found.{found_of}
+use Rattle.cluster_call.specs.Stage.{IsUndisturbed}
 use Rattle.cluster_call.specs.OutputText.{IsOutputText}
 use Rattle.cluster_call.specs.Outside.{Outside}
 
@@ -78,13 +77,13 @@ abbrev pub no_nets : List NetCounts
 no_nets = []
 
 -- The script was read to its end, each line of it is built, its trail is a run of the plain machine, it fits the output where the nets
--- counted this, and its data servers begin empty. These parts are said of every net; what asks for a net that tells comes after them.
+-- counted this, and nothing comes from outside yet. These parts are said of every net; what asks for a net that tells comes after them.
 pub record RanScript (words : List (List ℕ)) (source : SourceTold) (nets : List NetCounts) (script : Script) (out : Output) : Type 0 where
   pub read : HasRead words source script
   pub built : first_unbuilt script ≡ None
   pub run : IsRun script.layout out.trail
   pub fits : Fits script nets out
-  pub fresh : flat_map found_of out.trail ≡ []
+  pub calm : IsUndisturbed out
 
 -- the sink took the whole printed output
 abbrev pub TookOutput : SinkTold → Script → Output → Type 0

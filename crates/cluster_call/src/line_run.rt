@@ -5,7 +5,7 @@ ghost use Rattle.std.specs.Option.{option_to_list};
 ghost use Rattle.plain_runs.specs.Run.{IsRun};
 ghost use Rattle.transcript.specs.PieceText.{CanPrintPiece};
 ghost use Rattle.script_fits.specs.Fits.{Fits};
-ghost use Rattle.cluster_call.specs.Found.{found_of};
+ghost use Rattle.cluster_call.specs.Stage.{IsUndisturbed};
 ghost use Rattle.cluster_call.specs.Running.{AllCanPrint, CanRun, CommandRuns, DidCommand, DidTodo, HasJob, IsAtRest, TodoRuns, pieces_of};
 
 use crate::copies::copy_layout;
@@ -102,7 +102,7 @@ pub fn run_script(alloc: Global, script: &Script) -> Result<Output, AllocError>
     requires { CanRun script.now }
     ensures run { IfOk result (λ out. IsRun script.now.layout out.trail) }
     ensures fits { IfOk result (λ out. Fits script.now [] out) }
-    ensures fresh { IfOk result (λ out. flat_map found_of out.trail ≡ []) }
+    ensures calm { IfOk result IsUndisturbed }
     ensures printed { IfOk result (λ out. AllCanPrint out.trail) }
     ensures answered { IfOk result (λ out. AllByRecursion CanPrintPiece out.pieces.items) }
 {

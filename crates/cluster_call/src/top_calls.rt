@@ -6,7 +6,7 @@ ghost use Rattle.plain_runs.specs.Run.{IsRun};
 ghost use Rattle.script_fits.specs.declared.output.Output.{Output};
 ghost use Rattle.script_fits.specs.Fits.{Fits};
 ghost use Rattle.cluster_call.specs.Built.{first_unbuilt};
-ghost use Rattle.cluster_call.specs.Found.{found_of};
+ghost use Rattle.cluster_call.specs.Stage.{IsUndisturbed};
 ghost use Rattle.cluster_call.specs.OutputText.{IsOutputText};
 ghost use Rattle.cluster_call.specs.Outside.{outside};
 ghost use Rattle.cluster_call.specs.Running.{CanRun};
@@ -127,7 +127,7 @@ fn output_text(alloc: Global, script: &Script) -> Result<Vec<u8>, AllocError>
     requires { CanRun script.now }
     ensures { IfOk result (λ text. (out : Output) × IsOutputText script.now out text.items ×
         IsRun script.now.layout out.trail × Fits script.now no_nets out ×
-        (flat_map found_of out.trail ≡ [])) }
+        IsUndisturbed out) }
 {
     let output = run_script(alloc, script)?;
     let text = print_output(alloc, script, &output)?;

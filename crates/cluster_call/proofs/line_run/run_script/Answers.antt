@@ -1,12 +1,15 @@
-use Rattle.std.proofs.Common.{◌≡◌, ◌+◌, false, [], ◌∷◌, List, take, All, refl, sym, subst, ◌∙◌, arith}
+use Rattle.std.proofs.Common.{ap, ◌≡◌, ◌+◌, false, [], ◌∷◌, List, length, take, All, refl, sym, subst, ◌∙◌, arith}
 use Rattle.std.specs.Option.{option_to_list}
 use Rattle.plain_orders.specs.declared.act.Act.TheVariants.{Opened}
 use Rattle.plain_orders.specs.declared.layout.Layout.{Layout}
 use Rattle.plain_runs.specs.Run.{state_after}
 use Rattle.job_script.specs.declared.script_line.ScriptLine.{ScriptLine}
 use Rattle.transcript.specs.declared.piece.Piece.{Piece}
+use Rattle.std.specs.List.{flat_map}
+use Rattle.script_fits.specs.Pieces.{answers_in}
 use Rattle.cluster_call.specs.Running.{DidTodo, TodoRuns}
-use Rattle.cluster_call.proofs.FitLemmas.{IsRunTo, fits_none, fits_one, one_runs, run_more, taken_all}
+use Rattle.cluster_call.specs.Stage.{found_of, loss_of}
+use Rattle.cluster_call.proofs.FitLemmas.{IsRunTo, fits_none, fits_one, one_runs, run_more, taken_all, undisturbed}
 use Rattle.cluster_call.proofs.line_run.run_script.Goals as goal
 
 pub returns-then-script-eq0-clause-fits : goal.returns-then-script-eq0-clause-fits
@@ -32,3 +35,11 @@ returns-clause-fits c =
     (subst (λ (xs : List ScriptLine). IsRunTo c.args.script.now.layout (Opened 0 [] ∷ []) xs c.loop-line.run.recorder.acts c.loop-line.pieces.items)
     (taken_all c.as_slice-line-items.result.now c.loop-line.line-index (omega arith) ∙ c.as_slice-line-items.ensures) c.loop-line.invariant.0)
     c.into_parts-trail.ensures.acts refl
+
+pub returns-then-script-eq0-clause-calm : goal.returns-then-script-eq0-clause-calm
+returns-then-script-eq0-clause-calm c =
+    record { fresh = ap (flat_map found_of) c.new-then-script-eq0.ensures; kept = ap (flat_map loss_of) c.new-then-script-eq0.ensures; answered = subst (λ (ps : List Piece). length (answers_in ps) ≡ length ps) (sym c.new.ensures.items) refl }
+
+pub returns-clause-calm : goal.returns-clause-calm
+returns-clause-calm c =
+    undisturbed c.args.script.now.layout (Opened 0 [] ∷ []) (take c.loop-line.line-index c.as_slice-line-items.result.now) _ c.loop-line.run.recorder.acts c.loop-line.pieces.items refl refl c.loop-line.invariant.0 c.into_parts-trail.ensures.acts refl
