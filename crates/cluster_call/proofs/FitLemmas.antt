@@ -1,6 +1,6 @@
 -- A script that fits its output.
-use Rattle.std.proofs.Common.{◌≡◌, ◌≢◌, ℕ, zero, suc, add-one, ◌+◌, ◌<◌, ◌≤◌, Bool, true, false, ◌==◌, if◌then◌else◌, List, [], ◌∷◌, ◌++◌, length, take, All, None, map, refl, sym, ap, ◌∙◌, subst, append-nil, append_assoc, inl, inr, arith, get_or, length-append}
-use Rattle.std.specs.List.{flat_map, filter, range_with_len, AllByRecursion}
+use Rattle.std.proofs.Common.{Option, None, Some, ◌≡◌, ◌≢◌, ℕ, zero, suc, add-one, ◌+◌, ◌<◌, ◌≤◌, Bool, true, false, ◌==◌, if◌then◌else◌, List, [], ◌∷◌, ◌++◌, length, take, All, None, map, refl, sym, ap, ◌∙◌, subst, append-nil, append_assoc, inl, inr, arith, get_or, length-append, ◌||◌, ◌&&◌, not}
+use Rattle.std.specs.List.{flat_map, filter, range_with_len, AllByRecursion, list_any}
 use Rattle.std.specs.Prelude.{Any, IfSome, slice_get, slice_index_or}
 use Rattle.std.proofs.lemmas.Bool.{eqb-true}
 use Rattle.std.proofs.lemmas.Grind.{flat_map-append}
@@ -30,10 +30,10 @@ use Rattle.script_fits.specs.Moments.{Moment, moments, moments_from, moments_of,
 use Rattle.script_fits.specs.Locking.{Past, no_past}
 use Rattle.script_fits.specs.Commands.{Whole}
 use Rattle.script_fits.specs.JobLines.{CommandLine, Ended, AreDone, command_of, commands_of, ended_of, end_of, past_after}
-use Rattle.script_fits.specs.Pieces.{answers_in, answer_in, has_wait, if_waiting, unless_waiting, why_of}
+use Rattle.script_fits.specs.Pieces.{answers_in, answer_in, has_wait, if_waiting, unless_waiting, why_of, halt_in}
 use Rattle.script_fits.specs.Naming.{IsDeclared, opened_in}
-use Rattle.script_fits.specs.Walk.{Added, SoFar, after_opening, down_after, with_line}
-use Rattle.script_fits.specs.Lines.{LineAdds, LinesAdd, answer_line, tick_in, ticks_of, death_in, deaths_of, crash_in, gone_of, unsaved, ArePumps, AreRestarts, IsNoLater, IsAccounted}
+use Rattle.script_fits.specs.Walk.{Added, SoFar, after_opening, down_after, with_line, down_at, is_halted, is_up_piece}
+use Rattle.script_fits.specs.Lines.{LineAdds, LinesAdd, answer_line, tick_in, ticks_of, death_in, deaths_of, crash_in, gone_of, unsaved, ArePumps, AreRestarts, IsNoLater, IsAccounted, IsOfRunning, doer_of, is_still}
 use Rattle.script_fits.specs.Breaks.{AreApart, Causes, LiesIn, no_causes, causes_after, range_of, with_causes}
 use Rattle.script_fits.specs.Fits.{AreRising, Fits, IsOpening}
 use Rattle.plain_runs.proofs.RunLemmas.{after_all-append}
@@ -51,6 +51,7 @@ pub record IsRunTo (l : Layout) (opening : List Act) (lines : List ScriptLine) (
   pub so_acts : (walk (after_opening opening) lines added).acts ≡ acts
   pub so_pieces : (walk (after_opening opening) lines added).pieces ≡ pieces
   pub so_ends : (walk (after_opening opening) lines added).ends ≡ ends
+  pub up : (d : ℕ) → (walk (after_opening opening) lines added).down d ≡ false
   pub trail : acts ≡ opening ++ flat_map (λ (a : Added). a.acts) added
   pub all_pieces : pieces ≡ flat_map (λ (a : Added). a.pieces) added
   pub all_ends : ends ≡ flat_map (λ (a : Added). a.ends) added
@@ -76,6 +77,7 @@ run_none l opening declared printed failed none = record {
   so_acts = refl;
   so_pieces = refl;
   so_ends = refl;
+  up = λ d. refl;
   trail = sym (append-nil opening);
   all_pieces = refl;
   all_ends = refl;
@@ -167,12 +169,28 @@ none_open cs n P same = subst (λ o. IfSome o P) (sym (slice_get_past cs n (omeg
 all_told : (l : Layout) (s : SoFar) (j : ℕ) → length (ended_of j s.ends) ≡ length (commands_of j s.lines) → IsAccounted l s j
 all_told l s j counted = inr (none_open (commands_of j s.lines) (length (ended_of j s.ends)) (λ c. has_wait j c.line s.pieces ≡ true) counted)
 
+-- what is so of every data server is so of the one that acts
+of_any : (o : Option ℕ) (P : ℕ → Type 0) → ((d : ℕ) → P d) → IfSome o P
+of_any None P all = tt
+of_any (Some d) P all = all d
+
+-- where all servers are up, a command's line stops none
+none_still : (down : ℕ → Bool) (todo : Todo) (command : Command) → todo ≡ Job 0 command → ((d : ℕ) → down d ≡ false) → (d : ℕ) → is_still down todo d ≡ false
+none_still down todo command e up d = ap (λ t. is_still down t d) e ∙ ap (λ b. (b && not false) || false) (up d)
+
+-- they stay up
+up_after : (down : ℕ → Bool) (todo : Todo) (command : Command) (pieces : List Piece) → todo ≡ Job 0 command → ((d : ℕ) → flat_map halt_in pieces ≡ []) → ((d : ℕ) → list_any (is_up_piece d) pieces ≡ false) → ((d : ℕ) → down d ≡ false)
+    → (d : ℕ) → down_after down todo pieces d ≡ false
+up_after down todo command pieces e halts ups up d =
+    ap (λ t. down_after down t pieces d) e ∙ ap (λ hs. is_halted d hs || down_at down (Job 0 command) pieces d) (halts d)
+    ∙ ap (λ b. if b then false else (down d || false)) (ups d) ∙ ap (λ b. b || false) (up d)
+
 -- a line whose command is done at once
 job_adds : (l : Layout) (s : SoFar) (x : ScriptLine) (command : Command) (old new : List Act) (act : Act) (answer : Answer) → (d : AddsAct l x.line old new act) → s.acts ≡ old → x.todo ≡ Job 0 command → HasJob l
-    → (state_after l old).died_at 0 ≡ false → Makes x.line command act answer
+    → (state_after l old).died_at 0 ≡ false → ((d : ℕ) → s.down d ≡ false) → Makes x.line command act answer
     → ((j : ℕ) → IsAccounted l (with_line s x (line_added l x.line old new act answer d)) j)
     → LineAdds l s x (line_added l x.line old new act answer d)
-job_adds l s x command old new act answer d at todo job alive makes told =
+job_adds l s x command old new act answer d at todo job alive up makes told =
     let quiet : AllByRecursion (IsQuiet l) (d.before ++ act ∷ d.after) = line_quiet l x.line old new act d in
     let silent : why_of answer ≡ None = no_why x.line command act answer makes in
     record {
@@ -183,6 +201,9 @@ job_adds l s x command old new act answer d at todo job alive makes told =
       opened = none_of (IsQuiet l) opened_in (d.before ++ act ∷ d.after) (λ a q. q.opened) quiet;
       restarts = subst (λ t. AreRestarts s.down x.line t [] (d.before ++ act ∷ d.after)) (sym todo) (refl, none_of (IsQuiet l) crash_in (d.before ++ act ∷ d.after) (λ a q. q.crashes) quiet);
       halts = tt;
+      still =
+          all_so (IsQuiet l) (IsOfRunning s.down x.todo) (d.before ++ act ∷ d.after)
+          (λ a q. of_any (doer_of a) (λ e. is_still s.down x.todo e ≡ false) (none_still s.down x.todo command todo up)) quiet;
       pumps = subst (λ t. ArePumps (unsaved l (state_after l (s.acts ++ (d.before ++ act ∷ d.after))) (down_after s.down x.todo (Answered (own_line x.line answer) ∷ []))) x.line t []) (sym todo) refl;
       gone =
           sym
@@ -215,6 +236,7 @@ still_adds l s x job todo told = record {
   opened = refl;
   restarts = subst (λ t. AreRestarts s.down x.line t [] []) (sym todo) (refl, refl);
   halts = tt;
+  still = tt;
   pumps = subst (λ t. ArePumps (unsaved l (state_after l (s.acts ++ [])) (down_after s.down x.todo [])) x.line t []) (sym todo) refl;
   gone = ap (gone_of l (state_after l s.acts) x.line) (sym todo);
   given = tt;
@@ -267,9 +289,9 @@ job_more l j xs x command old new act answer ends d todo makes jobs = go (0 == j
         let (left, done) = jobs 0 in (
           past_after left (m ∷ []) left.held_back,
           moved l 0 (commands_of 0 xs ++ record { line = x.line; command = command } ∷ []) (commands_of 0 (xs ++ x ∷ [])) (moments_of 0 (moments l old) ++ m ∷ []) (moments_of 0 (moments l new)) (ended_of 0 ends ++ e ∷ []) (ended_of 0 (ends ++ e ∷ []))
-          (past_after left (m ∷ []) left.held_back) (commands_more 0 xs x (Job 0 command) todo) (line_moments l 0 x.line old new act d) (ended 0)
-          (AreDone-more l 0 no_past (commands_of 0 xs) (moments_of 0 (moments l old)) (ended_of 0 ends) left (record { line = x.line; command = command }) (m ∷ []) answer left.held_back done
-          (inl (makes_done l x.line command left m answer free makes))),
+              (past_after left (m ∷ []) left.held_back) (commands_more 0 xs x (Job 0 command) todo) (line_moments l 0 x.line old new act d) (ended 0)
+              (AreDone-more l 0 no_past (commands_of 0 xs) (moments_of 0 (moments l old)) (ended_of 0 ends) left (record { line = x.line; command = command }) (m ∷ []) answer left.held_back done
+              (inl (makes_done l x.line command left m answer free makes))),
         )
 
     other : (0 == j) ≡ false → Goal j
@@ -277,9 +299,9 @@ job_more l j xs x command old new act answer ends d todo makes jobs = go (0 == j
         let (left, done) = jobs j in (
           left,
           moved l j (commands_of j xs) (commands_of j (xs ++ x ∷ [])) (moments_of j (moments l old)) (moments_of j (moments l new)) (ended_of j ends) (ended_of j (ends ++ e ∷ [])) left
-          (commands_more j xs x (Job 0 command) todo ∙ ap (λ b. commands_of j xs ++ (if b then record { line = x.line; command = command } ∷ [] else [])) ne ∙ append-nil (commands_of j xs))
-          (line_moments l j x.line old new act d ∙ ap (λ b. moments_of j (moments l old) ++ (if b then line_moment l x.line old new act d ∷ [] else [])) ne ∙ append-nil (moments_of j (moments l old)))
-          (ended j ∙ ap (λ b. ended_of j ends ++ (if b then e ∷ [] else [])) ne ∙ append-nil (ended_of j ends)) done,
+              (commands_more j xs x (Job 0 command) todo ∙ ap (λ b. commands_of j xs ++ (if b then record { line = x.line; command = command } ∷ [] else [])) ne ∙ append-nil (commands_of j xs))
+              (line_moments l j x.line old new act d ∙ ap (λ b. moments_of j (moments l old) ++ (if b then line_moment l x.line old new act d ∷ [] else [])) ne ∙ append-nil (moments_of j (moments l old)))
+              (ended j ∙ ap (λ b. ended_of j ends ++ (if b then e ∷ [] else [])) ne ∙ append-nil (ended_of j ends)) done,
         )
 
     go : (b : Bool) → (0 == j) ≡ b → Goal j
@@ -316,7 +338,7 @@ job_line l opening xs x command old new pieces answer r todo job alive did =
     let quiet : AllByRecursion (IsQuiet l) y.acts = line_quiet l x.line old new did.act d in
     let jobs : ((j : ℕ) → (left : Past) × AreDone l j no_past (commands_of j (xs ++ x ∷ [])) (moments_of j (moments l new)) (ended_of j (r.ends ++ e ∷ [])) left) =
     (λ j. job_more l j xs x command old new did.act answer r.ends d todo did.makes r.jobs) in
-    let adds : LineAdds l s x y = job_adds l s x command old new did.act answer d r.so_acts todo job alive did.makes (told_more l s x y xs r.ends r.so_lines r.so_ends (counted l (xs ++ x ∷ []) new (r.ends ++ e ∷ []) jobs)) in
+    let adds : LineAdds l s x y = job_adds l s x command old new did.act answer d r.so_acts todo job alive r.up did.makes (told_more l s x y xs r.ends r.so_lines r.so_ends (counted l (xs ++ x ∷ []) new (r.ends ++ e ∷ []) jobs)) in
     let walked : walk (after_opening opening) (xs ++ x ∷ []) (r.added ++ y ∷ []) ≡ with_line s x y = walk-more l (after_opening opening) xs r.added x y r.lines_add in
     record {
       added = r.added ++ y ∷ [];
@@ -326,6 +348,7 @@ job_line l opening xs x command old new pieces answer r todo job alive did =
       so_acts = ap (λ (w : SoFar). w.acts) walked ∙ ap (λ acts. acts ++ y.acts) r.so_acts ∙ sym d.whole;
       so_pieces = ap (λ (w : SoFar). w.pieces) walked ∙ ap (λ ps. ps ++ y.pieces) r.so_pieces;
       so_ends = ap (λ (w : SoFar). w.ends) walked ∙ ap (λ es. es ++ e ∷ []) r.so_ends;
+      up = λ k. ap (λ (w : SoFar). w.down k) walked ∙ up_after s.down x.todo command y.pieces todo (λ i. refl) (λ i. refl) r.up k;
       trail =
           d.whole ∙ ap (λ acts. acts ++ y.acts) r.trail ∙ append_assoc opening (flat_map (λ (a : Added). a.acts) r.added) y.acts
           ∙ ap (λ acts. opening ++ acts) (sym (added_more (λ (a : Added). a.acts) r.added y));
@@ -372,6 +395,7 @@ still_line l opening xs x job acts pieces r todo =
       so_acts = ap (λ (w : SoFar). w.acts) walked ∙ append-nil s.acts ∙ r.so_acts;
       so_pieces = ap (λ (w : SoFar). w.pieces) walked ∙ append-nil s.pieces ∙ r.so_pieces;
       so_ends = ap (λ (w : SoFar). w.ends) walked ∙ append-nil s.ends ∙ r.so_ends;
+      up = λ k. ap (λ (w : SoFar). w.down k) walked ∙ ap (λ t. down_after s.down t [] k) todo ∙ ap (λ b. b || false) (r.up k);
       trail = r.trail ∙ ap (λ acts. opening ++ acts) (sym (added_more (λ (a : Added). a.acts) r.added y ∙ append-nil (flat_map (λ (a : Added). a.acts) r.added)));
       all_pieces = r.all_pieces ∙ sym (added_more (λ (a : Added). a.pieces) r.added y ∙ append-nil (flat_map (λ (a : Added). a.pieces) r.added));
       all_ends = r.all_ends ∙ sym (added_more (λ (a : Added). a.ends) r.added y ∙ append-nil (flat_map (λ (a : Added). a.ends) r.added));

@@ -2,14 +2,13 @@
 use Rattle.std.specs.Prelude.{◌≡◌, ℕ, ◌<◌, ◌≤◌, Bool, true, false, List, [], ◌∷◌, ◌++◌, length, Some, None, IfSome, All, map}
 use Rattle.std.specs.List.{AllByRecursion}
 use Rattle.plain_orders.specs.declared.act.Act.{Act}
-use Rattle.plain_orders.specs.declared.act.Act.TheVariants.{Opened}
-use Rattle.plain_orders.specs.declared.entry.Entry.{Entry}
 use Rattle.plain_orders.specs.declared.entry.Entry.TheVariants.{Epoch}
 use Rattle.plain_orders.specs.declared.item.Item.TheVariants.{Op as OpItem}
 use Rattle.plain_orders.specs.declared.layout.Layout.{Layout}
 use Rattle.plain_orders.specs.declared.op.Op.TheVariants.{Set as SetOp, Kill as KillOp}
 use Rattle.plain_orders.specs.Entries.{count, live}
 use Rattle.plain_orders.specs.Fold.{Folded, fold}
+use Rattle.subscript_keys.specs.declared.limits.TheConstants.{VALUE_LIMIT}
 use Rattle.subscript_keys.specs.Key.{IsKey, IsSub, IsWithinLimit}
 use Rattle.plain_orders.specs.declared.question.Question.{Question}
 use Rattle.plain_orders.specs.declared.question.Question.TheVariants.{Get as GetQuestion, Shape as ShapeQuestion, Next as NextQuestion}
@@ -46,7 +45,7 @@ IsHere at = (at.server ≡ 0) × IsSite at
 
 -- a command that can be run
 abbrev pub CommandRuns : Command → Type 0
-CommandRuns (Set at value) = IsHere at × (length value ≤ 3000)
+CommandRuns (Set at value) = IsHere at × (length value ≤ VALUE_LIMIT)
 CommandRuns (Kill at) = IsHere at
 CommandRuns (Get at) = IsHere at
 CommandRuns (Shape at) = IsHere at

@@ -1,5 +1,6 @@
 //! Sets and kills of a run.
 ghost use Rattle.std.specs.Prelude.{◌≡◌, ◌+◌, ◌<◌, ◌≤◌, ◌^◌, ◌-◌, true, [], ◌∷◌, OnOk, IfOk, length};
+ghost use Rattle.subscript_keys.specs.declared.limits.TheConstants.{VALUE_LIMIT};
 ghost use Rattle.plain_orders.specs.Ordered.{OpMay};
 ghost use Rattle.plain_runs.specs.Items.{is_change_op};
 ghost use Rattle.cluster_call.specs.Running.{AddsAct, DidCommand, HasJob, IsAtRest, IsHere};
@@ -57,7 +58,7 @@ impl ScriptRun {
         Ok(())
     }
 
-    /// The same, where a number at its type's end is answered as want of memory. Answers the update's running
+    /// The same, where a number at its type's end is answered as out of memory. Answers the update's running
     /// number.
     fn issue(&mut self, alloc: Global, line: u32, op: Op) -> Result<Answer, AllocError>
         requires met { self.old.is_connected ≡ true }
@@ -97,7 +98,7 @@ impl ScriptRun {
         requires stands { IsAtRest self.old }
         requires job { HasJob self.old.recorder.layout }
         requires here { IsHere at.now }
-        requires within { length value.now ≤ 3000 }
+        requires within { length value.now ≤ VALUE_LIMIT }
         ensures stands { OnOk result (IsAtRest self.new) }
         ensures layout { self.new.recorder.layout ≡ self.old.recorder.layout }
         ensures did { IfOk result (DidCommand self.old.recorder.layout line (Command.Set at.now value.now) self.old.recorder.acts self.new.recorder.acts) }

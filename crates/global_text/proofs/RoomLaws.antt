@@ -59,13 +59,13 @@ every-front p (c ∷ text) more all = (all.0, every-front p text more all.1)
 pub room-front : (room : Room) (text more : List ℕ) → HasRoom room (text ++ more) → HasRoom room text
 room-front Value text more h = omega (arith, h, length-append text more)
 room-front (SubRoom key) text more (inl (all, short)) = inl (every-front is_number_byte text more all, omega (arith, short, length-append text more))
-room-front (SubRoom key) text more (inr h) = inr (omega (arith, h, escaped-front text more))
+room-front (SubRoom key) text more (inr h) = inr (omega (arith, h, escaped-front text more, text-length text, text-length (text ++ more)))
 
 -- a string that has room is within the room's limit
 pub room_short : (room : Room) (text : List ℕ) → HasRoom room text → length text ≤ room_limit room
 room_short Value text h = h
 room_short (SubRoom key) text (inl (all, short)) = omega (arith, short)
-room_short (SubRoom key) text (inr h) = omega (arith, h, escaped-longer text)
+room_short (SubRoom key) text (inr h) = omega (arith, h, escaped-longer text, text-length text)
 
 -- a subscript for which a key has room has a string for which it has
 pub sub-room : (key : ℕ) (s : Sub) → HasForm s → key + sub_size s ≤ 500 → HasRoom (SubRoom key) (sub_string s)
@@ -73,7 +73,7 @@ sub-room key (Num d) p h =
     let canonical = text_is_canonical d p in
     inl (number-bytes (decimal_text d) (number-of-any (decimal_text d) canonical), omega (arith, number-short (decimal_text d) canonical))
 sub-room key (Text []) p h = inl (tt, omega arith)
-sub-room key (Text (b ∷ text)) p h = inr (omega (arith, h, text-length (b ∷ text)))
+sub-room key (Text (b ∷ text)) p h = inr h
 
 -- a text with nothing after the bytes of a number
 pub all-number : (text token rest : List ℕ) → text ≡ token ++ rest → Every is_number_byte token → rest ≡ [] → Every is_number_byte text

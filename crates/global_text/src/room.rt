@@ -1,7 +1,7 @@
 //! How many bytes of a string have room.
 ghost use Rattle.std.specs.Prelude.{◌≡◌, ◌≤◌, ◌+◌, ◌↔◌, length, IsTrue};
 ghost use Rattle.subscript_keys.specs.declared.limits.TheConstants.{KEY_LIMIT};
-ghost use Rattle.subscript_keys.specs.Key.{escaped};
+ghost use Rattle.subscript_keys.specs.Key.{text_bytes};
 ghost use Rattle.global_text.specs.Rooms.{MayBeNumber, HasRoom, room_limit};
 
 use crate::number_form::split_number;
@@ -19,9 +19,6 @@ pub enum Room {
 /// How many characters a number has at most that is no text: a sign, a point and its digits.
 const NUMBER_ROOM: usize = DIGIT_LIMIT + 2;
 
-/// How many bytes end a text in a key.
-const TEXT_END: usize = 2;
-
 /// Whether a string may turn out to be the number of a subscript.
 fn may_be_number(string: &[u8]) -> bool
     ensures { IsTrue result ↔ MayBeNumber string.now }
@@ -33,17 +30,14 @@ fn may_be_number(string: &[u8]) -> bool
     string.len() <= NUMBER_ROOM
 }
 
-/// Whether a key of this length has room for a tag and the bytes of a text.
+/// Whether a key of this length has room for a text.
 fn has_text_room(key: usize, string: &[u8]) -> bool
-    ensures { IsTrue result ↔ (key + 1 + length (escaped string.now) ≤ KEY_LIMIT) }
+    ensures { IsTrue result ↔ (key + length (text_bytes string.now) ≤ KEY_LIMIT) }
 {
     if string.len() > KEY_LIMIT {
         return false;
     }
-    if text_length(string) > (KEY_LIMIT + TEXT_END).saturating_sub(key) {
-        return false;
-    }
-    true
+    text_length(string) <= KEY_LIMIT.saturating_sub(key)
 }
 
 /// Whether the bytes of a string have room.

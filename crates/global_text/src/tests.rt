@@ -250,7 +250,7 @@ fn the_limits_are_the_formats(rt: HostRuntime) {
             Err(error) => assert_eq!(rt; name_of(&error), want, "{count} times {piece:?}"),
         }
     }
-    let nodes: [(&[u8], &[u8], usize, &[u8], &str); 9] = [
+    let nodes: [(&[u8], &[u8], usize, &[u8], &str); 16] = [
         (b"^x(\"", b"a", 495, b"\")", "read"),
         (b"^x(\"", b"a", 496, b"\")", "KeyTooLong"),
         (b"^x(\"", b"a", 496, b"\"b)", "KeyTooLong"),
@@ -260,6 +260,13 @@ fn the_limits_are_the_formats(rt: HostRuntime) {
         (b"^x(\"", b"\\00", 247, b"\")", "read"),
         (b"^x(\"", b"\\00", 248, b"\")", "KeyTooLong"),
         (b"^x(0", b",0", 498, b")", "KeyTooLong"),
+        (b"^x(\"", b"a", 495, b"", "Unclosed"),
+        (b"^x(\"", b"a", 496, b"", "KeyTooLong"),
+        (b"^x(\"", b"\\00", 247, b"", "Unclosed"),
+        (b"^x(\"", b"\\00", 248, b"", "KeyTooLong"),
+        (b"^x(0", b",0", 497, b",\"\"", "Unclosed"),
+        (b"^x(0", b",0", 497, b",\"b", "KeyTooLong"),
+        (b"^x(0", b",0", 497, b",\"1", "Unclosed"),
     ];
     for (front, piece, count, back, want) in nodes {
         let text = repeated(rt.alloc(), front, piece, count, back).expect(&rt, "memory");

@@ -3,7 +3,7 @@ use Rattle.std.proofs.Common.{◌≡◌, ◌⊎◌, sym, ◌∙◌, inl, inr}
 use Rattle.job_script.specs.declared.line_fault.LineFault.{LineFault}
 use Rattle.job_script.specs.Refusals.{IsMemoryFault}
 
--- two faults are one, but for want of memory
+-- two faults are one, but for out of memory
 abbrev pub AreOne : LineFault → LineFault → Type 0
 AreOne fault other = IsMemoryFault fault ⊎ (IsMemoryFault other ⊎ (fault ≡ other))
 
@@ -11,7 +11,7 @@ AreOne fault other = IsMemoryFault fault ⊎ (IsMemoryFault other ⊎ (fault ≡
 abbrev pub Cause : (LineFault → Type 0) → LineFault → LineFault → Type 0
 Cause R a fault = R a × (fault ≡ a)
 
--- one of five faults, or want of memory
+-- one of five faults, or out of memory
 abbrev pub Causes : (R : LineFault → Type 0) (a b c d e fault : LineFault) → Type 0
 Causes R a b c d e fault = Cause R a fault ⊎ (Cause R b fault ⊎ (Cause R c fault ⊎ (Cause R d fault ⊎ (Cause R e fault ⊎ IsMemoryFault fault))))
 
@@ -65,7 +65,7 @@ one-cause R a b c d e fault other apart (inr (inr (inr (inr (inl p))))) (inr (in
 one-cause R a b c d e fault other apart (inr (inr (inr (inr (inl p))))) (inr (inr (inr (inr (inr q))))) = inr (inl q)
 one-cause R a b c d e fault other apart (inr (inr (inr (inr (inr p))))) q = inl p
 
--- where none of them holds, memory was wanting
+-- where none of them holds, out of memory
 pub no-cause : (R : LineFault → Type 0) (a b c d e fault : LineFault) → (R a → ⊥) → (R b → ⊥) → (R c → ⊥) → (R d → ⊥) → (R e → ⊥) → Causes R a b c d e fault → IsMemoryFault fault
 no-cause R a b c d e fault n m o k h (inl p) = absurd (n p.0)
 no-cause R a b c d e fault n m o k h (inr (inl p)) = absurd (m p.0)

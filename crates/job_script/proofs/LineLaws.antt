@@ -93,7 +93,7 @@ declaration-no-asks d text todo begins read = elim (todo-cases d text todo read)
   | inr of ↦ declaration-no-todo text begins (reads-begins todo_row d text todo of)
 ]
 
--- the job's name and what stands behind its colon are one
+-- the job's name and what follows its colon are one
 one-job-ahead : (name other text rest behind : List ℕ) → IsJobAhead name text rest → IsJobAhead other text behind → (name ≡ other) × (rest ≡ behind)
 one-job-ahead name other text rest behind p q =
     let same = one-ahead (name ++ 58 ∷ []) (other ++ 58 ∷ []) text rest behind p.word q.word in

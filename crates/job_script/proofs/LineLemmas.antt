@@ -58,7 +58,7 @@ line_cut text raw rest e none = ap script_lines e ∙ lines-cut [] raw rest none
 pub line_open : (text : List ℕ) → All (λ b. b ≢ 10) text → 0 < length text → script_lines text ≡ text ∷ []
 line_open text none some = lines-open [] text none (omega arith)
 
--- what stands behind a cut is shorter
+-- what stands after a cut is shorter
 pub cut_shorter : (text raw rest : List ℕ) → text ≡ raw ++ 10 ∷ rest → length rest < length text
 cut_shorter text raw rest e = omega (arith, ap length e, length-append raw (10 ∷ rest))
 

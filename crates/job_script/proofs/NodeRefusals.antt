@@ -39,7 +39,7 @@ stop-bad d BadSubs name text subs (Memory error) is stop long memory = absurd (m
 pub other_stop : (subs : List Sub) (error : TextError) → error ≢ KeyTooLong → ((e : AllocError) → error ≢ Memory e) → (d : Declared) (BadSubs : List Sub → Type 0) (name text : List ℕ) → IsDeclared d name text → StopsBehind text name subs error → (text ≢ []) × HasBadNode d BadSubs text
 other_stop subs error long memory d BadSubs name text is stop = (some-text name text is.0, stop-bad d BadSubs name text subs error is stop long memory)
 
--- so is a long key behind an empty subscript
+-- so is a long key after an empty subscript
 pub empty_stop : (subs : List Sub) (error : TextError) → error ≡ KeyTooLong → HasEmpty subs → (d : Declared) (BadSubs : List Sub → Type 0) (name text : List ℕ) → IsDeclared d name text → StopsBehind text name subs error → (text ≢ []) × HasBadNode d BadSubs text
 empty_stop subs error e empty d BadSubs name text is stop =
     let P : TextError → Type 0 = λ f. StopsBehind text name subs f in

@@ -121,7 +121,7 @@ one-wait (Some m) (Some n) text r s (a, ahead, number, is) (b, first, other, it)
     let same = one-ahead (decimal m) (decimal n) b r s (subst (λ (x : List ℕ). IsAhead (decimal m) x r) behind number) other in
     (ap Some (one-number m n 10000 is.1 it.1 (omega arith) same.0), same.1)
 
--- a parent and the subscript behind it are read in one way
+-- a parent and the subscript after it are read in one way
 one-next : (d : Declared) (a b : Site) (x y : Option Sub) (text r s : List ℕ) → TakesPart d (ANext a x) text r → TakesPart d (ANext b y) text s → (ANext a x ≡ ANext b y) × (r ≡ s)
 one-next d a b x y text r s (last, behind, read, is, site, declared, end) (other, next, also, it, place, known, ends) =
     let same = one-node (record { name = a.node.name; subs = a.node.subs ++ last ∷ [] }) (record { name = b.node.name; subs = b.node.subs ++ other ∷ [] }) text behind next read also in

@@ -1,4 +1,4 @@
--- Lines of a table: behind one first word the parts are of the same kinds, so a text says one thing or has one fault.
+-- Lines of a table: after one first word the parts are of the same kinds, so a text says one thing or has one fault.
 use Rattle.std.proofs.Common.{◌≡◌, ℕ, List, [], ◌∷◌, map, sym, ap, subst, ◌∙◌, inl, inr}
 use Rattle.job_script.specs.declared.declared.Declared.{Declared}
 use Rattle.job_script.specs.declared.line_fault.LineFault.{LineFault}
@@ -129,7 +129,7 @@ pub record IsTable {X : Type 0} (row_of : X → Row) : Type 0 where
 same-kinds : {X : Type 0} (row_of : X → Row) → IsTable row_of → (x y : X) (word : List ℕ) → (row_of x).word ≡ word → (row_of y).word ≡ word → map slot_of (row_of x).parts ≡ map slot_of (row_of y).parts
 same-kinds row_of table x y word e k = sym (table.kinds_are x) ∙ ap table.kinds (e ∙ sym k) ∙ table.kinds_are y
 
--- lines that a text is behind a first word have one row
+-- lines that a text is after a first word have one row
 pub one-row : {X : Type 0} (row_of : X → Row) → IsTable row_of → (d : Declared) (text : List ℕ) (x y : X) → Reads row_of d text x → Reads row_of d text y → ((row_of x).word ≡ (row_of y).word) × ((row_of x).parts ≡ (row_of y).parts)
 one-row row_of table d text x y p q =
     let rest = (one-ahead (first_word text) (first_word text) text p.rest q.rest p.ahead q.ahead).1 in

@@ -24,7 +24,7 @@ AreLines-more d [] (l ∷ lines) raw line are reads = absurd are
 AreLines-more d (r ∷ raws) [] raw line are reads = absurd are
 AreLines-more d (r ∷ raws) (l ∷ lines) raw line are reads = (are.0, AreLines-more (behind d l) raws lines raw line are.1 reads)
 
--- what is declared behind it
+-- what is declared after it
 declared_behind-more : (d : Declared) (lines : List Line) (line : Line) → declared_behind d (lines ++ line ∷ []) ≡ behind (declared_behind d lines) line
 declared_behind-more d [] line = refl
 declared_behind-more d (l ∷ lines) line = declared_behind-more (behind d l) lines line
@@ -54,7 +54,7 @@ todos-more number (l ∷ lines) line =
     ap (todo_before number l) (todos-more (number + 1) lines line ∙ ap (λ n. todos_from (number + 1) lines ++ todo_before n line []) (omega arith))
     ∙ todo-front number l (todos_from (number + 1) lines) _
 
--- the first bad line, behind good ones
+-- the first bad line, after good ones
 refuses-at : (d : Declared) (first : ℕ) (raws : List (List ℕ)) (lines : List Line) (raw : List ℕ) (others : List (List ℕ)) (fault : LineFault) → AreLines d raws lines → RefusesLine (declared_behind d lines) raw fault → RefusesAt d first (raws ++ raw ∷ others) (first + length lines) fault
 refuses-at d first [] [] raw others fault are r = inl (omega arith, r)
 refuses-at d first [] (l ∷ lines) raw others fault are r = absurd are

@@ -91,7 +91,7 @@ lines-sound d sound [] (x ∷ xs) read = absurd read
 lines-sound d sound (raw ∷ raws) [] read = absurd read
 lines-sound d sound (raw ∷ raws) (x ∷ xs) read = lines-sound (behind d x) (line-sound d sound raw x read.0) raws xs read.1
 
--- behind a line that asks for something nothing is declared
+-- after a line that asks for something nothing is declared
 closed-same : (d : Declared) (raws : List (List ℕ)) (lines : List Line) → d.is_closed ≡ true → AreLines d raws lines → layout_of (declared_behind d lines) ≡ layout_of d
 closed-same d [] [] closed read = refl
 closed-same d [] (x ∷ xs) closed read = absurd read

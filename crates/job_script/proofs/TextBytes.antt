@@ -1,4 +1,4 @@
--- The lines of bytes are bytes, and so is what stands behind a word.
+-- The lines of bytes are bytes, and so is what stands after a word.
 use Rattle.std.proofs.Common.{ℕ, Bool, true, false, List, [], ◌∷◌, ◌++◌, sym, subst}
 use Rattle.std.specs.Prelude.{◌==◌, if◌then◌else◌, reverse}
 use Rattle.std.specs.List.{AllByRecursion}

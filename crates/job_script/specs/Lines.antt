@@ -11,7 +11,7 @@ without_cr [] = []
 without_cr (b ∷ []) = if b == 13 then [] else b ∷ []
 without_cr (b ∷ c ∷ bytes) = b ∷ without_cr (c ∷ bytes)
 
--- the lines of a text behind these bytes of a line: each without its LF and a CR before that. What stands behind
+-- the lines of a text after these bytes of a line: each without its LF and a CR before that. What stands after
 -- the last LF is a line too, unless it is empty, and its CR stays.
 abbrev pub lines_behind : List ℕ → List ℕ → List (List ℕ)
 lines_behind [] [] = []

@@ -1,4 +1,4 @@
--- The parts of a line behind its first word, and where a text begins with one.
+-- The parts of a line after its first word, and where a text begins with one.
 use Rattle.std.specs.Prelude.{◌≡◌, ◌≢◌, ◌⊎◌, ℕ, ◌<◌, ◌≤◌, ◌^◌, Bool, true, false, List, [], ◌∷◌, ◌++◌, length, Option, None, Some, ℤ, unsigned_abs, codes}
 use Rattle.std.specs.Fmt.{decimal, signed_decimal}
 use Rattle.subscript_keys.specs.declared.sub.Sub.{Sub}
@@ -70,7 +70,7 @@ TakesPart d (AValue value) text rest = (behind : List ℕ) × ReadsString value 
 TakesPart d (AFlag word is_there) text rest = TakesFlag word is_there text rest
 TakesPart d (AWait wait) text rest = TakesWait wait text rest
 
--- a text is these parts, one behind the other, and nothing follows
+-- a text is these parts, one after the other, and nothing follows
 abbrev pub TakesParts : Declared → List Part → List ℕ → Type 0
 TakesParts d [] text = text ≡ []
 TakesParts d (p ∷ parts) text = (rest : List ℕ) × TakesPart d p text rest × TakesParts d parts rest

@@ -20,13 +20,13 @@ use Rattle.job_script.specs.Parts.{Part, NewName, NewGlobal, OfKind, ASetting, A
 use Rattle.job_script.specs.Rows.{Row}
 use Rattle.job_script.specs.Words.{IsAhead, IsWordEnd, first_word}
 
--- memory was wanting
+-- out of memory
 abbrev pub IsMemoryFault : LineFault → Type 0
 IsMemoryFault (Bad kind) = ⊥
 IsMemoryFault UnknownName = ⊥
 IsMemoryFault (Memory error) = Unit {0}
 
--- Want of memory says nothing. A new name: its form, declared already, one too many
+-- Out of memory says nothing. A new name: its form, declared already, one too many
 abbrev pub RefusesNewName : Declared → NameKind → List ℕ → LineFault → Type 0
 RefusesNewName d kind text (Bad Words) = text ≡ []
 RefusesNewName d kind text (Bad Name) = (text ≢ []) × (IsNodeName (first_word text) → ⊥)
@@ -114,7 +114,7 @@ RefusesNode d text fault = ⊥
 abbrev pub HasEmptyFront : List Sub → Type 0
 HasEmptyFront subs = (front : List Sub) × (last : Sub) × (subs ≡ front ++ last ∷ []) × HasEmpty front
 
--- the node behind which a next looks, whose last subscript may be empty
+-- the node after which a next looks, whose last subscript may be empty
 abbrev pub RefusesNext : Declared → List ℕ → LineFault → Type 0
 RefusesNext d text (Bad Words) = text ≡ []
 RefusesNext d text (Bad Node) = (text ≢ []) × HasBadNode d HasEmptyFront text
@@ -136,7 +136,7 @@ RefusesValue text (Bad Long) = HasValueFault text ValueTooLong
 RefusesValue text (Memory error) = Unit {0}
 RefusesValue text fault = ⊥
 
--- a wait whose number is wanting or wrong
+-- a wait whose number is missing or wrong
 abbrev pub RefusesWait : List ℕ → LineFault → Type 0
 RefusesWait text fault = (behind : List ℕ) × IsAhead (codes "wait") text behind × RefusesNumber 1 10000 behind fault
 
@@ -176,13 +176,13 @@ pub record RefusesPair (d : Declared) (text : List ℕ) (fault : LineFault) : Ty
   pub server : ℕ
   pub parts : RefusesParts d (OfKind App app ∷ OfKind Server server ∷ []) text fault
 
--- behind this first word of a table a part is refused
+-- after this first word of a table a part is refused
 pub record RefusesBehind {X : Type 0} (row_of : X → Row) (d : Declared) (word text : List ℕ) (fault : LineFault) : Type 0 where
   pub line : X
   pub word_is : (row_of line).word ≡ word
   pub parts : RefusesParts d (row_of line).parts text fault
 
--- the first word begins a line of a table, and a part behind it is refused
+-- the first word begins a line of a table, and a part after it is refused
 pub record RefusesRow {X : Type 0} (row_of : X → Row) (d : Declared) (text : List ℕ) (fault : LineFault) : Type 0 where
   pub rest : List ℕ
   pub ahead : IsAhead (first_word text) text rest

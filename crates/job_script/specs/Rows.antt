@@ -1,4 +1,4 @@
--- The lines of a script, a row each: the first word, and the parts behind it with what they say.
+-- The lines of a script, a row each: the first word, and the parts after it with what they say.
 use Rattle.std.specs.Prelude.{◌≡◌, ◌≢◌, ℕ, Bool, true, false, List, [], ◌∷◌, codes}
 use Rattle.plain_orders.specs.declared.mode.Mode.{Mode}
 use Rattle.plain_orders.specs.declared.mode.Mode.TheVariants.{Exclusive, Shared}
@@ -65,7 +65,7 @@ command_row (Commit sync) = row (codes "tcommit") (AFlag (codes "sync") sync ∷
 command_row Rollback = row (codes "trollback") []
 command_row (Sync server) = row (codes "sync") (OfKind Server server ∷ [])
 
--- behind this first word of a table a text says this
+-- after this first word of a table a text says this
 pub record ReadsBehind {X : Type 0} (row_of : X → Row) (d : Declared) (word text : List ℕ) (x : X) : Type 0 where
   pub word_is : (row_of x).word ≡ word
   pub parts : TakesParts d (row_of x).parts text

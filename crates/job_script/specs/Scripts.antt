@@ -1,4 +1,4 @@
--- Scripts: what a line is behind those before it, what it declares, and the script of a text.
+-- Scripts: what a line is after those before it, what it declares, and the script of a text.
 use Rattle.std.specs.Prelude.{◌≡◌, ◌≢◌, ◌⊎◌, ℕ, ◌+◌, ◌<◌, ◌≤◌, true, false, List, [], ◌∷◌, ◌++◌, length, None, Some, IfSome, All}
 use Rattle.plain_orders.specs.declared.layout.Layout.{Layout}
 use Rattle.plain_orders.specs.declared.layout.Names.{Names}
@@ -31,7 +31,7 @@ use Rattle.job_script.specs.Refusals.{RefusesRow}
 use Rattle.job_script.specs.Rows.{Reads, IsUnknown, declaration_row, todo_row, command_row}
 use Rattle.job_script.specs.Words.{IsAhead, IsSilent, first_word, trimmed}
 
--- a job's name and a colon come first, and rest stands behind
+-- a job's name and a colon come first, and rest stands after
 pub record IsJobAhead (name text rest : List ℕ) : Type 0 where
   pub named : IsNodeName name
   pub word : IsAhead (name ++ 58 ∷ []) text rest
@@ -48,7 +48,7 @@ ReadsText d text Nothing = IsSilent text
 ReadsText d text (Declares declaration) = (d.is_closed ≡ false) × Reads declaration_row d text declaration
 ReadsText d text (Asks todo) = ReadsTodo d text todo
 
--- what a line is behind these declarations
+-- what a line is after these declarations
 abbrev pub ReadsLine : Declared → List ℕ → Line → Type 0
 ReadsLine d raw line = ReadsText d (trimmed raw) line
 
@@ -56,12 +56,12 @@ ReadsLine d raw line = ReadsText d (trimmed raw) line
 abbrev pub RefusesCommand : Declared → List ℕ → LineFault → Type 0
 RefusesCommand d text fault = (IsUnknown command_row (first_word text) × (fault ≡ Bad Unknown)) ⊎ RefusesRow command_row d text fault
 
--- a job's line asks for this, behind its name
+-- a job's line asks for this, after its name
 abbrev pub ReadsNamed : Declared → List ℕ → List ℕ → Todo → Type 0
 ReadsNamed d name text (JobTodo job command) = (index_of d Job name ≡ Some job) × Reads command_row d text command
 ReadsNamed d name text todo = ⊥
 
--- a job's line is refused behind its name: the job isn't declared, or its command is refused
+-- a job's line is refused after its name: the job isn't declared, or its command is refused
 abbrev pub RefusesNamed : Declared → List ℕ → List ℕ → LineFault → Type 0
 RefusesNamed d name text fault = ((index_of d Job name ≡ None) × (fault ≡ UnknownName)) ⊎ ((index_of d Job name ≢ None) × RefusesCommand d text fault)
 
@@ -71,7 +71,7 @@ RefusesJob d text fault =
     (name : List ℕ) × (rest : List ℕ) × IsJobAhead name text rest
     × (((index_of d Job name ≡ None) × (fault ≡ UnknownName)) ⊎ ((index_of d Job name ≢ None) × RefusesCommand d rest fault))
 
--- a declaration stands behind a line of another kind
+-- a declaration stands after a line of another kind
 abbrev pub IsLate : Declared → List ℕ → Type 0
 IsLate d text = (d.is_closed ≡ true) × ((declaration : Declaration) × ((declaration_row declaration).word ≡ first_word text))
 
@@ -82,7 +82,7 @@ pub record IsNoLine (text : List ℕ) : Type 0 where
   pub no_todo : IsUnknown todo_row (first_word text)
   pub no_job : (name rest : List ℕ) → IsJobAhead name text rest → ⊥
 
--- a line is refused, its spaces at both ends dropped; want of memory says nothing
+-- a line is refused, its spaces at both ends dropped; out of memory says nothing
 abbrev pub RefusesText : Declared → List ℕ → LineFault → Type 0
 RefusesText d text (Memory error) = Unit {0}
 RefusesText d text fault =
@@ -92,7 +92,7 @@ RefusesText d text fault =
     ⊎ (RefusesRow todo_row d text fault
     ⊎ RefusesJob d text fault)))
 
--- a line is refused behind these declarations
+-- a line is refused after these declarations
 abbrev pub RefusesLine : Declared → List ℕ → LineFault → Type 0
 RefusesLine d raw fault = RefusesText d (trimmed raw) fault
 
@@ -125,7 +125,7 @@ MayTake d Nothing = Unit {0}
 MayTake d (Declares declaration) = HasRoomFor d declaration
 MayTake d (Asks todo) = Unit {0}
 
--- what is declared behind a line; a line that asks for something closes the declarations
+-- what is declared after a line; a line that asks for something closes the declarations
 abbrev pub behind : Declared → Line → Declared
 behind d Nothing = d
 behind d (Declares declaration) = declared_by d declaration
@@ -139,7 +139,7 @@ default_times = record { retry = 5; trouble = 60; recover = 1200; round = 60 }
 abbrev pub nothing_declared : Declared
 nothing_declared = record { servers = []; apps = []; jobs = []; job_apps = []; globals = []; times = default_times; is_closed = false }
 
--- each line is this one behind those before it
+-- each line is this one after those before it
 abbrev pub AreLines : Declared → List (List ℕ) → List Line → Type 0
 AreLines d [] [] = Unit {0}
 AreLines d [] (line ∷ lines) = ⊥
@@ -152,7 +152,7 @@ RefusesAt d first [] at fault = ⊥
 RefusesAt d first (raw ∷ raws) at fault =
     ((at ≡ first) × RefusesLine d raw fault) ⊎ ((line : Line) × ReadsLine d raw line × RefusesAt (behind d line) (first + 1) raws at fault)
 
--- what is declared behind lines
+-- what is declared after lines
 abbrev pub declared_behind : Declared → List Line → Declared
 declared_behind d [] = d
 declared_behind d (line ∷ lines) = declared_behind (behind d line) lines
@@ -215,7 +215,7 @@ pub record HasBadLine (text : List ℕ) (at : ℕ) (fault : LineFault) : Type 0 
   pub few : length (script_lines text) ≤ LINE_LIMIT
   pub refused : RefusesAt nothing_declared 1 (script_lines text) at fault
 
--- what each refusal of a text says; want of memory says nothing
+-- what each refusal of a text says; out of memory says nothing
 abbrev pub RefusesScript : List ℕ → ScriptError → Type 0
 RefusesScript text (BadLine line kind) = HasBadLine text line (Bad kind)
 RefusesScript text (UnknownInScript line) = HasBadLine text line UnknownName
@@ -257,7 +257,7 @@ pub record ScriptMay (script : Script) : Type 0 where
   pub layout : LayoutMay script.layout
   pub lines : All (λ line. TodoMay script.layout line.todo) script.lines
 
--- memory was wanting
+-- out of memory
 abbrev pub IsMemory : ScriptError → Type 0
 IsMemory (BadLine line kind) = ⊥
 IsMemory TooManyLines = ⊥

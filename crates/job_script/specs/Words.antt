@@ -19,12 +19,12 @@ abbrev pub first_word : List ℕ → List ℕ
 first_word [] = []
 first_word (b ∷ bytes) = if b == SPACE then [] else b ∷ first_word bytes
 
--- what stands behind them and the spaces that follow
+-- what stands after them and the spaces that follow
 abbrev pub behind_word : List ℕ → List ℕ
 behind_word [] = []
 behind_word (b ∷ bytes) = if b == SPACE then spaces_off bytes else behind_word bytes
 
--- this is the first word, and rest stands behind it
+-- this is the first word, and rest stands after it
 pub record IsAhead (word text rest : List ℕ) : Type 0 where
   pub some : text ≢ []
   pub first : first_word text ≡ word

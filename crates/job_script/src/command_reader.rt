@@ -18,7 +18,7 @@ use crate::splits::split_word;
 use app_job::Command;
 use std::alloc::Global;
 
-/// A command behind its first word.
+/// A command after its first word.
 fn read_behind(
     alloc: Global,
     declared: &Declared,

@@ -1,4 +1,4 @@
-//! A job's commands behind their first words.
+//! A job's commands after their first words.
 ghost use Rattle.std.specs.Prelude.{◌≡◌, [], ◌∷◌, IfOk, IfErr, codes};
 ghost use Rattle.app_job.specs.Sites.{Site};
 ghost use Rattle.job_script.specs.declared.declared.Declared.{Declared};
@@ -19,7 +19,7 @@ use app_job::{Command, Target};
 use plain_orders::Mode;
 use std::alloc::Global;
 
-/// A node, behind which nothing follows.
+/// A node, after which nothing follows.
 fn only_node(alloc: Global, declared: &Declared, text: &[u8]) -> Result<Target, LineFault>
     ensures ok { IfOk result (λ at. TakesParts declared.now (ANode at ∷ []) text.now) }
     ensures err { IfErr result (λ fault. (at : Site)
@@ -80,7 +80,7 @@ pub fn read_shape(alloc: Global, declared: &Declared, text: &[u8]) -> Result<Com
     Ok(Command::Shape { at })
 }
 
-/// The node behind which the next subscript is asked for.
+/// The node after which the next subscript is asked for.
 pub fn read_next(alloc: Global, declared: &Declared, text: &[u8]) -> Result<Command, LineFault>
     ensures ok { IfOk result (ReadsBehind command_row declared.now (codes "next") text.now) }
     ensures err { IfErr result (RefusesBehind command_row declared.now (codes "next") text.now) }

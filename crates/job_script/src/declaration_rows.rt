@@ -1,4 +1,4 @@
-//! Lines that declare something, behind their first word.
+//! Lines that declare something, after their first word.
 ghost use Rattle.std.specs.Prelude.{codes, IfOk, IfErr};
 ghost use Rattle.job_script.specs.FirstWords.{declaring_text};
 ghost use Rattle.job_script.specs.Refusals.{RefusesBehind};
@@ -75,7 +75,7 @@ fn read_time(declared: &Declared, text: &[u8]) -> Result<Declaration, LineFault>
     Ok(Declaration::Time { setting, ticks })
 }
 
-/// What a line declares, behind this first word.
+/// What a line declares, after this first word.
 pub fn read_declaration(
     alloc: Global,
     declared: &Declared,

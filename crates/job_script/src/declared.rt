@@ -27,7 +27,7 @@ pub struct Declared {
     pub job_apps: JobApps,
     pub globals: Globals,
     pub times: Times,
-    /// Whether a line that asks for something came, behind which nothing may be declared.
+    /// Whether a line that asks for something came, after which nothing may be declared.
     pub is_closed: bool,
 }
 
@@ -119,7 +119,7 @@ impl Declared {
         None
     }
 
-    /// With one declaration more; all is let go where memory is wanting.
+    /// With one declaration more; all is let go when out of memory.
     pub fn with(mut self, declaration: Declaration) -> Result<Declared, AllocError>
         requires { HasRoomFor self declaration }
         ensures { IfOk result (λ more. more ≡ declared_by self declaration) }

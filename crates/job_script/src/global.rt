@@ -41,7 +41,7 @@ impl Globals {
         self.items.as_slice()
     }
 
-    /// Puts one more at the end; it is let go where memory is wanting.
+    /// Puts one more at the end; it is let go when out of memory.
     pub fn push(&mut self, global: Global) -> Result<(), AllocError>
         ensures ok { OnOk result (self.new ≡ self.old ++ global ∷ []) }
         ensures err { OnErr result (self.new ≡ self.old) }

@@ -69,7 +69,7 @@ impl KindNames {
         }
     }
 
-    /// Puts one more at the end; it is let go where memory is wanting.
+    /// Puts one more at the end; it is let go when out of memory.
     pub fn push(&mut self, name: Name) -> Result<(), AllocError>
         requires { length self.old < 256 }
         ensures ok { OnOk result (self.new ≡ self.old ++ name ∷ []) }

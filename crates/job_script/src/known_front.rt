@@ -73,7 +73,7 @@ fn subs_fault(subs: &[Sub], error: &TextError) -> LineFault
     }
 }
 
-/// What follows a node that is read to its end, and the spaces behind it.
+/// What follows a node that is read to its end, and the spaces after it.
 pub fn behind_front<'a>(text: &'a [u8], front: &NodeFront) -> Result<&'a [u8], LineFault>
     requires { IsFront text.now front.now }
     ensures ok { IfOk result (λ rest. (taken : ℕ)

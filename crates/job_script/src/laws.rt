@@ -4,7 +4,7 @@ ghost use Rattle.job_script.specs.declared.script.Script.{Script};
 ghost use Rattle.job_script.specs.declared.script_error.ScriptError.{ScriptError};
 ghost use Rattle.job_script.specs.Scripts.{IsScriptText, RefusesScript, ScriptMay, IsMemory};
 
-/// A text is one script at most; where it is one, no refusal but want of memory holds for it, and else one refusal
+/// A text is one script at most; where it is one, no refusal but out of memory holds for it, and else one refusal
 /// at most.
 pub fn scripts_are_read_in_one_way()
     ensures one { (a b : Script) (text : List ℕ) → IsScriptText a text → IsScriptText b text →

@@ -1,5 +1,5 @@
 //! Reading scripts. Contracts say which script a text is, or at which line and for which fault from the left it
-//! is none. Each form of a line is a row of one table: its first word, and the parts behind it.
+//! is none. Each form of a line is a row of one table: its first word, and the parts after it.
 #![tactic(auto)]
 
 mod command_reader;

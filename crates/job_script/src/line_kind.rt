@@ -3,7 +3,7 @@
 pub enum LineKind {
     /// The first word is no line's, or a job's command is none.
     Unknown,
-    /// A declaration stands behind a line of another kind.
+    /// A declaration stands after a line of another kind.
     Late,
     /// A name or a global is declared already.
     Twice,

@@ -1,4 +1,4 @@
-//! One line of a script, read behind what is declared.
+//! One line of a script, read after what is declared.
 ghost use Rattle.std.specs.Prelude.{◌≡◌, ◌≢◌, ◌↔◌, ◌⊎◌, ◌++◌, ◌∷◌, [], ℕ, List, IsTrue, IfOk, IfErr, IfSome, IfNone};
 ghost use Rattle.job_script.specs.Names.{IsNodeName};
 ghost use Rattle.job_script.specs.Refusals.{IsMemoryFault};
@@ -44,7 +44,7 @@ fn job_name_of(word: &[u8]) -> Option<&[u8]>
     if is_node_name(name) { Some(name) } else { None }
 }
 
-/// What a job's line asks for, behind its name.
+/// What a job's line asks for, after its name.
 fn read_job_line(
     alloc: Global,
     declared: &Declared,
@@ -91,7 +91,7 @@ fn read_text(alloc: Global, declared: &Declared, text: &[u8]) -> Result<Line, Li
     Ok(Line::Asks(todo))
 }
 
-/// What a line is, behind what is declared. The first fault from the left counts.
+/// What a line is, after what is declared. The first fault from the left counts.
 pub fn read_line(alloc: Global, declared: &Declared, raw: &[u8]) -> Result<Line, LineFault>
     ensures ok { IfOk result (ReadsLine declared.now raw.now) }
     ensures err { IfErr result (RefusesLine declared.now raw.now) }

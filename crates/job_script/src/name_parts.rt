@@ -55,7 +55,7 @@ pub fn take_new_name<'a>(
     Ok((copy_name(alloc, word)?, rest))
 }
 
-/// The name behind a caret, if these are a global's.
+/// The name after a caret, if these are a global's.
 fn global_name_of(word: &[u8]) -> Option<&[u8]>
     ensures some { IfSome result (λ name. IsName name.now × (word.now ≡ 94 ∷ name.now)) }
     ensures none { IfNone result ((name : List ℕ) → IsName name → word.now ≢ 94 ∷ name) }

@@ -39,7 +39,7 @@ fn number_of(word: &[u8]) -> Option<u64>
     }
 }
 
-/// The number, maybe behind a minus, that a word spells, without a 0 in front.
+/// The number, maybe after a minus, that a word spells, without a 0 in front.
 fn signed_number_of(word: &[u8]) -> Option<i64>
     ensures some { IfSome result (λ z. (word.now ≡ signed_decimal z) × (mag z < 2 ^ 63)) }
     ensures none { IfNone result ((z : ℤ) → unsigned_abs z < NUMBER_LIMIT → word.now ≢ signed_decimal z) }

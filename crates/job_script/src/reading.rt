@@ -49,7 +49,7 @@ impl Reading {
         }
     }
 
-    /// Behind a line that does nothing.
+    /// After a line that does nothing.
     fn skip(self) -> Reading
         requires { self.line < 2 ^ 32 - 1 }
         ensures { result ≡ record self { line = self.line + 1 } }
@@ -60,7 +60,7 @@ impl Reading {
         }
     }
 
-    /// Behind a line that declares this; all is let go where memory is wanting.
+    /// After a line that declares this; all is let go when out of memory.
     fn declare(self, declaration: Declaration) -> Result<Reading, AllocError>
         requires room { HasRoomFor self.declared declaration }
         requires number { self.line < 2 ^ 32 - 1 }
@@ -86,7 +86,7 @@ impl Reading {
         })
     }
 
-    /// Behind a line that asks for this; all is let go where memory is wanting.
+    /// After a line that asks for this; all is let go when out of memory.
     fn ask(self, todo: Todo) -> Result<Reading, AllocError>
         requires { self.line < 2 ^ 32 - 1 }
         ensures declared { IfOk result (λ next. next.declared ≡ record self.declared { is_closed = true }) }
@@ -110,7 +110,7 @@ impl Reading {
         })
     }
 
-    /// Behind this line; all is let go where memory is wanting.
+    /// After this line; all is let go when out of memory.
     pub fn with(self, line: Line) -> Result<Reading, AllocError>
         requires may { MayTake self.declared line }
         requires number { self.line < 2 ^ 32 - 1 }

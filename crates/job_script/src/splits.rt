@@ -13,7 +13,7 @@ fn place_of(text: &[u8], byte: u8) -> Option<usize>
     text.iter().position(|b| *b == byte)
 }
 
-/// What stands before the first such byte, and what stands behind it.
+/// What stands before the first such byte, and what follows it.
 #[tactic(auto, using(crate::proofs::WordLemmas::cut_at))]
 fn split_once(text: &[u8], byte: u8) -> Option<(&[u8], &[u8])>
     ensures cut { IfSome result (λ parts. text.now ≡ parts.0.now ++ byte ∷ parts.1.now) }
@@ -58,7 +58,7 @@ pub fn trim(text: &[u8]) -> &[u8]
     rest
 }
 
-/// The first word, which is empty where a space comes first, and what stands behind it and the spaces that follow.
+/// The first word, which is empty where a space comes first, and what follows it and its spaces.
 #[tactic(auto, using(crate::proofs::WordLemmas::words))]
 pub fn split_word(text: &[u8]) -> (&[u8], &[u8])
     ensures first { first_word text.now ≡ result.0.now }
@@ -81,7 +81,7 @@ fn drop_cr(line: &[u8]) -> &[u8]
     if *last == b'\r' { front } else { line }
 }
 
-/// The first line of a text, without its end, and what stands behind it.
+/// The first line of a text, without its end, and what follows it.
 #[tactic(auto, using(crate::proofs::LineLemmas::first_line))]
 pub fn split_line(text: &[u8]) -> (&[u8], &[u8])
     requires { 0 < length text.now }

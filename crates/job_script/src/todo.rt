@@ -7,7 +7,7 @@ pub enum Todo {
     Job { job: u16, command: Command },
     /// Frames are delivered by the lines below alone.
     Hold,
-    /// Frames are delivered behind each line.
+    /// Frames are delivered after each line.
     Flow,
     /// The data server's end takes one frame of the pair.
     Up { app: u8, server: u8 },

@@ -1,4 +1,4 @@
-//! Lines that ask for something, behind their first word.
+//! Lines that ask for something, after their first word.
 ghost use Rattle.std.specs.Prelude.{codes, [], ◌∷◌, IfOk, IfErr};
 ghost use Rattle.job_script.specs.FirstWords.{todo_text};
 ghost use Rattle.job_script.specs.Parts.{OfKind, TakesParts};
@@ -18,7 +18,7 @@ use crate::todo_word::TodoWord;
 /// The largest count of ticks.
 const TICK_LIMIT: u64 = 10_000;
 
-/// One name that is declared as one of this kind, and nothing behind it.
+/// One name that is declared as one of this kind, and nothing after it.
 #[tactic(auto, using(crate::proofs::TodoLemmas::one_rows))]
 fn read_one(declared: &Declared, kind: NameKind, text: &[u8]) -> Result<u8, LineFault>
     ensures ok { IfOk result (λ index. TakesParts declared.now (OfKind kind index ∷ []) text.now) }
@@ -29,7 +29,7 @@ fn read_one(declared: &Declared, kind: NameKind, text: &[u8]) -> Result<u8, Line
     Ok(index)
 }
 
-/// An application server and a data server, and nothing behind them.
+/// An application server and a data server, and nothing after them.
 #[tactic(auto, using(crate::proofs::TodoLemmas::pair_rows))]
 fn read_pair(declared: &Declared, text: &[u8]) -> Result<(u8, u8), LineFault>
     ensures ok { IfOk result (λ pair. TakesParts declared.now (OfKind NameKind.App pair.0 ∷ OfKind NameKind.Server pair.1 ∷ []) text.now) }
@@ -66,7 +66,7 @@ fn read_crash(declared: &Declared, text: &[u8]) -> Result<Todo, LineFault>
     Ok(Todo::Crash { server, pick })
 }
 
-/// What a line asks for, behind this first word.
+/// What a line asks for, after this first word.
 #[tactic(auto, using(crate::proofs::TodoLemmas::todo_rows))]
 pub fn read_todo(declared: &Declared, word: TodoWord, text: &[u8]) -> Result<Todo, LineFault>
     ensures ok { IfOk result (ReadsBehind todo_row declared.now (todo_text word) text.now) }

@@ -15,7 +15,7 @@ use global_text::{TextError, read_value};
 use std::alloc::Global;
 use subscript_keys::ValueBytes;
 
-/// What follows a value that takes so many bytes, and the spaces behind it.
+/// What follows a value that takes so many bytes, and the spaces after it.
 fn behind_value(text: &[u8], taken: usize) -> Result<&[u8], LineFault>
     requires { taken ≤ length text.now }
     ensures ok { IfOk result (λ rest. EndsBefore (drop taken text.now) rest.now) }

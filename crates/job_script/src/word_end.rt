@@ -5,7 +5,7 @@ ghost use Rattle.job_script.specs.Parts.{EndsBefore};
 
 use crate::splits::split_word;
 
-/// What follows the spaces behind a string or a node, where a space or the line's end stands there.
+/// What follows the spaces after a string or a node, where a space or the line's end stands there.
 #[tactic(auto, using(crate::proofs::WordEnds::word_ends))]
 pub fn word_end(text: &[u8]) -> Option<&[u8]>
     ensures some { IfSome result (λ rest. EndsBefore text.now rest.now) }

@@ -1,6 +1,6 @@
 -- What a line of a script adds: ticks, deaths and crashes to the trail, and pieces to the transcript, where the line puts them. These rules
 -- are those of a script that is run line by line.
-use Rattle.std.specs.Prelude.{◌==◌, Any, ◌≡◌, ◌≢◌, ◌⊎◌, ℕ, Bool, true, false, ◌+◌, ◌<◌, ◌≤◌, zero, suc, if◌then◌else◌, List, [], ◌∷◌, ◌++◌, length, Option, None, Some, slice_get, IfSome, IsSomeAnd, map, sum, ◌-◌}
+use Rattle.std.specs.Prelude.{not, ◌&&◌, ◌||◌, ◌==◌, Any, ◌≡◌, ◌≢◌, ◌⊎◌, ℕ, Bool, true, false, ◌+◌, ◌<◌, ◌≤◌, zero, suc, if◌then◌else◌, List, [], ◌∷◌, ◌++◌, length, Option, None, Some, slice_get, IfSome, IsSomeAnd, map, sum, ◌-◌}
 use Rattle.std.specs.List.{flat_map, list_any, range_with_len, AllByRecursion}
 use Rattle.plain_orders.specs.declared.act.Act.{Act}
 use Rattle.plain_orders.specs.declared.act.Act.TheVariants.{Opened, Enter, Synced, Shut, Release, Met, Told, Back, Crash as CrashAct, Issue, Read, Grant, Granted, GiveUp, Quit, Free, Counted, NotWhole, Range, Committed, RolledBack, Reached, Level, Done, Refused, Broke, Mended, Tick as TickAct, Lose, Died}
@@ -23,7 +23,7 @@ use Rattle.transcript.specs.declared.piece.Restarted.TheVariants.{Kept, DiskFaul
 use Rattle.script_fits.specs.JobLines.{CommandLine, commands_of, Ended, ended_of}
 use Rattle.script_fits.specs.Pieces.{Waits, answers_in, waits_in, last_why, has_wait, pump_in, restart_in, gone_in, HaltedAt, halt_in}
 use Rattle.script_fits.specs.Naming.{IsServer, opened_in}
-use Rattle.script_fits.specs.Walk.{Added, SoFar, with_line, down_at, down_after}
+use Rattle.script_fits.specs.Walk.{Added, SoFar, with_line, down_at, down_after, is_crash}
 
 -- the time of an act alone, if it is a tick
 abbrev pub tick_in : Act → List ℕ
@@ -173,10 +173,70 @@ AreRestarts down line (Restart server) restarts acts =
 AreRestarts down line (Die app) restarts acts = NoRestart restarts acts
 AreRestarts down line (Await job) restarts acts = NoRestart restarts acts
 
--- servers halt at this line, each of them once and while it is up
-abbrev pub AreHalts : Layout → (ℕ → Bool) → ℕ → List HaltedAt → Type 0
-AreHalts l down line [] = Unit {0}
-AreHalts l down line (h ∷ halts) = IsServer l h.server × (h.line ≡ line) × (down h.server ≡ false) × AreHalts l (put down h.server true) line halts
+-- the data server that does an act of its own
+abbrev pub doer_of : Act → Option ℕ
+doer_of (Opened d entries) = Some d
+doer_of (Enter d entry) = Some d
+doer_of (Synced d n) = Some d
+doer_of (Shut d session cause) = Some d
+doer_of (Release d session) = Some d
+doer_of (Met app d session) = None
+doer_of (Told app d session epoch kept) = None
+doer_of (Back d) = Some d
+doer_of (CrashAct d kept) = Some d
+doer_of (Issue job line d w item) = None
+doer_of (Read job line d at via question) = None
+doer_of (Grant d session job mode key at) = Some d
+doer_of (Granted job line d at) = None
+doer_of (GiveUp job line d mode key) = None
+doer_of (Quit job line d mode key) = None
+doer_of (Free d session job mode key) = Some d
+doer_of (Counted job line d at sum) = None
+doer_of (NotWhole job line d at) = None
+doer_of (Range job line d at) = None
+doer_of (Committed job line d at) = None
+doer_of (RolledBack job line d at) = None
+doer_of (Reached job line d at) = None
+doer_of (Level job line level) = None
+doer_of (Done job line) = None
+doer_of (Refused job line refused) = None
+doer_of (Broke app d end time) = None
+doer_of (Mended app d) = None
+doer_of (TickAct time) = None
+doer_of (Lose app d loss) = None
+doer_of (Died app) = None
+
+-- a line restarts this data server
+abbrev pub is_restart : ℕ → Todo → Bool
+is_restart d (Job job command) = false
+is_restart d Hold = false
+is_restart d Flow = false
+is_restart d (Up app server) = false
+is_restart d (Down app server) = false
+is_restart d (Save server) = false
+is_restart d Pump = false
+is_restart d (Tick count) = false
+is_restart d (Break app server) = false
+is_restart d (Mend app server) = false
+is_restart d (Crash server pick) = false
+is_restart d (Restart server) = server == d
+is_restart d (Die app) = false
+is_restart d (Await job) = false
+
+-- a data server that does nothing at a line: it is down, and the line doesn't restart it; or the line crashes it
+abbrev pub is_still : (ℕ → Bool) → Todo → ℕ → Bool
+is_still down todo d = (down d && not (is_restart d todo)) || is_crash d todo
+
+-- an act isn't that of a data server that does nothing
+abbrev pub IsOfRunning : (ℕ → Bool) → Todo → Act → Type 0
+IsOfRunning down todo act = IfSome (doer_of act) (λ d. is_still down todo d ≡ false)
+
+-- servers halt at this line, each of them once, while it is up and has something unsaved
+abbrev pub AreHalts : Layout → Plain → (ℕ → Bool) → ℕ → List HaltedAt → Type 0
+AreHalts l p down line [] = Unit {0}
+AreHalts l p down line (h ∷ halts) =
+    IsServer l h.server × (h.line ≡ line) × (down h.server ≡ false) × ((p.server_at h.server).synced < length (p.server_at h.server).order)
+    × AreHalts l p (put down h.server true) line halts
 
 -- the answer of a command that has its end
 abbrev pub answer_line : Ended → AnswerLine
@@ -273,7 +333,9 @@ pub record LineAdds (l : Layout) (s : SoFar) (line : ScriptLine) (added : Added)
   -- no data server begins
   pub opened : flat_map opened_in added.acts ≡ []
   pub restarts : AreRestarts s.down line.line line.todo (flat_map restart_in added.pieces) added.acts
-  pub halts : AreHalts l (down_at s.down line.todo added.pieces) line.line (flat_map halt_in added.pieces)
+  pub halts : AreHalts l (state_after l (s.acts ++ added.acts)) (down_at s.down line.todo added.pieces) line.line (flat_map halt_in added.pieces)
+  -- a data server that is down does nothing of its own
+  pub still : AllByRecursion (IsOfRunning s.down line.todo) added.acts
   pub pumps :
       ArePumps (unsaved l (state_after l (s.acts ++ added.acts)) (down_after s.down line.todo added.pieces)) line.line line.todo (flat_map pump_in added.pieces)
   pub gone : flat_map gone_in added.pieces ≡ gone_of l (state_after l s.acts) line.line line.todo

@@ -47,7 +47,7 @@ fn line_of(alloc: Global, names: &Names, job: u16, answer: &Answer) -> Result<Ve
     Ok(text)
 }
 
-/// The same behind `J2 7 `, of an answer that isn't a next with a subscript.
+/// The same after `J2 7 `, of an answer that isn't a next with a subscript.
 fn plain_line(
     alloc: Global,
     names: &Names,

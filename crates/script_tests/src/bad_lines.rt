@@ -2,7 +2,7 @@
 use crate::stages::{DECLARED, run};
 use std::alloc::{AllocError, Global};
 
-/// What a line is called, and behind it, with ~ between its lines, a script that ends in such a line.
+/// What a line is called, and after it, with ~ between its lines, a script that ends in such a line.
 const BAD: &str = r#"bad line|jump
 bad line|J1: jump ^x
 bad line|J1:
@@ -145,16 +145,18 @@ fn around(alloc: Global, front: &str, count: usize, back: &str) -> Result<String
     Ok(text)
 }
 
-/// What is too long by one letter: what stands before the letters, how many may be, what stands behind, and what
+/// What is too long by one letter: what stands before the letters, how many may be, what stands after, and what
 /// the line is called with one more.
-const LONG: [(&str, usize, &str, &str); 8] = [
+const LONG: [(&str, usize, &str, &str); 9] = [
     ("J1: set ^x \"", 3000, "\"\n", "value too long"),
     ("J1: set ^x \"\\61", 2999, "\"\n", "value too long"),
     ("J1: set ^x(\"", 495, "\") 1\n", "key too long"),
     ("J1: set ^x(\"\\61", 494, "\") 1\n", "key too long"),
     ("J1: kill ^x(\"", 495, "\")\n", "key too long"),
     ("J1: next ^x(\"", 495, "\")\n", "key too long"),
-    // The greatest lengths with a number, and a second fault behind the first.
+    // The empty text takes no room.
+    ("J1: next ^x(\"", 495, "\",\"\")\n", "key too long"),
+    // The greatest lengths with a number, and a second fault after the first.
     ("J1: set ^x(1,\"", 491, "\") 1\n", "key too long"),
     ("J1: get ^x(\"", 495, "\")\n", "key too long"),
 ];
@@ -174,7 +176,7 @@ fn keys_and_values_have_their_greatest_lengths(rt: HostRuntime) -> Result<(), Al
     Ok(())
 }
 
-/// Two faults on a line, or one behind a line that isn't built yet: what stands before 4000 letters, what behind,
+/// Two faults on a line, or one after a line that isn't built yet: what stands before 4000 letters, what after,
 /// and which line is refused for what.
 const LONGER: [(&str, &str, u32, &str); 5] = [
     ("J1: set ^x \"", "", 5, "value too long"),
@@ -192,6 +194,29 @@ fn the_first_of_two_faults_counts_where_one_is_a_length(rt: HostRuntime) -> Resu
         let want = format!(in alloc; "ecp: line {line}: {fault}\n")?;
         let (_status, output) = run(alloc, text.as_bytes())?;
         assert!(rt; output.as_slice() == want.as_bytes(), "{front}");
+    }
+    Ok(())
+}
+
+/// What follows a key that is full, and what the line is called.
+const FULL: [(&str, &str); 6] = [
+    ("\",\"\")", "bad node"),
+    ("\",\"aaa", "key too long"),
+    ("\",\"aaa\\q", "key too long"),
+    ("\",\"", "bad node"),
+    // It may be a number, and is measured at its end.
+    ("\",\"1", "bad node"),
+    ("", "bad node"),
+];
+
+#[test]
+fn a_full_key_is_too_long_at_the_byte_that_passes_it(rt: HostRuntime) -> Result<(), AllocError> {
+    let alloc = rt.alloc();
+    for (back, fault) in FULL {
+        let text = around(alloc, "J1: get ^x(\"", 495, back)?;
+        let want = format!(in alloc; "ecp: line 5: {fault}\n")?;
+        let (_status, output) = run(alloc, text.as_bytes())?;
+        assert!(rt; output.as_slice() == want.as_bytes(), "{back}");
     }
     Ok(())
 }
@@ -218,7 +243,7 @@ fn a_last_line_may_lack_its_end(rt: HostRuntime) -> Result<(), AllocError> {
     Ok(())
 }
 
-/// What may be declared: the words before the number and behind it, and how often it may be there.
+/// What may be declared: the words before the number and after it, and how often it may be there.
 const MANY: [(&str, &str, u32); 4] = [
     ("data E", "", 16),
     ("app B", "", 16),

@@ -147,7 +147,7 @@ AreEntryLines [] text = text ≡ []
 AreEntryLines (e ∷ entries) text =
     (shown : List ℕ) × (rest : List ℕ) × IsEntryText e shown × AreEntryLines entries rest × (text ≡ codes "entry " ++ (shown ++ (10 ∷ rest)))
 
--- the entries that stand behind the first line of an act
+-- the entries that stand after the first line of an act
 abbrev pub entries_behind : Act → List Entry
 entries_behind (Opened server entries) = entries
 entries_behind act = []

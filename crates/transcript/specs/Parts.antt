@@ -54,12 +54,12 @@ abbrev pub IsValueText : Option (List ℕ) → List ℕ → Type 0
 IsValueText None text = text ≡ codes "none"
 IsValueText (Some value) text = IsPrinted value text
 
--- a subscript; in the place of one that is wanting stands the empty text
+-- a subscript; in the place of one that is missing stands the empty text
 abbrev pub or_empty : Option Sub → Sub
 or_empty None = Text []
 or_empty (Some sub) = sub
 
--- a subscript that may be wanting, as it is printed
+-- a subscript that may be missing, as it is printed
 abbrev pub found_text : Option Sub → List ℕ
 found_text sub = sub_text (or_empty sub)
 
@@ -71,6 +71,6 @@ IsKeyText key text = (node : Node) × IsNode node × (key_of node ≡ key) × (t
 abbrev pub below : Node → Sub → Node
 below node sub = record { name = node.name; subs = node.subs ++ sub ∷ [] }
 
--- the text of the node with this key and a subscript more, the empty text where it is wanting
+-- the text of the node with this key and a subscript more, the empty text where it is missing
 abbrev pub IsBehindText : List ℕ → Option Sub → List ℕ → Type 0
 IsBehindText key sub text = (node : Node) × IsNode node × (key_of node ≡ key) × (text ≡ node_text (below node (or_empty sub)))

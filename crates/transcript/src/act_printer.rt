@@ -46,7 +46,7 @@ fn put_act(to: &mut Printer, act: &Act) -> Result<(), AllocError>
     }
 }
 
-/// The lines of the entries behind the first line of an act.
+/// The lines of the entries after the first line of an act.
 fn put_entries_behind(to: &mut Printer, act: &Act) -> Result<(), AllocError>
     requires { CanPrintAct act.now }
     ensures { OnOk result (Appends (AreEntryLines (entries_behind act.now)) to.old to.new) }

@@ -30,7 +30,7 @@ fn put_place(to: &mut Printer, servers: &NameList, mark: u8, place: Place) -> Re
     to.number(place.number)
 }
 
-/// Places, each behind a space.
+/// Places, each after a space.
 fn put_places(
     to: &mut Printer,
     servers: &NameList,
@@ -45,7 +45,7 @@ fn put_places(
     Ok(())
 }
 
-/// A word, then places, each behind a space.
+/// A word, then places, each after a space.
 fn put_placed(
     to: &mut Printer,
     servers: &NameList,

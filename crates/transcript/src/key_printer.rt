@@ -26,7 +26,7 @@ fn node_of(alloc: Global, key: &KeyBytes) -> Result<Node, AllocError>
     }
 }
 
-/// The subscript, or the empty text where it is wanting.
+/// The subscript, or the empty text where it is missing.
 #[tactic(auto, using(crate::proofs::PartLemmas::empty_is_no_number, crate::proofs::PartLemmas::sub_form))]
 fn sub_or_empty(alloc: Global, sub: &Option<Sub>) -> Result<Sub, AllocError>
     requires { IfSome sub.now IsSub }
@@ -48,7 +48,7 @@ pub fn put_key(to: &mut Printer, key: &KeyBytes) -> Result<(), AllocError>
     to.node(&node)
 }
 
-/// The node that has the key, with the subscript behind which a next looks.
+/// The node that has the key, with the subscript after which a next looks.
 #[tactic(auto, using(crate::proofs::PartLemmas::forms_more))]
 pub fn put_behind(to: &mut Printer, key: &KeyBytes, sub: &Option<Sub>) -> Result<(), AllocError>
     requires key { IsKey key.now }

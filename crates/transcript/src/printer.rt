@@ -13,7 +13,7 @@ use std::alloc::{AllocError, Global};
 use std::marker::Model;
 use subscript_keys::{Node, Sub, ValueBytes};
 
-/// A text that is being written, which contracts see as the list of its bytes. Where memory is wanting, some
+/// A text that is being written, which contracts see as the list of its bytes. Out of memory, some
 /// of what was to be written may stand at its end.
 #[derive(Drop)]
 pub struct Printer {
@@ -62,7 +62,7 @@ impl Printer {
             .extend_from_slice(buffer.format(number).as_bytes())
     }
 
-    /// A number behind its sign, if it is below 0.
+    /// A number after its sign, if it is below 0.
     pub fn signed(&mut self, number: i64) -> Result<(), AllocError>
         ensures { OnOk result (self.new ≡ self.old ++ signed_decimal number) }
     {
@@ -79,7 +79,7 @@ impl Printer {
         self.number(number)
     }
 
-    /// A space and a number behind its sign.
+    /// A space and a number after its sign.
     pub fn signed_field(&mut self, number: i64) -> Result<(), AllocError>
         ensures { OnOk result (self.new ≡ self.old ++ signed_field number) }
     {
@@ -122,7 +122,7 @@ impl Printer {
         print_value(value, &mut self.text)
     }
 
-    /// A value that may be wanting.
+    /// A value that may be missing.
     pub fn value_or_none(&mut self, value: &Option<ValueBytes>) -> Result<(), AllocError>
         ensures { OnOk result (Appends (IsValueText value.now) self.old self.new) }
     {
@@ -132,7 +132,7 @@ impl Printer {
         }
     }
 
-    /// A subscript that may be wanting.
+    /// A subscript that may be missing.
     #[tactic(auto, using(crate::proofs::PartLemmas::sub_form))]
     pub fn sub_or_empty(&mut self, sub: &Option<Sub>) -> Result<(), AllocError>
         requires { IfSome sub.now IsSub }
