@@ -4,6 +4,7 @@ ghost use Rattle.subscript_keys.specs.Key.{HasForm};
 
 use app_job::Target;
 use std::alloc::{AllocError, Global};
+use std::test::*;
 use subscript_keys::{Decimal, KeyError, Name, Node, Sub, SubText, Subs};
 
 /// The subscript that is this string, which may be empty.
@@ -19,29 +20,15 @@ fn sub_of(alloc: Global, string: &[u8]) -> Result<Sub, AllocError>
 /// The target at data server 3 that is ^x with this subscript.
 fn target_of(alloc: Global, string: &[u8]) -> Result<Target, KeyError> {
     let name = Vec::from_slice(alloc, b"x").map_err(KeyError::Memory)?;
-    let mut subs = Subs::new(alloc);
     let sub = sub_of(alloc, string).map_err(KeyError::Memory)?;
+    let mut subs = Subs::new(alloc);
     subs.push(sub).map_err(KeyError::Memory)?;
-    let node = Node {
-        name: Name::from_vec(name),
-        subs,
-    };
-    Target::new(alloc, 3, node)
-}
-
-/// The key of a target, or the name of a refusal.
-fn shown(answer: &Result<Target, KeyError>) -> &[u8] {
-    match answer {
-        Ok(target) => target.key().as_slice(),
-        Err(KeyError::EmptySubscript) => b"EmptySubscript",
-        Err(KeyError::KeyTooLong) => b"KeyTooLong",
-        Err(KeyError::NotAKey) => b"NotAKey",
-        Err(KeyError::Memory(_)) => b"Memory",
-    }
+    let name = Name::from_vec(name);
+    Target::new(alloc, 3, Node { name, subs })
 }
 
 #[test]
-fn a_target_is_refused_as_its_key_is(rt: HostRuntime) -> Result<(), AllocError> {
+fn a_target_keeps_its_node_and_is_refused_as_its_key_is(rt: HostRuntime) -> Result<(), Fail> {
     let alloc = rt.alloc();
     let long = vec![in alloc; b'a'; 496]?;
     let table: [(&[u8], &[u8]); 4] = [
@@ -51,16 +38,17 @@ fn a_target_is_refused_as_its_key_is(rt: HostRuntime) -> Result<(), AllocError> 
         (&long, b"KeyTooLong"),
     ];
     for (string, want) in table {
-        let answer = target_of(alloc, string);
-        assert_eq!(rt; shown(&answer), want, "{string:?}");
+        match target_of(alloc, string) {
+            Ok(target) => {
+                assert_eq!(rt; target.key().as_slice(), want, "{string:?}");
+                assert_eq!(rt; target.server(), 3);
+                assert_eq!(rt; target.node().name.as_slice(), b"x".as_slice());
+                assert_eq!(rt; target.node().subs.as_slice().len(), 1);
+            }
+            Err(KeyError::EmptySubscript) => assert_eq!(rt; b"EmptySubscript".as_slice(), want),
+            Err(KeyError::KeyTooLong) => assert_eq!(rt; b"KeyTooLong".as_slice(), want),
+            Err(_) => assert!(rt; false, "{string:?}"),
+        }
     }
     Ok(())
-}
-
-#[test]
-fn a_target_keeps_its_server_and_its_node(rt: HostRuntime) {
-    let target = target_of(rt.alloc(), b"A").expect(&rt, "a target");
-    assert_eq!(rt; target.server(), 3);
-    assert_eq!(rt; target.node().name.as_slice(), b"x".as_slice());
-    assert_eq!(rt; target.node().subs.as_slice().len(), 1);
 }
