@@ -28,7 +28,7 @@ nodes() {
     } }'
 }
 
-# N / 2 sets of a global's subscripts, and N / 2 nexts from each to the one behind it.
+# N / 2 sets of a global's subscripts, and N / 2 nexts from each to the one after it.
 walk() {
     declared
     awk -v n="$1" 'BEGIN { h = n / 2
