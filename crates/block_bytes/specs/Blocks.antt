@@ -46,19 +46,19 @@ abbrev pub IsBefore : List ℕ → List ℕ → Type 0
 IsBefore a b = slice_cmp nat_cmp a b ≡ Less
 
 -- a key is before the first of some pairs
-abbrev pub IsBeforeAll : List ℕ → List Pair → Type 0
-IsBeforeAll key [] = Unit {0}
-IsBeforeAll key (p ∷ ps) = IsBefore key p.key
+abbrev pub IsBeforePairs : List ℕ → List Pair → Type 0
+IsBeforePairs key [] = Unit {0}
+IsBeforePairs key (p ∷ ps) = IsBefore key p.key
 
 -- the keys rise strictly
-abbrev pub IsRising : List Pair → Type 0
-IsRising [] = Unit {0}
-IsRising (p ∷ ps) = IsBeforeAll p.key ps × IsRising ps
+abbrev pub PairsRise : List Pair → Type 0
+PairsRise [] = Unit {0}
+PairsRise (p ∷ ps) = IsBeforePairs p.key ps × PairsRise ps
 
 -- a run that has a block, where it isn't too large
 pub record IsBlockRun (run : Run) : Type 0 where
   pub span : IsBefore run.span.lo run.span.hi
-  pub rising : IsRising run.pairs
+  pub rising : PairsRise run.pairs
   pub within : AllByRecursion (λ p. IsIn run.span.lo run.span.hi p.key) run.pairs
 
 -- bytes are the block of a run

@@ -1,13 +1,13 @@
 ghost use Rattle.std.specs.Prelude.{◌↔◌, IsTrue};
 ghost use Rattle.std.specs.List.{AllByRecursion};
 ghost use Rattle.subscript_keys.specs.Span.{IsIn};
-ghost use Rattle.block_bytes.specs.Blocks.{IsBlockRun, IsBeforeAll, IsRising};
+ghost use Rattle.block_bytes.specs.Blocks.{IsBlockRun, IsBeforePairs, PairsRise};
 
 use subscript_keys::{KeyBytes, Pair, Run, Span};
 
 /// Whether a key is before the first of the pairs.
-fn is_before_all(key: &KeyBytes, pairs: &[Pair]) -> bool
-    ensures { IsTrue result ↔ IsBeforeAll key.now pairs.now }
+fn is_before_pairs(key: &KeyBytes, pairs: &[Pair]) -> bool
+    ensures { IsTrue result ↔ IsBeforePairs key.now pairs.now }
 {
     match pairs.first() {
         None => true,
@@ -17,11 +17,11 @@ fn is_before_all(key: &KeyBytes, pairs: &[Pair]) -> bool
 
 /// Whether the keys rise strictly.
 fn are_rising(pairs: &[Pair]) -> bool
-    ensures { IsTrue result ↔ IsRising pairs.now }
+    ensures { IsTrue result ↔ PairsRise pairs.now }
 {
     let mut rest = pairs;
     while let Some((first, others)) = rest.split_first() {
-        if !is_before_all(&first.key, others) {
+        if !is_before_pairs(&first.key, others) {
             return false;
         }
         rest = others;

@@ -53,7 +53,7 @@ both_none : (a b : Option ℕ) → first_of a b ≡ None → (a ≡ None) × (b 
 both_none None b e = (refl, e)
 both_none (Some n) b e = absurd (some_none n e)
 
--- the word of a line, behind others
+-- the word of a line, after others
 word_behind : (word : DeclaringWord) (before : List DeclaredLine) (l : DeclaredLine) → has_word word (before ++ l ∷ []) ≡ (has_word word before || is_same_word word l.word)
 word_behind word [] l = or_false (is_same_word word l.word)
 word_behind word (b ∷ before) l = ap (λ t. is_same_word word b.word || t) (word_behind word before l) ∙ or_assoc (is_same_word word b.word) (has_word word before) (is_same_word word l.word)
@@ -92,7 +92,7 @@ single_job = record { refused = go }
     go before Global same = absurd (false≢true same)
     go before Time same = absurd (false≢true same)
 
--- behind one there is no other
+-- after one there is no other
 none_more : (word : DeclaringWord) → IsSingle word → (before lines : List DeclaredLine) → has_word word before ≡ true → unbuilt_declaration before lines ≡ None → count_word word lines ≡ 0
 unfolding count_word
 none_more word single before [] there all = refl
@@ -181,19 +181,19 @@ command_runs l one (Next parent sub) built may low = ((here l one parent may.0 l
 command_runs l one _ built may low = absurd (false≢true built)
 
 -- the only job is on the first application server
-placed : (l : Layout) → HasOneEach l → LayoutMay l → (job : ℕ) → job < length l.job_apps → (l.job_apps ≡ 0 ∷ []) × (job ≡ 0)
+placed : (l : Layout) → HasOneEach l → LayoutMay l → (job : ℕ) → job < length l.job_apps → (l.job_apps ≡ 0 ∷ []) × (job ≡ 0) × (0 < l.apps)
 placed l one may job low = go l.job_apps low one.jobs (recursion_from_All (λ app. app < l.apps) l.job_apps may.placed)
   where
-    go : (apps : List ℕ) → job < length apps → length apps ≤ 1 → AllByRecursion (λ app. app < l.apps) apps → (apps ≡ 0 ∷ []) × (job ≡ 0)
+    go : (apps : List ℕ) → job < length apps → length apps ≤ 1 → AllByRecursion (λ app. app < l.apps) apps → (apps ≡ 0 ∷ []) × (job ≡ 0) × (0 < l.apps)
     go [] low few all = absurd (omega (arith, low))
-    go (app ∷ []) low few all = (ap (λ n. n ∷ []) (omega (arith, all.0, one.apps)), omega (arith, low))
+    go (app ∷ []) low few all = (ap (λ n. n ∷ []) (omega (arith, all.0, one.apps)), omega (arith, low), omega (arith, all.0))
     go (app ∷ other ∷ apps) low few all = absurd (omega (arith, few))
 
 todo_runs : (l : Layout) → HasOneEach l → LayoutMay l → (todo : Todo) → is_built todo ≡ true → TodoMay l todo → TodoRuns l todo
 todo_runs l one may (Job job command) built its =
     let runs = command_runs l one command built its.1 its.2 in
     let at = placed l one may job its.0 in
-    (record { server = runs.1; job = at.0 }, at.1, runs.0)
+    (record { server = runs.1; app = at.2; job = at.0 }, at.1, runs.0)
 todo_runs l one may (Await job) built its = tt
 todo_runs l one may _ built its = absurd (false≢true built)
 
@@ -210,4 +210,7 @@ pub can_run : (script : Script) (text : List ℕ) → IsScriptText script text �
 can_run script text is may built =
     let parts : (unbuilt_declaration [] script.declarations ≡ None) × (unbuilt_todo script.lines ≡ None) = both_none (unbuilt_declaration [] script.declarations) (unbuilt_todo script.lines) built in
     let one : HasOneEach script.layout = subst (λ (s : Script). unbuilt_declaration [] s.declarations ≡ None → HasOneEach s.layout) (sym is.script_is) (one_each is.lines) parts.0 in
-    lines_run script.layout one may.layout script.lines parts.1 (recursion_from_All (λ (x : ScriptLine). TodoMay script.layout x.todo) script.lines may.lines)
+    record {
+      few = one.servers;
+      lines = lines_run script.layout one may.layout script.lines parts.1 (recursion_from_All (λ (x : ScriptLine). TodoMay script.layout x.todo) script.lines may.lines);
+    }

@@ -5,3 +5,4 @@ mod PrintLemmas
 mod PutLemmas
 mod RunSteps
 mod StatusLemmas
+mod WalkLemmas

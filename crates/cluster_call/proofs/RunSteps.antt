@@ -20,7 +20,7 @@ use Rattle.plain_orders.specs.Keys.{HasKeys}
 use Rattle.plain_orders.proofs.OrderKeys.{put_keys}
 use Rattle.plain_orders.proofs.NodeKeys.{child_key}
 use Rattle.plain_runs.specs.Items.{is_change_op}
-use Rattle.plain_runs.specs.JobRows.{asked_key, asked_bytes}
+use Rattle.plain_runs.specs.JobRows.{asked_key}
 use Rattle.plain_orders.specs.declared.question.Question.TheVariants.{Next as NextQuestion}
 use Rattle.plain_orders.specs.Answers.{next_key, IsSubIn}
 use Rattle.subscript_keys.specs.declared.sub.Sub.{Sub}
@@ -32,9 +32,9 @@ use Rattle.plain_orders.proofs.FoldLemmas.{fold-push}
 use Rattle.plain_orders.specs.Own.{Issued}
 use Rattle.plain_runs.specs.Plain.{Plain, Session, start}
 use Rattle.plain_runs.specs.Step.{after}
-use Rattle.cluster_call.specs.Running.{Stands, HasJob, IsAnswered, SESSION}
+use Rattle.cluster_call.specs.Running.{IsBetweenLines, HasJob, IsAnswered, SESSION}
 
-pub opened_stands : (l : Layout) → Stands (after l start (Opened 0 [])) 1 0 false nothing_folded
+pub opened_stands : (l : Layout) → IsBetweenLines (after l start (Opened 0 [])) 1 0 false nothing_folded
 opened_stands l = record {
   opened = refl;
   past = refl;
@@ -47,6 +47,7 @@ opened_stands l = record {
   seen = omega arith;
   free = refl;
   level = refl;
+  rolled = refl;
   alive = refl;
   pair = record { order = refl; session = refl; fresh = λ n. refl; none = refl };
 }
@@ -65,7 +66,7 @@ abbrev pub behind_met : Layout → Plain → Plain
 behind_met l p = after l (behind_save l p) (Met 0 0 SESSION)
 
 -- behind a connection
-pub connected_stands : (l : Layout) (p : Plain) (entries issued : ℕ) (store : Folded) → Stands p entries issued false store → HasJob l → Stands (behind_met l p) 2 0 true store
+pub connected_stands : (l : Layout) (p : Plain) (entries issued : ℕ) (store : Folded) → IsBetweenLines p entries issued false store → HasJob l → IsBetweenLines (behind_met l p) 2 0 true store
 connected_stands l p entries issued store h job = record {
   opened = h.opened;
   past = h.past;
@@ -78,6 +79,7 @@ connected_stands l p entries issued store h job = record {
   seen = rw job.job (omega arith);
   free = rw job.job h.free;
   level = h.level;
+  rolled = h.rolled;
   alive = h.alive;
   pair = (
     record { app = 0; issued = []; told = 0 },
@@ -117,7 +119,7 @@ issued_op line op = record { item = OpItem op; txn = 0; job = 0; line = line }
 abbrev with_op : Session → ℕ → Op → Session
 with_op its line op = record its { issued = its.issued ++ issued_op line op ∷ [] }
 
-known_after : (l : Layout) (p : Plain) (entries issued line w : ℕ) (store : Folded) (op : Op) → is_change_op op ≡ true → (h : Stands p entries issued true store) → HasJob l
+known_after : (l : Layout) (p : Plain) (entries issued line w : ℕ) (store : Folded) (op : Op) → is_change_op op ≡ true → (h : IsBetweenLines p entries issued true store) → HasJob l
     → ((behind_issue l p line w op).server_at 0).session_at SESSION ≡ Some (with_op h.pair.0 line op)
 known_after l p entries issued line w store (Set key value) e h job = rw job.job (rw h.pair.1.session (rw h.pair.1.known (rw h.level refl)))
 known_after l p entries issued line w store (Kill key) e h job = rw job.job (rw h.pair.1.session (rw h.pair.1.known (rw h.level refl)))
@@ -138,8 +140,8 @@ op_keys m (Set key value) e may h = put_keys key value m may.key_may.is_key h
 op_keys m (Kill key) e may h = outside_keys (λ k. not (is_under key k)) m h
 op_keys m (Add key amount) e may h = absurd (false≢true e)
 
-pub op_stands : (l : Layout) (p : Plain) (entries issued line : ℕ) (store : Folded) (op : Op) → is_change_op op ≡ true → OpMay 0 op → Stands p entries issued true store → HasJob l
-    → Stands (behind_update l p line (issued + 1) (entries + 1) op) (entries + 1) (issued + 1) true (fold_step store (update_entry (issued + 1) op))
+pub op_stands : (l : Layout) (p : Plain) (entries issued line : ℕ) (store : Folded) (op : Op) → is_change_op op ≡ true → OpMay 0 op → IsBetweenLines p entries issued true store → HasJob l
+    → IsBetweenLines (behind_update l p line (issued + 1) (entries + 1) op) (entries + 1) (issued + 1) true (fold_step store (update_entry (issued + 1) op))
 op_stands l p entries issued line store op e may h job = record {
   opened = h.opened;
   past = h.past;
@@ -152,6 +154,7 @@ op_stands l p entries issued line store op e may h job = record {
   seen = omega (arith, h.seen);
   free = h.free;
   level = h.level;
+  rolled = h.rolled;
   alive = h.alive;
   pair = (
     with_op h.pair.0 line op,
@@ -166,8 +169,8 @@ op_stands l p entries issued line store op e may h job = record {
   );
 }
 
-pub read_stands : (l : Layout) (p : Plain) (entries issued line : ℕ) (store : Folded) (question : Question) → Stands p entries issued true store
-    → Stands (after l p (Read 0 line 0 entries Fetched question)) entries issued true store
+pub read_stands : (l : Layout) (p : Plain) (entries issued line : ℕ) (store : Folded) (question : Question) → IsBetweenLines p entries issued true store
+    → IsBetweenLines (after l p (Read 0 line 0 entries Fetched question)) entries issued true store
 read_stands l p entries issued line store question h = record {
   opened = h.opened;
   past = h.past;
@@ -180,6 +183,7 @@ read_stands l p entries issued line store question h = record {
   seen = omega arith;
   free = h.free;
   level = h.level;
+  rolled = h.rolled;
   alive = h.alive;
   pair = (
     h.pair.0,
@@ -199,9 +203,9 @@ asked_node : (site : Site) (sub : Option Sub) → IsSite site → NextMay site s
 asked_node site None is may = (site.node, is.node, is.key)
 asked_node site (Some sub) is may = child_key site.key sub (site.node, is.node, is.key) may.0
 
-asked_within : (site : Site) (sub : Option Sub) → NextMay site sub → IsWithinLimit (asked_bytes site.key sub)
-asked_within site None may = may
-asked_within site (Some sub) may = may.1
+asked_within : (site : Site) (sub : Option Sub) → IsSite site → NextMay site sub → IsWithinLimit (asked_key site.key sub)
+asked_within site None is may = is.within
+asked_within site (Some sub) is may = may.1
 
 asked_sub : (site : Site) (sub : Option Sub) → NextMay site sub → IfSome sub IsSub
 asked_sub site None may = tt
@@ -215,4 +219,4 @@ found_sub parent (Some key) (Some sub) is = is.0
 
 -- what a next finds is an answer
 pub next_answered : (m : Map) (site : Site) (sub found : Option Sub) → IsSite site → NextMay site sub → IsSubIn site.key (next_key m site.key sub) found → IsAnswered m (NextQuestion site.key sub found)
-next_answered m site sub found is may in_it = (in_it, asked_node site sub is may, asked_within site sub may, (site.node, is.node, is.key), asked_sub site sub may, found_sub site.key (next_key m site.key sub) found in_it)
+next_answered m site sub found is may in_it = (in_it, asked_node site sub is may, asked_within site sub is may, (site.node, is.node, is.key), asked_sub site sub may, found_sub site.key (next_key m site.key sub) found in_it)

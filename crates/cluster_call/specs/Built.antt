@@ -23,7 +23,7 @@ is_same_word a b = false
 abbrev pub has_word : DeclaringWord → List DeclaredLine → Bool
 has_word word lines = list_any (λ l. is_same_word word l.word) lines
 
--- a declaration behind these isn't built yet: a time, or a second data server, application server or job
+-- a declaration after these isn't built yet: a time, or a second data server, application server or job
 abbrev pub is_unbuilt : List DeclaredLine → DeclaringWord → Bool
 is_unbuilt before Data = has_word Data before
 is_unbuilt before App = has_word App before
@@ -31,7 +31,7 @@ is_unbuilt before JobWord = has_word JobWord before
 is_unbuilt before Global = false
 is_unbuilt before Time = true
 
--- the line of the first declaration that isn't built yet, behind others
+-- the line of the first declaration that isn't built yet, after others
 abbrev pub unbuilt_declaration : List DeclaredLine → List DeclaredLine → Option ℕ
 unbuilt_declaration before [] = None
 unbuilt_declaration before (l ∷ lines) = if is_unbuilt before l.word then Some l.line else unbuilt_declaration (before ++ l ∷ []) lines

@@ -1,7 +1,7 @@
 pub mod Built
-pub mod Fits
 pub mod OutputText
 pub mod Outside
 pub mod Reading
 pub mod Running
 pub mod StatusCauses
+pub mod Found

@@ -25,7 +25,7 @@ fn has_word(word: DeclaringWord, lines: &[DeclaredLine]) -> bool
     lines.iter().any(|line| is_same_word(word, line.word))
 }
 
-/// Whether a declaration behind these isn't built yet.
+/// Whether a declaration after these isn't built yet.
 fn is_unbuilt(before: &[DeclaredLine], word: DeclaringWord) -> bool
     ensures { result ≡ is_unbuilt before.now word }
 {

@@ -2,12 +2,14 @@
 //! a sink; what it answers says what the outside told.
 #![tactic(auto)]
 
-mod answer_line;
 mod built;
+mod copies;
+mod issuing;
 mod limits;
-mod output;
+mod line_run;
 mod output_text;
 mod put_all;
+mod reading;
 mod script_run;
 mod source_text;
 mod status;

@@ -1,7 +1,6 @@
 ghost use Rattle.std.specs.Prelude.{◌≡◌, ◌⊎◌, ◌≤◌, IfErr, OnOk};
 ghost use Rattle.std.specs.Io.KnownBytes.{Appends};
-ghost use Rattle.outer_io.specs.Causes.{Rose};
-ghost use Rattle.outer_io.specs.Took.{TookFront};
+ghost use Rattle.outer_io.specs.Told.{sink_told, HoldsFrontOf, SinkStopped};
 
 use outer_io::{Sink, Stop};
 
@@ -9,10 +8,11 @@ use outer_io::{Sink, Stop};
 /// the front. A sink that takes nothing of a piece has failed too.
 pub fn put_all<K: Sink>(out: &mut K, bytes: &[u8]) -> Result<(), Stop>
     ensures ok { OnOk result (Appends (K.held out.old) (K.held out.new) bytes.now) }
-    ensures front { TookFront (K.held out.old) (K.held out.new) bytes.now }
+    ensures front { HoldsFrontOf (sink_told K.held K.faults K.refusals out.old out.new) bytes.now }
     ensures faults { K.faults out.old ≤ K.faults out.new }
     ensures refusals { K.refusals out.old ≤ K.refusals out.new }
-    ensures stopped { IfErr result (λ stop. stop ≡ Stop.Failed → Rose (K.faults out.old) (K.faults out.new) ⊎ Rose (K.refusals out.old) (K.refusals out.new)) }
+    ensures stopped { IfErr result (λ stop. stop ≡ Stop.Failed →
+        SinkStopped (sink_told K.held K.faults K.refusals out.old out.new)) }
 {
     let mut done = 0;
     while done < bytes.len() {

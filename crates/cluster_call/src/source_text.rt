@@ -1,15 +1,12 @@
 //! The text of a source, read to its end.
 ghost use Rattle.std.specs.Prelude.{◌≡◌, ◌<◌, ◌≤◌, length, vec_len, IfOk, OnErr, IfErr};
 ghost use Rattle.std.specs.Io.KnownBytes.{Consumes, IsAtEnd};
-ghost use Rattle.outer_io.specs.Causes.{Rose};
+ghost use Rattle.outer_io.specs.Told.{source_told};
 ghost use Rattle.cluster_call.specs.Reading.{StopsReading};
 
-use crate::limits::TEXT_LIMIT;
+use crate::limits::{CHUNK, TEXT_LIMIT};
 use outer_io::Source;
 use std::alloc::{AllocError, Global};
-
-/// How many bytes one take asks for.
-const CHUNK: usize = 65_536;
 
 /// Why a source was not read to its end.
 #[derive(Clone, Copy, Debug)]
@@ -34,7 +31,8 @@ pub fn read_text<S: Source>(alloc: Global, src: &mut S) -> Result<Vec<u8>, TextE
     ensures end { IfOk result (λ _. IsAtEnd (S.left src.new)) }
     ensures within { IfOk result (λ text. vec_len text ≤ TEXT_LIMIT) }
     ensures later { S.faults src.old ≤ S.faults src.new }
-    ensures err { IfErr result (StopsReading (S.left src.old) (S.faults src.old) (S.faults src.new)) }
+    ensures err { IfErr result
+        (StopsReading (source_told S.left S.faults src.old src.new)) }
 {
     let mut text = Vec::new(alloc);
     let Ok(mut buf) = buffer(alloc) else {

@@ -1,19 +1,21 @@
 //! The calls behind the program's commands.
-ghost use Rattle.std.specs.Prelude.{◌≡◌, ◌≢◌, ◌⊎◌, ◌↔◌, IsTrue, None, IfOk, IfErr};
-ghost use Rattle.cluster_call.specs.Built.{first_unbuilt};
-ghost use Rattle.cluster_call.specs.Outside.{Outside, SinkTold, WasPut};
-ghost use Rattle.cluster_call.specs.StatusCauses.{Answers, Ends, HasRead, IsScriptForm, about_line, fault_line};
-ghost use Rattle.outer_io.specs.Took.{TookFront};
+ghost use Rattle.std.specs.Prelude.{◌≡◌, ◌≢◌, ◌⊎◌, ◌↔◌, [], IsTrue, None, IfOk, IfErr};
+ghost use Rattle.std.specs.List.{flat_map};
+ghost use Rattle.outer_io.specs.Told.{sink_told, source_told, HoldsFrontOf, WasPut};
 ghost use Rattle.plain_runs.specs.Run.{IsRun};
-ghost use Rattle.cluster_call.specs.Fits.{Fits};
+ghost use Rattle.script_fits.specs.declared.output.Output.{Output};
+ghost use Rattle.script_fits.specs.Fits.{Fits};
+ghost use Rattle.cluster_call.specs.Built.{first_unbuilt};
+ghost use Rattle.cluster_call.specs.Found.{found_of};
 ghost use Rattle.cluster_call.specs.OutputText.{IsOutputText};
+ghost use Rattle.cluster_call.specs.Outside.{outside};
 ghost use Rattle.cluster_call.specs.Running.{CanRun};
-ghost use Rattle.cluster_call.specs.declared.output.Output.{Output};
+ghost use Rattle.cluster_call.specs.StatusCauses.{Answers, Ends, HasRead, IsScriptForm, about_line, fault_line, no_nets};
 
 use crate::built::first_unbuilt;
+use crate::line_run::run_script;
 use crate::output_text::print_output;
 use crate::put_all::put_all;
-use crate::script_run::run_script;
 use crate::source_text::{TextError, read_text};
 use crate::status::Status;
 use itoa::Buffer;
@@ -75,15 +77,10 @@ fn fault_text(alloc: Global, status: Status) -> Result<Vec<u8>, AllocError>
 /// Puts the line of a status that refuses. It stays as it is where the sink fails.
 fn refuse<K: Sink>(alloc: Global, out: &mut K, status: Status) -> Status
     ensures answer { (result ≡ status) ⊎ (result ≡ Status.OutOfMemory) }
-    ensures front { TookFront (K.held out.old) (K.held out.new) (fault_line status) }
-    ensures put { result ≢ Status.OutOfMemory → WasPut (record {
-      held_before = K.held out.old;
-      held_after = K.held out.new;
-      faults_before = K.faults out.old;
-      faults_after = K.faults out.new;
-      refusals_before = K.refusals out.old;
-      refusals_after = K.refusals out.new;
-    }) (fault_line status) }
+    ensures front { HoldsFrontOf
+        (sink_told K.held K.faults K.refusals out.old out.new) (fault_line status) }
+    ensures put { result ≢ Status.OutOfMemory →
+        WasPut (sink_told K.held K.faults K.refusals out.old out.new) (fault_line status) }
 {
     let Ok(line) = fault_text(alloc, status) else {
         return Status::OutOfMemory;
@@ -94,20 +91,14 @@ fn refuse<K: Sink>(alloc: Global, out: &mut K, status: Status) -> Status
     }
 }
 
-/// Reads the script that the words name, or says why there is none. Nothing is put.
+/// Reads the script that the words name, or says why there is none.
 fn read_source<S: Source>(alloc: Global, words: &[Word], src: &mut S) -> Result<Script, Status>
-    ensures ok { (k : SinkTold) → IfOk result (HasRead (record {
-      words = words.now;
-      sink = k;
-      source = record { left_before = S.left src.old; left_after = S.left src.new; faults_before = S.faults src.old; faults_after = S.faults src.new };
-    })) }
+    ensures ok { IfOk result
+        (HasRead words.now (source_told S.left S.faults src.old src.new)) }
     ensures built { IfOk result (λ script. first_unbuilt script ≡ None) }
     ensures can_run { IfOk result (λ script. CanRun script) }
-    ensures err { (k : SinkTold) → IfErr result (Ends (record {
-      words = words.now;
-      sink = k;
-      source = record { left_before = S.left src.old; left_after = S.left src.new; faults_before = S.faults src.old; faults_after = S.faults src.new };
-    })) }
+    ensures err { IfErr result
+        (Ends words.now (source_told S.left S.faults src.old src.new)) }
 {
     if !is_script_form(words) {
         return Err(Status::Usage);
@@ -134,20 +125,21 @@ fn read_source<S: Source>(alloc: Global, words: &[Word], src: &mut S) -> Result<
 /// Runs a script and makes the text of its output.
 fn output_text(alloc: Global, script: &Script) -> Result<Vec<u8>, AllocError>
     requires { CanRun script.now }
-    ensures { IfOk result (λ text. (out : Output) × IsOutputText script.now out text.items × IsRun script.now.layout out.trail × Fits script.now out) }
+    ensures { IfOk result (λ text. (out : Output) × IsOutputText script.now out text.items ×
+        IsRun script.now.layout out.trail × Fits script.now no_nets out ×
+        (flat_map found_of out.trail ≡ [])) }
 {
     let output = run_script(alloc, script)?;
     let text = print_output(alloc, script, &output)?;
     Ok(text)
 }
 
-/// `ecp script FILE`: runs the script that the source has, and puts its output once the run is over.
+/// `ecp script FILE`: runs the script that the source has, and puts its output once the run is over. Where memory
+/// runs out in the run nothing was put.
 pub fn script<S: Source, K: Sink>(alloc: Global, words: &[Word], src: &mut S, out: &mut K) -> Status
-    ensures { Answers (record {
-      words = words.now;
-      source = record { left_before = S.left src.old; left_after = S.left src.new; faults_before = S.faults src.old; faults_after = S.faults src.new };
-      sink = record { held_before = K.held out.old; held_after = K.held out.new; faults_before = K.faults out.old; faults_after = K.faults out.new; refusals_before = K.refusals out.old; refusals_after = K.refusals out.new };
-    }) result }
+    ensures { Answers (outside words.now
+        (source_told S.left S.faults src.old src.new)
+        (sink_told K.held K.faults K.refusals out.old out.new)) result }
 {
     let script = match read_source(alloc, words, src) {
         Ok(script) => script,

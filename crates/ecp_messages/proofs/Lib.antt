@@ -9,3 +9,4 @@ pub mod FrameReads
 pub mod UpFrames
 pub mod DownTable
 pub mod DownFrames
+pub mod MessageErrors

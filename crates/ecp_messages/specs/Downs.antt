@@ -3,11 +3,11 @@ use Rattle.std.specs.Prelude.{ℕ, List, [], ◌∷◌}
 use Rattle.ecp_messages.specs.declared.down.Down.{Down}
 use Rattle.ecp_messages.specs.declared.down.Down.TheVariants.{Welcome, Reset, Block, Drop, Ack, Grant, Answer, Normal, Bare}
 use Rattle.ecp_messages.specs.declared.down.DownFrame.{DownFrame}
-use Rattle.ecp_messages.specs.Rows.{Row, IsFrame, frame_bytes, keeps_sum, numbered, unnumbered}
+use Rattle.ecp_messages.specs.Rows.{KindRow, IsFrame, frame_bytes, keeps_sum, numbered, unnumbered}
 use Rattle.ecp_messages.specs.Rows.Field.{U16, U32, U64, I64, Told, FrontOf, Part}
 
 -- the table
-abbrev pub down_row : Down → Row
+abbrev pub down_row : Down → KindRow
 down_row (Welcome session epoch kept front taken) = unnumbered 0x81 (U64 session ∷ U32 epoch ∷ U64 kept ∷ FrontOf front ∷ U64 taken ∷ [])
 down_row (Reset session at) = unnumbered 0x82 (U64 session ∷ U64 at ∷ [])
 down_row (Block front block) = numbered 0x83 (FrontOf front ∷ Part block ∷ [])

@@ -1,3 +1,4 @@
+pub mod Errors
 pub mod Rows
 pub mod Ups
 pub mod Downs

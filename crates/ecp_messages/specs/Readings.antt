@@ -17,10 +17,10 @@ pub record HasBadField {A : Type 0} (bytes_of : A → List ℕ) (May : A → Typ
   pub none : NoneAhead bytes_of May body
   pub known : Unknown → ⊥
 
--- the answer is right of the body, unless memory is wanting
-abbrev pub Reads : {A : Type 0} → (A → List ℕ) → (A → Type 0) → Type 0 → List ℕ → Result A MessageError → Type 0
-Reads bytes_of May Unknown body (Ok frame) = May frame × (bytes_of frame ≡ body)
-Reads bytes_of May Unknown body (Err LeftOver) = HasMore bytes_of May body
-Reads bytes_of May Unknown body (Err BadKind) = Unknown
-Reads bytes_of May Unknown body (Err BadField) = HasBadField bytes_of May Unknown body
-Reads bytes_of May Unknown body (Err (Memory error)) = Unit {0}
+-- the answer is right of the body, unless memory ran out
+abbrev pub DecodesTo : {A : Type 0} → (A → List ℕ) → (A → Type 0) → Type 0 → List ℕ → Result A MessageError → Type 0
+DecodesTo bytes_of May Unknown body (Ok frame) = May frame × (bytes_of frame ≡ body)
+DecodesTo bytes_of May Unknown body (Err LeftOver) = HasMore bytes_of May body
+DecodesTo bytes_of May Unknown body (Err BadKind) = Unknown
+DecodesTo bytes_of May Unknown body (Err BadField) = HasBadField bytes_of May Unknown body
+DecodesTo bytes_of May Unknown body (Err (Memory error)) = Unit {0}

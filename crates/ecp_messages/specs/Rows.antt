@@ -130,18 +130,18 @@ fields_bytes [] = []
 fields_bytes (f ∷ fs) = field_bytes f ++ fields_bytes fs
 
 -- a row: the kind, whether the message is numbered, its fields, and whether it keeps the table's rule on sums
-pub record Row : Type 0 where
+pub record KindRow : Type 0 where
   pub kind : ℕ
   pub numbered : Bool
   pub fields : List Field
   pub sum_kept : Bool
 
 -- rows with no sum, of messages without a number
-abbrev pub unnumbered : ℕ → List Field → Row
+abbrev pub unnumbered : ℕ → List Field → KindRow
 unnumbered kind fields = record { kind = kind; numbered = false; fields = fields; sum_kept = true }
 
 -- and those of numbered messages
-abbrev pub numbered : ℕ → List Field → Row
+abbrev pub numbered : ℕ → List Field → KindRow
 numbered kind fields = record { kind = kind; numbered = true; fields = fields; sum_kept = true }
 
 -- a sum other than 0 is told only of what was counted
@@ -150,7 +150,7 @@ keeps_sum Counted sum = true
 keeps_sum about sum = int_eq sum (pos 0)
 
 -- a message: its kind, then its fields
-abbrev pub row_bytes : Row → List ℕ
+abbrev pub row_bytes : KindRow → List ℕ
 row_bytes row = row.kind ∷ fields_bytes row.fields
 
 -- the 17 bytes in front of the fields: the number, the count of what was taken, the kind
@@ -158,7 +158,7 @@ unfoldable pub head_bytes : ℕ → ℕ → ℕ → List ℕ
 head_bytes seq ack kind = u64_bytes seq ++ (u64_bytes ack ++ u8_bytes kind)
 
 -- a frame
-abbrev pub frame_bytes : ℕ → ℕ → Row → List ℕ
+abbrev pub frame_bytes : ℕ → ℕ → KindRow → List ℕ
 frame_bytes seq ack row = head_bytes seq ack row.kind ++ fields_bytes row.fields
 
 -- numbered messages have numbers from 1, the others 0
@@ -167,7 +167,7 @@ HasSeq true seq = 1 ≤ seq
 HasSeq false seq = seq ≡ 0
 
 -- a frame whose number, fields and sum are as the table asks
-pub record IsFrame (seq ack : ℕ) (row : Row) : Type 0 where
+pub record IsFrame (seq ack : ℕ) (row : KindRow) : Type 0 where
   pub seq_fits : IsU64 seq
   pub ack_fits : IsU64 ack
   pub numbered : HasSeq row.numbered seq

@@ -3,11 +3,11 @@ use Rattle.std.specs.Prelude.{ℕ, List, [], ◌∷◌}
 use Rattle.ecp_messages.specs.declared.up.Up.{Up}
 use Rattle.ecp_messages.specs.declared.up.Up.TheVariants.{Hello, Recover, Update, Add, Fetch, Ask, Unlock, Cancel, Commit, Rollback, Sync, Done, Claim, Bare}
 use Rattle.ecp_messages.specs.declared.up.UpFrame.{UpFrame}
-use Rattle.ecp_messages.specs.Rows.{Row, IsFrame, frame_bytes, numbered, unnumbered}
+use Rattle.ecp_messages.specs.Rows.{KindRow, IsFrame, frame_bytes, numbered, unnumbered}
 use Rattle.ecp_messages.specs.Rows.Field.{Version, U8, U16, U32, U64, I64, Count, Held, Wanted, Key, Sought, Change}
 
 -- the table
-abbrev pub up_row : Up → Row
+abbrev pub up_row : Up → KindRow
 up_row (Hello app dial) = unnumbered 0x01 (Version ∷ U8 app ∷ U32 dial ∷ [])
 up_row (Recover app session epoch taken dial) = unnumbered 0x02 (U8 app ∷ U64 session ∷ U32 epoch ∷ U64 taken ∷ U32 dial ∷ [])
 up_row (Update w job txn op) = numbered 0x03 (U64 w ∷ U16 job ∷ U32 txn ∷ Change op ∷ [])

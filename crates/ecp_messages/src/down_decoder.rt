@@ -1,7 +1,7 @@
 ghost use Rattle.std.specs.Prelude.{◌≡◌, ◌≢◌, ◌↔◌, Ok, Err, IfOk, alloc_error};
 ghost use Rattle.ecp_messages.specs.declared.down.DownFrame.{DownFrame};
 ghost use Rattle.ecp_messages.specs.Downs.{down_frame_bytes, down_row, IsDownFrame};
-ghost use Rattle.ecp_messages.specs.Readings.{HasBadField, HasMore, Reads};
+ghost use Rattle.ecp_messages.specs.Readings.{HasBadField, HasMore, DecodesTo};
 ghost use Rattle.ecp_messages.specs.Taking.{HasUnknownKind};
 
 use crate::down::DownFrame;
@@ -12,19 +12,11 @@ use std::alloc::Global;
 
 /// Reads a body whose answer is right of it.
 fn read_down(alloc: Global, body: &[u8]) -> Result<DownFrame, MessageError>
-    ensures { Reads down_frame_bytes IsDownFrame
+    ensures { DecodesTo down_frame_bytes IsDownFrame
         (HasUnknownKind down_row body.now) body.now result }
 {
-    let Some((head, rest)) = take_head(body) else {
-        return Err(MessageError::BadField);
-    };
-    let taken = match take_down(alloc, head.kind, rest) {
-        Ok(taken) => taken,
-        Err(error) => return Err(error),
-    };
-    let Some((message, rest)) = taken else {
-        return Err(MessageError::BadField);
-    };
+    let (head, rest) = take_head(body).ok_or(MessageError::BadField)?;
+    let (message, rest) = take_down(alloc, head.kind, rest)?;
     if !has_seq(message.is_numbered(), head.seq) {
         return Err(MessageError::BadField);
     }
@@ -38,7 +30,7 @@ fn read_down(alloc: Global, body: &[u8]) -> Result<DownFrame, MessageError>
     })
 }
 
-/// The frame whose bytes the body is. Unless memory is wanting, `BadKind` is answered exactly where the 17th byte
+/// The frame whose bytes the body is. Unless out of memory, `BadKind` is answered exactly where the 17th byte
 /// is no kind of the table, `LeftOver` exactly where bytes follow a frame, and `BadField` exactly elsewhere.
 pub fn decode_down(alloc: Global, body: &[u8]) -> Result<DownFrame, MessageError>
     ensures ok { IfOk result (λ frame. IsDownFrame frame × (down_frame_bytes frame ≡ body.now)) }

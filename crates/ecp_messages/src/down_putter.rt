@@ -127,7 +127,7 @@ fn put_normal(to: &mut Vec<u8>, front: Front) -> Result<(), AllocError>
     put_front(to, front)
 }
 
-/// Appends a message: its kind and its fields. Where memory is wanting, what was held stays in front.
+/// Appends a message: its kind and its fields. Out of memory, what was held stays in front.
 pub(crate) fn put_down(to: &mut Vec<u8>, message: &Down) -> Result<(), AllocError>
     requires { AllByRecursion IsField (down_row message.now).fields }
     ensures ok { OnOk result (to.new.items ≡ to.old.items ++ row_bytes (down_row message.now)) }

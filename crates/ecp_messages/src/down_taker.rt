@@ -9,8 +9,8 @@ use crate::block_part::BlockPart;
 use crate::down::Down;
 use crate::field_takers::{take_about, take_front, take_part};
 use crate::message_error::MessageError;
-use field_bytes::{take_i64, take_u16, take_u32, take_u64};
-use std::alloc::{AllocError, Global};
+use field_bytes::{FieldError, take_i64, take_u16, take_u32, take_u64};
+use std::alloc::Global;
 use subscript_keys::KeyBytes;
 
 /// A Welcome behind its kind.
@@ -47,40 +47,28 @@ fn take_reset(bytes: &[u8]) -> Option<(Down, &[u8])>
 
 /// A Block behind its kind.
 #[tactic(auto, using(crate::proofs::DownTable::no_message))]
-fn take_block(alloc: Global, bytes: &[u8]) -> Result<Option<(Down, &[u8])>, AllocError>
-    ensures some { IfOk result (λ taken. IfSome taken (λ got.
-        IsAhead down_row 0x83 bytes.now got.0 got.1.now)) }
-    ensures none { IfOk result (λ taken. IfNone taken (NoMessage down_row 0x83 bytes.now)) }
+fn take_block(alloc: Global, bytes: &[u8]) -> Result<(Down, &[u8]), FieldError>
+    ensures some { IfOk result (λ got. IsAhead down_row 0x83 bytes.now got.0 got.1.now) }
+    ensures none { result ≡ Err FieldError.NoField → NoMessage down_row 0x83 bytes.now }
 {
-    let Some((front, rest)) = take_front(bytes) else {
-        return Ok(None);
-    };
-    let Some((block, rest)) = take_part(alloc, rest)? else {
-        return Ok(None);
-    };
+    let (front, rest) = take_front(bytes).ok_or(FieldError::NoField)?;
+    let (block, rest) = take_part(alloc, rest)?;
     let block = BlockPart::from_vec(block);
-    Ok(Some((Down::Block { front, block }, rest)))
+    Ok((Down::Block { front, block }, rest))
 }
 
 /// A Drop behind its kind.
 #[tactic(auto, using(crate::proofs::DownTable::no_message))]
-fn take_drop(alloc: Global, bytes: &[u8]) -> Result<Option<(Down, &[u8])>, AllocError>
-    ensures some { IfOk result (λ taken. IfSome taken (λ got.
-        IsAhead down_row 0x84 bytes.now got.0 got.1.now)) }
-    ensures none { IfOk result (λ taken. IfNone taken (NoMessage down_row 0x84 bytes.now)) }
+fn take_drop(alloc: Global, bytes: &[u8]) -> Result<(Down, &[u8]), FieldError>
+    ensures some { IfOk result (λ got. IsAhead down_row 0x84 bytes.now got.0 got.1.now) }
+    ensures none { result ≡ Err FieldError.NoField → NoMessage down_row 0x84 bytes.now }
 {
-    let Some((front, rest)) = take_front(bytes) else {
-        return Ok(None);
-    };
-    let Some((lo, rest)) = take_part(alloc, rest)? else {
-        return Ok(None);
-    };
-    let Some((hi, rest)) = take_part(alloc, rest)? else {
-        return Ok(None);
-    };
+    let (front, rest) = take_front(bytes).ok_or(FieldError::NoField)?;
+    let (lo, rest) = take_part(alloc, rest)?;
+    let (hi, rest) = take_part(alloc, rest)?;
     let lo = KeyBytes::from_vec(lo);
     let hi = KeyBytes::from_vec(hi);
-    Ok(Some((Down::Drop { front, lo, hi }, rest)))
+    Ok((Down::Drop { front, lo, hi }, rest))
 }
 
 /// An Ack behind its kind.
@@ -151,31 +139,31 @@ fn take_normal(bytes: &[u8]) -> Option<(Down, &[u8])>
     Some((Down::Normal { front }, rest))
 }
 
-/// The message behind its kind, and what follows it; none where a field is missing or out of its range.
-#[tactic(auto, using(crate::proofs::DownTable::unknown_kind))]
+/// The message behind its kind, and what follows it; `BadField` where a field is missing or
+/// out of its range.
+#[tactic(auto, using(crate::proofs::DownTable::unknown_kind, crate::proofs::MessageErrors::errors_made))]
 pub(crate) fn take_down(
     alloc: Global,
     kind: u8,
     bytes: &[u8],
-) -> Result<Option<(Down, &[u8])>, MessageError>
-    ensures some { IfOk result (λ taken. IfSome taken (λ got.
-        IsAhead down_row kind bytes.now got.0 got.1.now)) }
-    ensures none { IfOk result (λ taken. IfNone taken (NoMessage down_row kind bytes.now)) }
-    ensures known { IfOk result (λ _. IsUnknown down_row kind → ⊥) }
+) -> Result<(Down, &[u8]), MessageError>
+    ensures some { IfOk result (λ got. IsAhead down_row kind bytes.now got.0 got.1.now) }
+    ensures known { result ≢ Err MessageError.BadKind → IsUnknown down_row kind → ⊥ }
     ensures bad_kind { result ≡ Err MessageError.BadKind → IsUnknown down_row kind }
-    ensures bad_field { result ≢ Err MessageError.BadField }
+    ensures bad_field { result ≡ Err MessageError.BadField →
+        NoMessage down_row kind bytes.now }
     ensures left_over { result ≢ Err MessageError.LeftOver }
 {
     match kind {
-        0x81 => Ok(take_welcome(bytes)),
-        0x82 => Ok(take_reset(bytes)),
-        0x83 => take_block(alloc, bytes).map_err(MessageError::Memory),
-        0x84 => take_drop(alloc, bytes).map_err(MessageError::Memory),
-        0x85 => Ok(take_ack(bytes)),
-        0x86 => Ok(take_grant(bytes)),
-        0x87 => Ok(take_answer(bytes)),
-        0x88 => Ok(take_normal(bytes)),
-        0x7F => Ok(Some((Down::Bare, bytes))),
+        0x81 => take_welcome(bytes).ok_or(MessageError::BadField),
+        0x82 => take_reset(bytes).ok_or(MessageError::BadField),
+        0x83 => Ok(take_block(alloc, bytes)?),
+        0x84 => Ok(take_drop(alloc, bytes)?),
+        0x85 => take_ack(bytes).ok_or(MessageError::BadField),
+        0x86 => take_grant(bytes).ok_or(MessageError::BadField),
+        0x87 => take_answer(bytes).ok_or(MessageError::BadField),
+        0x88 => take_normal(bytes).ok_or(MessageError::BadField),
+        0x7F => Ok((Down::Bare, bytes)),
         _ => Err(MessageError::BadKind),
     }
 }

@@ -45,7 +45,7 @@ pub(crate) fn put_about(to: &mut Vec<u8>, about: About) -> Result<(), AllocError
     }
 }
 
-/// Appends n, w and s. Where memory is wanting, what was held stays in front.
+/// Appends n, w and s. Out of memory, what was held stays in front.
 #[tactic(auto, unfolding(crate::specs::Rows::front_bytes))]
 pub(crate) fn put_front(to: &mut Vec<u8>, front: Front) -> Result<(), AllocError>
     ensures ok { OnOk result (to.new.items ≡ to.old.items ++ front_bytes front) }

@@ -9,9 +9,9 @@ ghost use Rattle.ecp_messages.specs.Rows.{about_bytes, front_bytes, mode_bytes, 
 
 use crate::about::About;
 use crate::front::Front;
-use field_bytes::{take_list, take_op, take_u8, take_u32, take_u64};
+use field_bytes::{FieldError, take_list, take_op, take_u8, take_u32, take_u64};
 use plain_orders::{Mode, Op};
-use std::alloc::{AllocError, Global};
+use std::alloc::Global;
 use std::cmp::Ordering;
 use subscript_keys::KeyBytes;
 
@@ -104,18 +104,14 @@ pub(crate) fn take_front(bytes: &[u8]) -> Option<(Front, &[u8])>
 }
 
 /// A copy of bytes behind their count, and what follows them.
-pub(crate) fn take_part(alloc: Global, bytes: &[u8]) -> Result<Option<(Vec<u8>, &[u8])>, AllocError>
-    ensures some { IfOk result (λ taken. IfSome taken (λ got.
-        bytes.now ≡ list_bytes got.0.items ++ got.1.now)) }
-    ensures range { IfOk result (λ taken. IfSome taken (λ got. IsShortList got.0.items)) }
-    ensures none { IfOk result (λ taken. IfNone taken
-        (NoneAhead list_bytes IsShortList bytes.now)) }
+pub(crate) fn take_part(alloc: Global, bytes: &[u8]) -> Result<(Vec<u8>, &[u8]), FieldError>
+    ensures some { IfOk result (λ got. bytes.now ≡ list_bytes got.0.items ++ got.1.now) }
+    ensures range { IfOk result (λ got. IsShortList got.0.items) }
+    ensures none { result ≡ Err FieldError.NoField → NoneAhead list_bytes IsShortList bytes.now }
 {
-    let Some((part, rest)) = take_list(bytes) else {
-        return Ok(None);
-    };
+    let (part, rest) = take_list(bytes).ok_or(FieldError::NoField)?;
     let part = Vec::from_slice(alloc, part)?;
-    Ok(Some((part, rest)))
+    Ok((part, rest))
 }
 
 /// Whether a Fetch may name bytes that stand in a field.
@@ -130,37 +126,28 @@ fn can_be_sought(key: &[u8]) -> bool
 }
 
 /// What a Fetch names, and what follows it.
-pub(crate) fn take_sought(
-    alloc: Global,
-    bytes: &[u8],
-) -> Result<Option<(KeyBytes, &[u8])>, AllocError>
-    ensures some { IfOk result (λ taken. IfSome taken (λ got.
-        bytes.now ≡ list_bytes got.0 ++ got.1.now)) }
-    ensures range { IfOk result (λ taken. IfSome taken (λ got. IsSought got.0)) }
-    ensures none { IfOk result (λ taken. IfNone taken (NoneAhead list_bytes IsSought bytes.now)) }
+pub(crate) fn take_sought(alloc: Global, bytes: &[u8]) -> Result<(KeyBytes, &[u8]), FieldError>
+    ensures some { IfOk result (λ got. bytes.now ≡ list_bytes got.0 ++ got.1.now) }
+    ensures range { IfOk result (λ got. IsSought got.0) }
+    ensures none { result ≡ Err FieldError.NoField → NoneAhead list_bytes IsSought bytes.now }
 {
-    let Some((key, rest)) = take_list(bytes) else {
-        return Ok(None);
-    };
+    let (key, rest) = take_list(bytes).ok_or(FieldError::NoField)?;
     if !can_be_sought(key) {
-        return Ok(None);
+        return Err(FieldError::NoField);
     }
     let key = Vec::from_slice(alloc, key)?;
-    Ok(Some((KeyBytes::from_vec(key), rest)))
+    Ok((KeyBytes::from_vec(key), rest))
 }
 
 /// A Set or a Kill, and what follows it.
-pub(crate) fn take_change(alloc: Global, bytes: &[u8]) -> Result<Option<(Op, &[u8])>, AllocError>
-    ensures some { IfOk result (λ taken. IfSome taken (λ got.
-        bytes.now ≡ op_bytes got.0 ++ got.1.now)) }
-    ensures range { IfOk result (λ taken. IfSome taken (λ got. IsChange got.0)) }
-    ensures none { IfOk result (λ taken. IfNone taken (NoneAhead op_bytes IsChange bytes.now)) }
+pub(crate) fn take_change(alloc: Global, bytes: &[u8]) -> Result<(Op, &[u8]), FieldError>
+    ensures some { IfOk result (λ got. bytes.now ≡ op_bytes got.0 ++ got.1.now) }
+    ensures range { IfOk result (λ got. IsChange got.0) }
+    ensures none { result ≡ Err FieldError.NoField → NoneAhead op_bytes IsChange bytes.now }
 {
-    let Some((op, rest)) = take_op(alloc, bytes)? else {
-        return Ok(None);
-    };
+    let (op, rest) = take_op(alloc, bytes)?;
     match op {
-        Op::Add { .. } => Ok(None),
-        op => Ok(Some((op, rest))),
+        Op::Add { .. } => Err(FieldError::NoField),
+        op => Ok((op, rest)),
     }
 }

@@ -1,3 +1,7 @@
+ghost use Rattle.std.specs.Prelude.{◌≡◌};
+ghost use Rattle.ecp_messages.specs.Errors.{message_error_of};
+
+use field_bytes::FieldError;
 use std::alloc::AllocError;
 use thiserror::Error;
 
@@ -12,4 +16,15 @@ pub enum MessageError {
     LeftOver,
     #[error("out of memory while a message is read")]
     Memory(AllocError),
+}
+
+impl From<FieldError> for MessageError {
+    ghost from_gives = { λ error e. e ≡ message_error_of error };
+
+    fn from(error: FieldError) -> MessageError {
+        match error {
+            FieldError::NoField => MessageError::BadField,
+            FieldError::Memory(error) => MessageError::Memory(error),
+        }
+    }
 }

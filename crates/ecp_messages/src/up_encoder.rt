@@ -7,7 +7,7 @@ use crate::up_putter::put_up;
 use field_bytes::put_u64;
 use std::alloc::AllocError;
 
-/// Appends a frame. Where memory is wanting, what was held stays in front.
+/// Appends a frame. Out of memory, what was held stays in front.
 #[tactic(auto, unfolding(crate::specs::Rows::head_bytes))]
 fn put_up_frame(frame: &UpFrame, to: &mut Vec<u8>) -> Result<(), AllocError>
     requires { IsUpFrame frame.now }
@@ -19,7 +19,7 @@ fn put_up_frame(frame: &UpFrame, to: &mut Vec<u8>) -> Result<(), AllocError>
     put_up(to, &frame.message)
 }
 
-/// Appends the bytes of a frame; unchanged where memory is wanting.
+/// Appends the bytes of a frame; unchanged when out of memory.
 pub fn encode_up(frame: &UpFrame, to: &mut Vec<u8>) -> Result<(), AllocError>
     requires { IsUpFrame frame.now }
     ensures ok { OnOk result (to.new.items ≡ to.old.items ++ up_frame_bytes frame.now) }

@@ -190,7 +190,7 @@ fn put_claim(
     put_list(to, key.as_slice())
 }
 
-/// Appends a message: its kind and its fields. Where memory is wanting, what was held stays in front.
+/// Appends a message: its kind and its fields. Out of memory, what was held stays in front.
 pub(crate) fn put_up(to: &mut Vec<u8>, message: &Up) -> Result<(), AllocError>
     requires { AllByRecursion IsField (up_row message.now).fields }
     ensures ok { OnOk result (to.new.items ≡ to.old.items ++ row_bytes (up_row message.now)) }

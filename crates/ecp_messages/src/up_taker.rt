@@ -8,8 +8,8 @@ use crate::field_takers::{
 };
 use crate::message_error::MessageError;
 use crate::up::Up;
-use field_bytes::{take_i64, take_key, take_u8, take_u16, take_u32, take_u64};
-use std::alloc::{AllocError, Global};
+use field_bytes::{FieldError, take_i64, take_key, take_u8, take_u16, take_u32, take_u64};
+use std::alloc::Global;
 
 /// A Hello behind its kind.
 #[tactic(auto, using(crate::proofs::UpTable::no_message))]
@@ -46,112 +46,75 @@ fn take_recover(bytes: &[u8]) -> Option<(Up, &[u8])>
 
 /// An Update behind its kind.
 #[tactic(auto, using(crate::proofs::UpTable::no_message))]
-fn take_update(alloc: Global, bytes: &[u8]) -> Result<Option<(Up, &[u8])>, AllocError>
-    ensures some { IfOk result (λ taken. IfSome taken (λ got.
-        IsAhead up_row 0x03 bytes.now got.0 got.1.now)) }
-    ensures none { IfOk result (λ taken. IfNone taken (NoMessage up_row 0x03 bytes.now)) }
+fn take_update(alloc: Global, bytes: &[u8]) -> Result<(Up, &[u8]), FieldError>
+    ensures some { IfOk result (λ got. IsAhead up_row 0x03 bytes.now got.0 got.1.now) }
+    ensures none { result ≡ Err FieldError.NoField → NoMessage up_row 0x03 bytes.now }
 {
-    let Some((w, rest)) = take_u64(bytes) else {
-        return Ok(None);
-    };
-    let Some((job, rest)) = take_u16(rest) else {
-        return Ok(None);
-    };
-    let Some((txn, rest)) = take_u32(rest) else {
-        return Ok(None);
-    };
-    let Some((op, rest)) = take_change(alloc, rest)? else {
-        return Ok(None);
-    };
-    Ok(Some((Up::Update { w, job, txn, op }, rest)))
+    let (w, rest) = take_u64(bytes).ok_or(FieldError::NoField)?;
+    let (job, rest) = take_u16(rest).ok_or(FieldError::NoField)?;
+    let (txn, rest) = take_u32(rest).ok_or(FieldError::NoField)?;
+    let (op, rest) = take_change(alloc, rest)?;
+    Ok((Up::Update { w, job, txn, op }, rest))
 }
 
 /// An Add behind its kind.
 #[tactic(auto, using(crate::proofs::UpTable::no_message))]
-fn take_add(alloc: Global, bytes: &[u8]) -> Result<Option<(Up, &[u8])>, AllocError>
-    ensures some { IfOk result (λ taken. IfSome taken (λ got.
-        IsAhead up_row 0x04 bytes.now got.0 got.1.now)) }
-    ensures none { IfOk result (λ taken. IfNone taken (NoMessage up_row 0x04 bytes.now)) }
+fn take_add(alloc: Global, bytes: &[u8]) -> Result<(Up, &[u8]), FieldError>
+    ensures some { IfOk result (λ got. IsAhead up_row 0x04 bytes.now got.0 got.1.now) }
+    ensures none { result ≡ Err FieldError.NoField → NoMessage up_row 0x04 bytes.now }
 {
-    let Some((w, rest)) = take_u64(bytes) else {
-        return Ok(None);
-    };
-    let Some((job, rest)) = take_u16(rest) else {
-        return Ok(None);
-    };
-    let Some((key, rest)) = take_key(alloc, rest)? else {
-        return Ok(None);
-    };
-    let Some((amount, rest)) = take_i64(rest) else {
-        return Ok(None);
-    };
+    let (w, rest) = take_u64(bytes).ok_or(FieldError::NoField)?;
+    let (job, rest) = take_u16(rest).ok_or(FieldError::NoField)?;
+    let (key, rest) = take_key(alloc, rest)?;
+    let (amount, rest) = take_i64(rest).ok_or(FieldError::NoField)?;
     let message = Up::Add {
         w,
         job,
         key,
         amount,
     };
-    Ok(Some((message, rest)))
+    Ok((message, rest))
 }
 
 /// A Fetch behind its kind.
 #[tactic(auto, using(crate::proofs::UpTable::no_message))]
-fn take_fetch(alloc: Global, bytes: &[u8]) -> Result<Option<(Up, &[u8])>, AllocError>
-    ensures some { IfOk result (λ taken. IfSome taken (λ got.
-        IsAhead up_row 0x05 bytes.now got.0 got.1.now)) }
-    ensures none { IfOk result (λ taken. IfNone taken (NoMessage up_row 0x05 bytes.now)) }
+fn take_fetch(alloc: Global, bytes: &[u8]) -> Result<(Up, &[u8]), FieldError>
+    ensures some { IfOk result (λ got. IsAhead up_row 0x05 bytes.now got.0 got.1.now) }
+    ensures none { result ≡ Err FieldError.NoField → NoMessage up_row 0x05 bytes.now }
 {
-    let Some((key, rest)) = take_sought(alloc, bytes)? else {
-        return Ok(None);
-    };
-    Ok(Some((Up::Fetch { key }, rest)))
+    let (key, rest) = take_sought(alloc, bytes)?;
+    Ok((Up::Fetch { key }, rest))
 }
 
 /// An Ask behind its kind.
 #[tactic(auto, using(crate::proofs::UpTable::no_message))]
-fn take_ask(alloc: Global, bytes: &[u8]) -> Result<Option<(Up, &[u8])>, AllocError>
-    ensures some { IfOk result (λ taken. IfSome taken (λ got.
-        IsAhead up_row 0x06 bytes.now got.0 got.1.now)) }
-    ensures none { IfOk result (λ taken. IfNone taken (NoMessage up_row 0x06 bytes.now)) }
+fn take_ask(alloc: Global, bytes: &[u8]) -> Result<(Up, &[u8]), FieldError>
+    ensures some { IfOk result (λ got. IsAhead up_row 0x06 bytes.now got.0 got.1.now) }
+    ensures none { result ≡ Err FieldError.NoField → NoMessage up_row 0x06 bytes.now }
 {
-    let Some((ticket, rest)) = take_u32(bytes) else {
-        return Ok(None);
-    };
-    let Some((job, rest)) = take_u16(rest) else {
-        return Ok(None);
-    };
-    let Some((mode, rest)) = take_mode(rest) else {
-        return Ok(None);
-    };
-    let Some((key, rest)) = take_key(alloc, rest)? else {
-        return Ok(None);
-    };
+    let (ticket, rest) = take_u32(bytes).ok_or(FieldError::NoField)?;
+    let (job, rest) = take_u16(rest).ok_or(FieldError::NoField)?;
+    let (mode, rest) = take_mode(rest).ok_or(FieldError::NoField)?;
+    let (key, rest) = take_key(alloc, rest)?;
     let message = Up::Ask {
         ticket,
         job,
         mode,
         key,
     };
-    Ok(Some((message, rest)))
+    Ok((message, rest))
 }
 
 /// An Unlock behind its kind.
 #[tactic(auto, using(crate::proofs::UpTable::no_message))]
-fn take_unlock(alloc: Global, bytes: &[u8]) -> Result<Option<(Up, &[u8])>, AllocError>
-    ensures some { IfOk result (λ taken. IfSome taken (λ got.
-        IsAhead up_row 0x07 bytes.now got.0 got.1.now)) }
-    ensures none { IfOk result (λ taken. IfNone taken (NoMessage up_row 0x07 bytes.now)) }
+fn take_unlock(alloc: Global, bytes: &[u8]) -> Result<(Up, &[u8]), FieldError>
+    ensures some { IfOk result (λ got. IsAhead up_row 0x07 bytes.now got.0 got.1.now) }
+    ensures none { result ≡ Err FieldError.NoField → NoMessage up_row 0x07 bytes.now }
 {
-    let Some((job, rest)) = take_u16(bytes) else {
-        return Ok(None);
-    };
-    let Some((mode, rest)) = take_mode(rest) else {
-        return Ok(None);
-    };
-    let Some((key, rest)) = take_key(alloc, rest)? else {
-        return Ok(None);
-    };
-    Ok(Some((Up::Unlock { job, mode, key }, rest)))
+    let (job, rest) = take_u16(bytes).ok_or(FieldError::NoField)?;
+    let (mode, rest) = take_mode(rest).ok_or(FieldError::NoField)?;
+    let (key, rest) = take_key(alloc, rest)?;
+    Ok((Up::Unlock { job, mode, key }, rest))
 }
 
 /// A Cancel behind its kind.
@@ -207,26 +170,15 @@ fn take_sync(bytes: &[u8]) -> Option<(Up, &[u8])>
 
 /// A Claim behind its kind.
 #[tactic(auto, using(crate::proofs::UpTable::no_message))]
-fn take_claim(alloc: Global, bytes: &[u8]) -> Result<Option<(Up, &[u8])>, AllocError>
-    ensures some { IfOk result (λ taken. IfSome taken (λ got.
-        IsAhead up_row 0x0D bytes.now got.0 got.1.now)) }
-    ensures none { IfOk result (λ taken. IfNone taken (NoMessage up_row 0x0D bytes.now)) }
+fn take_claim(alloc: Global, bytes: &[u8]) -> Result<(Up, &[u8]), FieldError>
+    ensures some { IfOk result (λ got. IsAhead up_row 0x0D bytes.now got.0 got.1.now) }
+    ensures none { result ≡ Err FieldError.NoField → NoMessage up_row 0x0D bytes.now }
 {
-    let Some((job, rest)) = take_u16(bytes) else {
-        return Ok(None);
-    };
-    let Some((mode, rest)) = take_mode(rest) else {
-        return Ok(None);
-    };
-    let Some((count, rest)) = take_count(rest) else {
-        return Ok(None);
-    };
-    let Some((at, rest)) = take_u64(rest) else {
-        return Ok(None);
-    };
-    let Some((key, rest)) = take_key(alloc, rest)? else {
-        return Ok(None);
-    };
+    let (job, rest) = take_u16(bytes).ok_or(FieldError::NoField)?;
+    let (mode, rest) = take_mode(rest).ok_or(FieldError::NoField)?;
+    let (count, rest) = take_count(rest).ok_or(FieldError::NoField)?;
+    let (at, rest) = take_u64(rest).ok_or(FieldError::NoField)?;
+    let (key, rest) = take_key(alloc, rest)?;
     let message = Up::Claim {
         job,
         mode,
@@ -234,39 +186,35 @@ fn take_claim(alloc: Global, bytes: &[u8]) -> Result<Option<(Up, &[u8])>, AllocE
         at,
         key,
     };
-    Ok(Some((message, rest)))
+    Ok((message, rest))
 }
 
-/// The message behind its kind, and what follows it; none where a field is missing or out of its range.
-#[tactic(auto, using(crate::proofs::UpTable::unknown_kind))]
-pub(crate) fn take_up(
-    alloc: Global,
-    kind: u8,
-    bytes: &[u8],
-) -> Result<Option<(Up, &[u8])>, MessageError>
-    ensures some { IfOk result (λ taken. IfSome taken (λ got.
-        IsAhead up_row kind bytes.now got.0 got.1.now)) }
-    ensures none { IfOk result (λ taken. IfNone taken (NoMessage up_row kind bytes.now)) }
-    ensures known { IfOk result (λ _. IsUnknown up_row kind → ⊥) }
+/// The message behind its kind, and what follows it; `BadField` where a field is missing or
+/// out of its range.
+#[tactic(auto, using(crate::proofs::UpTable::unknown_kind, crate::proofs::MessageErrors::errors_made))]
+pub(crate) fn take_up(alloc: Global, kind: u8, bytes: &[u8]) -> Result<(Up, &[u8]), MessageError>
+    ensures some { IfOk result (λ got. IsAhead up_row kind bytes.now got.0 got.1.now) }
+    ensures known { result ≢ Err MessageError.BadKind → IsUnknown up_row kind → ⊥ }
     ensures bad_kind { result ≡ Err MessageError.BadKind → IsUnknown up_row kind }
-    ensures bad_field { result ≢ Err MessageError.BadField }
+    ensures bad_field { result ≡ Err MessageError.BadField →
+        NoMessage up_row kind bytes.now }
     ensures left_over { result ≢ Err MessageError.LeftOver }
 {
     match kind {
-        0x01 => Ok(take_hello(bytes)),
-        0x02 => Ok(take_recover(bytes)),
-        0x03 => take_update(alloc, bytes).map_err(MessageError::Memory),
-        0x04 => take_add(alloc, bytes).map_err(MessageError::Memory),
-        0x05 => take_fetch(alloc, bytes).map_err(MessageError::Memory),
-        0x06 => take_ask(alloc, bytes).map_err(MessageError::Memory),
-        0x07 => take_unlock(alloc, bytes).map_err(MessageError::Memory),
-        0x08 => Ok(take_cancel(bytes)),
-        0x09 => Ok(take_commit(bytes)),
-        0x0A => Ok(take_rollback(bytes)),
-        0x0B => Ok(take_sync(bytes)),
-        0x0C => Ok(Some((Up::Done, bytes))),
-        0x0D => take_claim(alloc, bytes).map_err(MessageError::Memory),
-        0x7F => Ok(Some((Up::Bare, bytes))),
+        0x01 => take_hello(bytes).ok_or(MessageError::BadField),
+        0x02 => take_recover(bytes).ok_or(MessageError::BadField),
+        0x03 => Ok(take_update(alloc, bytes)?),
+        0x04 => Ok(take_add(alloc, bytes)?),
+        0x05 => Ok(take_fetch(alloc, bytes)?),
+        0x06 => Ok(take_ask(alloc, bytes)?),
+        0x07 => Ok(take_unlock(alloc, bytes)?),
+        0x08 => take_cancel(bytes).ok_or(MessageError::BadField),
+        0x09 => take_commit(bytes).ok_or(MessageError::BadField),
+        0x0A => take_rollback(bytes).ok_or(MessageError::BadField),
+        0x0B => take_sync(bytes).ok_or(MessageError::BadField),
+        0x0C => Ok((Up::Done, bytes)),
+        0x0D => Ok(take_claim(alloc, bytes)?),
+        0x7F => Ok((Up::Bare, bytes)),
         _ => Err(MessageError::BadKind),
     }
 }

@@ -120,11 +120,7 @@ both_prefix_free a b May Can first second x x' y y' r s p p' q q' e =
     let u = second y y' r s q q' t.1 in
     (t.0, u.0, u.1)
 
--- what follows a field of known bytes: none of them ahead, or what follows is theirs
-pub behind : {A : Type 0} (a : A → List ℕ) (May : A → Type 0) → IsPrefixFree a May → (bytes rest r : List ℕ) (x y : A) → May x → May y → bytes ≡ a x ++ rest → bytes ≡ a y ++ r → (x ≡ y) × (rest ≡ r)
-behind a May free bytes rest r x y p q e k = free x y rest r p q (sym e ∙ k)
-
--- where the second of two fields isn't ahead behind the first, the two aren't
+-- where the second of two fields isn't ahead after the first, the two aren't
 pub no_second : {A B : Type 0} (a : A → List ℕ) (b : B → List ℕ) (May : A → Type 0) (Can : B → Type 0) → IsPrefixFree a May → (bytes rest : List ℕ) (x : A) → May x → bytes ≡ a x ++ rest → NoneAhead b Can rest → (y : A) (z : B) (r : List ℕ) → May y → Can z → bytes ≢ a y ++ (b z ++ r)
 no_second a b May Can free bytes rest x p e none y z r q k f = none z r k (free x y rest (b z ++ r) p q (sym e ∙ f)).1
 

@@ -1,7 +1,8 @@
-ghost use Rattle.std.specs.Prelude.{◌≡◌, ◌↔◌, ◌++◌, IsTrue, IfOk, IfSome, IfNone};
+ghost use Rattle.std.specs.Prelude.{◌≡◌, ◌↔◌, ◌++◌, Err, IsTrue, IfOk};
 ghost use Rattle.subscript_keys.specs.Key.{IsKey};
 ghost use Rattle.field_bytes.specs.Fields.{list_bytes, IsKeyField, NoneAhead};
 
+use crate::field_error::FieldError;
 use crate::list_fields::take_list;
 use std::alloc::{AllocError, Global};
 use subscript_keys::{KeyBytes, KeyError, decode};
@@ -17,20 +18,18 @@ fn is_key(alloc: Global, bytes: &[u8]) -> Result<bool, AllocError>
     }
 }
 
-/// The key of some node, as bytes behind their count, and what follows it; none where fewer bytes are left
+/// The key of some node, as bytes behind their count, and what follows it; no field where fewer bytes are left
 /// or they are no key.
-pub fn take_key(alloc: Global, bytes: &[u8]) -> Result<Option<(KeyBytes, &[u8])>, AllocError>
-    ensures some { IfOk result (λ taken. IfSome taken (λ got.
-        bytes.now ≡ list_bytes got.0 ++ got.1.now)) }
-    ensures key { IfOk result (λ taken. IfSome taken (λ got. IsKeyField got.0)) }
-    ensures none { IfOk result (λ taken. IfNone taken (NoneAhead list_bytes IsKeyField bytes.now)) }
+pub fn take_key(alloc: Global, bytes: &[u8]) -> Result<(KeyBytes, &[u8]), FieldError>
+    ensures some { IfOk result (λ got. bytes.now ≡ list_bytes got.0 ++ got.1.now) }
+    ensures key { IfOk result (λ got. IsKeyField got.0) }
+    ensures none { result ≡ Err FieldError.NoField →
+        NoneAhead list_bytes IsKeyField bytes.now }
 {
-    let Some((part, rest)) = take_list(bytes) else {
-        return Ok(None);
-    };
+    let (part, rest) = take_list(bytes).ok_or(FieldError::NoField)?;
     if !is_key(alloc, part)? {
-        return Ok(None);
+        return Err(FieldError::NoField);
     }
     let key = Vec::from_slice(alloc, part)?;
-    Ok(Some((KeyBytes::from_vec(key), rest)))
+    Ok((KeyBytes::from_vec(key), rest))
 }

@@ -1,16 +1,18 @@
 //! The bytes of fields, of which blocks, messages and journal records consist: whole numbers with the
 //! greatest byte first, bytes behind their count, keys and operations. Each kind of field has one word for
-//! its bytes; `put_..` appends them, and `take_..` reads them from the front, `None` exactly where no such
-//! field stands there. A field has one spelling: `fields_are_prefix_free`. The lemmas behind it, for fields
+//! its bytes; `put_..` appends them, and `take_..` reads them from the front: `None`, or `NoField` where a
+//! copy takes memory, exactly where no such field stands there. A field has one spelling: `fields_are_prefix_free`. The lemmas behind it, for fields
 //! in a row too, are in proofs/PrefixFree, and the lengths of fields in proofs/FieldLengths.
 #![tactic(auto)]
 
+mod field_error;
 mod key_fields;
 mod list_fields;
 mod number_fields;
 mod one_spelling;
 mod op_fields;
 
+pub use field_error::FieldError;
 pub use key_fields::take_key;
 pub use list_fields::{put_list, take_list};
 pub use number_fields::{

@@ -4,7 +4,7 @@ ghost use Rattle.field_bytes.specs.Fields.{u16_bytes, list_bytes, IsShortList, N
 use crate::number_fields::{put_u16, take_u16};
 use std::alloc::AllocError;
 
-/// Appends bytes behind their count as a u16. Where memory is wanting, what was held stays in front.
+/// Appends bytes behind their count as a u16. Out of memory, what was held stays in front.
 #[tactic(auto, unfolding(crate::specs::Fields::list_bytes))]
 pub fn put_list(to: &mut Vec<u8>, part: &[u8]) -> Result<(), AllocError>
     requires { length part.now < 2 ^ 16 }

@@ -3,7 +3,7 @@ ghost use Rattle.field_bytes.specs.Fields.{u8_bytes, u16_bytes, u32_bytes, u64_b
 
 use std::alloc::AllocError;
 
-/// Appends one byte; unchanged where memory is wanting.
+/// Appends one byte; unchanged when out of memory.
 pub fn put_u8(to: &mut Vec<u8>, n: u8) -> Result<(), AllocError>
     ensures ok { OnOk result (to.new.items ≡ to.old.items ++ u8_bytes n) }
     ensures err { OnErr result (to.new.items ≡ to.old.items) }
@@ -12,7 +12,7 @@ pub fn put_u8(to: &mut Vec<u8>, n: u8) -> Result<(), AllocError>
     Ok(())
 }
 
-/// Appends two bytes; unchanged where memory is wanting.
+/// Appends two bytes; unchanged when out of memory.
 #[tactic(auto, unfolding(crate::specs::Fields::u16_bytes))]
 pub fn put_u16(to: &mut Vec<u8>, n: u16) -> Result<(), AllocError>
     ensures ok { OnOk result (to.new.items ≡ to.old.items ++ u16_bytes n) }
@@ -21,7 +21,7 @@ pub fn put_u16(to: &mut Vec<u8>, n: u16) -> Result<(), AllocError>
     to.extend_from_slice(&n.to_be_bytes())
 }
 
-/// Appends four bytes; unchanged where memory is wanting.
+/// Appends four bytes; unchanged when out of memory.
 #[tactic(auto, unfolding(crate::specs::Fields::u32_bytes))]
 pub fn put_u32(to: &mut Vec<u8>, n: u32) -> Result<(), AllocError>
     ensures ok { OnOk result (to.new.items ≡ to.old.items ++ u32_bytes n) }
@@ -30,7 +30,7 @@ pub fn put_u32(to: &mut Vec<u8>, n: u32) -> Result<(), AllocError>
     to.extend_from_slice(&n.to_be_bytes())
 }
 
-/// Appends eight bytes; unchanged where memory is wanting.
+/// Appends eight bytes; unchanged when out of memory.
 #[tactic(auto, unfolding(crate::specs::Fields::u64_bytes))]
 pub fn put_u64(to: &mut Vec<u8>, n: u64) -> Result<(), AllocError>
     ensures ok { OnOk result (to.new.items ≡ to.old.items ++ u64_bytes n) }
@@ -39,7 +39,7 @@ pub fn put_u64(to: &mut Vec<u8>, n: u64) -> Result<(), AllocError>
     to.extend_from_slice(&n.to_be_bytes())
 }
 
-/// Appends eight bytes; unchanged where memory is wanting.
+/// Appends eight bytes; unchanged when out of memory.
 #[tactic(auto, unfolding(crate::specs::Fields::i64_bytes))]
 pub fn put_i64(to: &mut Vec<u8>, n: i64) -> Result<(), AllocError>
     ensures ok { OnOk result (to.new.items ≡ to.old.items ++ i64_bytes n) }

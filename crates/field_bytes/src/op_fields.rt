@@ -1,6 +1,7 @@
-ghost use Rattle.std.specs.Prelude.{◌≡◌, ◌≢◌, ◌++◌, ◌∷◌, List, ℕ, ℤ, OnOk, OnErr, IfOk, IfSome, IfNone};
+ghost use Rattle.std.specs.Prelude.{◌≡◌, ◌≢◌, ◌++◌, ◌∷◌, List, ℕ, ℤ, Err, OnOk, OnErr, IfOk};
 ghost use Rattle.field_bytes.specs.Fields.{list_bytes, i64_bytes, op_bytes, IsKeyField, IsShortList, IsI64, IsOpField, HasShortLists, NoneAhead, BeginsAs};
 
+use crate::field_error::FieldError;
 use crate::key_fields::take_key;
 use crate::list_fields::{put_list, take_list};
 use crate::number_fields::{put_i64, put_u8, take_i64, take_u8};
@@ -14,8 +15,8 @@ const KILL: u8 = 2;
 
 const ADD: u8 = 3;
 
-/// Appends an operation: its kind, its key, and what is set or added. Where memory is wanting, what was
-/// held stays in front.
+/// Appends an operation: its kind, its key, and what is set or added. Out of memory, what was held
+/// stays in front.
 pub fn put_op(to: &mut Vec<u8>, op: &Op) -> Result<(), AllocError>
     requires { HasShortLists op.now }
     ensures ok { OnOk result (to.new.items ≡ to.old.items ++ op_bytes op.now) }
@@ -40,75 +41,58 @@ pub fn put_op(to: &mut Vec<u8>, op: &Op) -> Result<(), AllocError>
 }
 
 /// A Set behind its kind, and what follows it.
-fn take_set(alloc: Global, bytes: &[u8]) -> Result<Option<(Op, &[u8])>, AllocError>
-    ensures some { IfOk result (λ taken. IfSome taken (λ got.
-        1 ∷ bytes.now ≡ op_bytes got.0 ++ got.1.now)) }
-    ensures field { IfOk result (λ taken. IfSome taken (λ got. IsOpField got.0)) }
-    ensures none { IfOk result (λ taken. IfNone taken ((key value rest : List ℕ) →
+fn take_set(alloc: Global, bytes: &[u8]) -> Result<(Op, &[u8]), FieldError>
+    ensures some { IfOk result (λ got. 1 ∷ bytes.now ≡ op_bytes got.0 ++ got.1.now) }
+    ensures field { IfOk result (λ got. IsOpField got.0) }
+    ensures none { result ≡ Err FieldError.NoField → (key value rest : List ℕ) →
         IsKeyField key → IsShortList value →
-        bytes.now ≢ list_bytes key ++ (list_bytes value ++ rest))) }
+        bytes.now ≢ list_bytes key ++ (list_bytes value ++ rest) }
 {
-    let Some((key, rest)) = take_key(alloc, bytes)? else {
-        return Ok(None);
-    };
-    let Some((value, rest)) = take_list(rest) else {
-        return Ok(None);
-    };
+    let (key, rest) = take_key(alloc, bytes)?;
+    let (value, rest) = take_list(rest).ok_or(FieldError::NoField)?;
     let value = Vec::from_slice(alloc, value)?;
-    Ok(Some((
-        Op::Set {
-            key,
-            value: ValueBytes::from_vec(value),
-        },
-        rest,
-    )))
+    let op = Op::Set {
+        key,
+        value: ValueBytes::from_vec(value),
+    };
+    Ok((op, rest))
 }
 
 /// A Kill behind its kind, and what follows it.
-fn take_kill(alloc: Global, bytes: &[u8]) -> Result<Option<(Op, &[u8])>, AllocError>
-    ensures some { IfOk result (λ taken. IfSome taken (λ got.
-        2 ∷ bytes.now ≡ op_bytes got.0 ++ got.1.now)) }
-    ensures field { IfOk result (λ taken. IfSome taken (λ got. IsOpField got.0)) }
-    ensures none { IfOk result (λ taken. IfNone taken (NoneAhead list_bytes IsKeyField bytes.now)) }
+fn take_kill(alloc: Global, bytes: &[u8]) -> Result<(Op, &[u8]), FieldError>
+    ensures some { IfOk result (λ got. 2 ∷ bytes.now ≡ op_bytes got.0 ++ got.1.now) }
+    ensures field { IfOk result (λ got. IsOpField got.0) }
+    ensures none { result ≡ Err FieldError.NoField →
+        NoneAhead list_bytes IsKeyField bytes.now }
 {
-    let Some((key, rest)) = take_key(alloc, bytes)? else {
-        return Ok(None);
-    };
-    Ok(Some((Op::Kill { key }, rest)))
+    let (key, rest) = take_key(alloc, bytes)?;
+    Ok((Op::Kill { key }, rest))
 }
 
 /// An Add behind its kind, and what follows it.
-fn take_add(alloc: Global, bytes: &[u8]) -> Result<Option<(Op, &[u8])>, AllocError>
-    ensures some { IfOk result (λ taken. IfSome taken (λ got.
-        3 ∷ bytes.now ≡ op_bytes got.0 ++ got.1.now)) }
-    ensures field { IfOk result (λ taken. IfSome taken (λ got. IsOpField got.0)) }
-    ensures none { IfOk result (λ taken. IfNone taken ((key : List ℕ) (amount : ℤ) (rest : List ℕ) →
+fn take_add(alloc: Global, bytes: &[u8]) -> Result<(Op, &[u8]), FieldError>
+    ensures some { IfOk result (λ got. 3 ∷ bytes.now ≡ op_bytes got.0 ++ got.1.now) }
+    ensures field { IfOk result (λ got. IsOpField got.0) }
+    ensures none { result ≡ Err FieldError.NoField → (key : List ℕ) (amount : ℤ) (rest : List ℕ) →
         IsKeyField key → IsI64 amount →
-        bytes.now ≢ list_bytes key ++ (i64_bytes amount ++ rest))) }
+        bytes.now ≢ list_bytes key ++ (i64_bytes amount ++ rest) }
 {
-    let Some((key, rest)) = take_key(alloc, bytes)? else {
-        return Ok(None);
-    };
-    let Some((amount, rest)) = take_i64(rest) else {
-        return Ok(None);
-    };
-    Ok(Some((Op::Add { key, amount }, rest)))
+    let (key, rest) = take_key(alloc, bytes)?;
+    let (amount, rest) = take_i64(rest).ok_or(FieldError::NoField)?;
+    Ok((Op::Add { key, amount }, rest))
 }
 
-/// An operation, and what follows it; none where none stands there.
-pub fn take_op(alloc: Global, bytes: &[u8]) -> Result<Option<(Op, &[u8])>, AllocError>
-    ensures some { IfOk result (λ taken. IfSome taken (λ got.
-        bytes.now ≡ op_bytes got.0 ++ got.1.now)) }
-    ensures field { IfOk result (λ taken. IfSome taken (λ got. IsOpField got.0)) }
-    ensures none { IfOk result (λ taken. IfNone taken (NoneAhead op_bytes IsOpField bytes.now)) }
+/// An operation, and what follows it; no field where none stands there.
+pub fn take_op(alloc: Global, bytes: &[u8]) -> Result<(Op, &[u8]), FieldError>
+    ensures some { IfOk result (λ got. bytes.now ≡ op_bytes got.0 ++ got.1.now) }
+    ensures field { IfOk result (λ got. IsOpField got.0) }
+    ensures none { result ≡ Err FieldError.NoField → NoneAhead op_bytes IsOpField bytes.now }
 {
-    let Some((kind, rest)) = take_u8(bytes) else {
-        return Ok(None);
-    };
+    let (kind, rest) = take_u8(bytes).ok_or(FieldError::NoField)?;
     match kind {
         SET => take_set(alloc, rest),
         KILL => take_kill(alloc, rest),
         ADD => take_add(alloc, rest),
-        _ => Ok(None),
+        _ => Err(FieldError::NoField),
     }
 }

@@ -1,4 +1,4 @@
-ghost use Rattle.std.specs.Prelude.{◌≡◌, ◌<◌, true, false, length, IfOk, IfSome, IfNone};
+ghost use Rattle.std.specs.Prelude.{◌≡◌, ◌<◌, Err, length, OnOk, IfOk, IfSome, IfNone};
 ghost use Rattle.plain_orders.specs.Ordered.{IsOrdered};
 ghost use Rattle.journal_disk.specs.Reading.{TakesRecord, NoRecordMay, TakesRecords, NoRecordsMay, TakesBody, NoBodyAhead, TakesBatch, NoBatchAhead};
 
@@ -6,48 +6,40 @@ use crate::batch_writer::{BODY_LIMIT, VERSION};
 use crate::read_entries::ReadEntries;
 use field_bytes::take_u32;
 use journal_records::{RecordError, read_entry};
-use std::alloc::{AllocError, Global};
+use std::alloc::Global;
 
-/// Reads the record that stands in front, and answers what follows it; none where no record of an entry
+/// Reads the record that stands in front, and answers what follows it; `NotARecord` where no record of an entry
 /// that may follow stands there.
 fn take_record<'a>(
     alloc: Global,
     list: &mut ReadEntries,
     bytes: &'a [u8],
-) -> Result<Option<&'a [u8]>, AllocError>
-    ensures some { IfOk result (λ taken. IfSome taken (λ rest.
-        TakesRecord list.old list.new bytes.now rest.now)) }
-    ensures none { IfOk result (λ taken. IfNone taken (NoRecordMay list.old bytes.now)) }
+) -> Result<&'a [u8], RecordError>
+    ensures some { IfOk result (λ rest. TakesRecord list.old list.new bytes.now rest.now) }
+    ensures none { result ≡ Err RecordError.NotARecord → NoRecordMay list.old bytes.now }
 {
-    let (entry, size) = match read_entry(alloc, bytes) {
-        Ok(got) => got,
-        Err(RecordError::NotARecord) => return Ok(None),
-        Err(RecordError::Memory(error)) => return Err(error),
-    };
+    let (entry, size) = read_entry(alloc, bytes)?;
     if !list.push(alloc, &entry)? {
-        return Ok(None);
+        return Err(RecordError::NotARecord);
     }
-    Ok(Some(&bytes[size..]))
+    Ok(&bytes[size..])
 }
 
-/// Reads records up to the end of the bytes, and tells whether they are records of entries that may follow.
-fn take_records(alloc: Global, list: &mut ReadEntries, bytes: &[u8]) -> Result<bool, AllocError>
+/// Reads records up to the end of the bytes; `NotARecord` where they are no records of entries that may follow.
+fn take_records(alloc: Global, list: &mut ReadEntries, bytes: &[u8]) -> Result<(), RecordError>
     requires { IsOrdered list.old }
-    ensures took { IfOk result (λ took. took ≡ true → TakesRecords list.old list.new bytes.now) }
-    ensures refused { IfOk result (λ took. took ≡ false → NoRecordsMay list.old bytes.now) }
+    ensures took { OnOk result (TakesRecords list.old list.new bytes.now) }
+    ensures refused { result ≡ Err RecordError.NotARecord → NoRecordsMay list.old bytes.now }
 {
     let mut rest = bytes;
     while !rest.is_empty() {
-        match take_record(alloc, list, rest)? {
-            Some(after) => rest = after,
-            None => return Ok(false),
-        }
+        rest = take_record(alloc, list, rest)?;
     }
-    Ok(true)
+    Ok(())
 }
 
 /// The records of the batch whose length stands in front, and what follows it, where it is whole and another
-/// gate stands behind it.
+/// gate stands after it.
 fn take_body(bytes: &[u8]) -> Option<(&[u8], &[u8])>
     ensures some { IfSome result (λ got. TakesBody bytes.now got.0.now got.1.now) }
     ensures none { IfNone result (NoBodyAhead bytes.now) }
@@ -72,22 +64,17 @@ fn take_body(bytes: &[u8]) -> Option<(&[u8], &[u8])>
 }
 
 /// Reads the batch whose length stands in front, and answers what follows it, which begins with the next gate;
-/// none where no well formed batch stands there.
+/// `NotARecord` where no well formed batch stands there.
 pub(crate) fn take_batch<'a>(
     alloc: Global,
     list: &mut ReadEntries,
     bytes: &'a [u8],
-) -> Result<Option<&'a [u8]>, AllocError>
+) -> Result<&'a [u8], RecordError>
     requires { IsOrdered list.old }
-    ensures some { IfOk result (λ taken. IfSome taken (λ rest.
-        TakesBatch list.old list.new bytes.now rest.now)) }
-    ensures none { IfOk result (λ taken. IfNone taken (NoBatchAhead list.old bytes.now)) }
+    ensures some { IfOk result (λ rest. TakesBatch list.old list.new bytes.now rest.now) }
+    ensures none { result ≡ Err RecordError.NotARecord → NoBatchAhead list.old bytes.now }
 {
-    let Some((records, after)) = take_body(bytes) else {
-        return Ok(None);
-    };
-    if !take_records(alloc, list, records)? {
-        return Ok(None);
-    }
-    Ok(Some(after))
+    let (records, after) = take_body(bytes).ok_or(RecordError::NotARecord)?;
+    take_records(alloc, list, records)?;
+    Ok(after)
 }

@@ -7,6 +7,7 @@ use crate::batch_reader::take_batch;
 use crate::gates::CLOSED;
 use crate::journal_error::JournalError;
 use crate::read_entries::ReadEntries;
+use journal_records::RecordError;
 use plain_orders::Entries;
 use std::alloc::Global;
 
@@ -33,12 +34,13 @@ fn read_batches(alloc: Global, bytes: &[u8]) -> Result<ReadJournal, JournalError
     let mut list = ReadEntries::new(alloc);
     let mut rest = bytes;
     while rest[0] != CLOSED {
-        match take_batch(alloc, &mut list, &rest[1..])? {
-            Some(after) => rest = after,
-            None => {
+        match take_batch(alloc, &mut list, &rest[1..]) {
+            Ok(after) => rest = after,
+            Err(RecordError::NotARecord) => {
                 let place = (bytes.len() - rest.len()) as u64;
                 return Err(JournalError::NotAJournal { place });
             }
+            Err(RecordError::Memory(error)) => return Err(JournalError::Memory(error)),
         }
     }
     Ok(ReadJournal {

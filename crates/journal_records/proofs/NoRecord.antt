@@ -70,7 +70,7 @@ other_op bytes rest after s v j n o p e d m wrong (Update session w job txn op) 
 other_op bytes rest after s v j n o p e d m wrong (Commit session w job txn) r q f = absurd cc
 other_op bytes rest after s v j n o p e d m wrong (Rollback session w job txn) r q f = absurd cc
 
--- where the number of the item, its job or its transaction doesn't stand behind what is before it
+-- where the number of the item, its job or its transaction doesn't stand after what is before it
 pub no_w : (bytes rest : List ℕ) (s : ℕ) → IsU64 s → bytes ≡ u64_bytes s ++ rest → NoneAhead u64_bytes IsU64 rest → NoItemAhead bytes
 no_w bytes rest s p e none session w job txn r q f =
     none w (u16_bytes job ++ (u32_bytes txn ++ r)) q.1 (u64_prefix_free s session rest _ p q.0 (sym e ∙ f ∙ item-parts session w job txn r)).1

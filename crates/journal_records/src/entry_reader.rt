@@ -6,9 +6,9 @@ use crate::item_head::take_item_head;
 use crate::record_error::RecordError;
 use crate::record_kinds::{CLOSED, COMMIT, EPOCH, OPENED, ROLLBACK, UPDATE};
 use crate::record_op::is_record_op;
-use field_bytes::{take_op, take_u8, take_u32, take_u64};
+use field_bytes::{FieldError, take_op, take_u8, take_u32, take_u64};
 use plain_orders::Entry;
-use std::alloc::{AllocError, Global};
+use std::alloc::Global;
 
 /// An Epoch behind its kind, and what follows it.
 #[tactic(auto, using(crate::proofs::NoRecord::no_epoch))]
@@ -45,20 +45,15 @@ fn take_closed(bytes: &[u8]) -> Option<(Entry, &[u8])>
 }
 
 /// An Update behind its kind, and what follows it.
-fn take_update(alloc: Global, bytes: &[u8]) -> Result<Option<(Entry, &[u8])>, AllocError>
-    ensures some { IfOk result (λ taken. IfSome taken (λ got.
-        4 ∷ bytes.now ≡ entry_bytes got.0 ++ got.1.now)) }
-    ensures is_record { IfOk result (λ taken. IfSome taken (λ got. IsRecord got.0)) }
-    ensures none { IfOk result (λ taken. IfNone taken (NoRecordAhead (4 ∷ bytes.now))) }
+fn take_update(alloc: Global, bytes: &[u8]) -> Result<(Entry, &[u8]), FieldError>
+    ensures some { IfOk result (λ got. 4 ∷ bytes.now ≡ entry_bytes got.0 ++ got.1.now) }
+    ensures is_record { IfOk result (λ got. IsRecord got.0) }
+    ensures none { result ≡ Err FieldError.NoField → NoRecordAhead (4 ∷ bytes.now) }
 {
-    let Some((head, rest)) = take_item_head(bytes) else {
-        return Ok(None);
-    };
-    let Some((op, rest)) = take_op(alloc, rest)? else {
-        return Ok(None);
-    };
+    let (head, rest) = take_item_head(bytes).ok_or(FieldError::NoField)?;
+    let (op, rest) = take_op(alloc, rest)?;
     if !is_record_op(head.txn, &op) {
-        return Ok(None);
+        return Err(FieldError::NoField);
     }
     let entry = Entry::Update {
         session: head.session,
@@ -67,7 +62,7 @@ fn take_update(alloc: Global, bytes: &[u8]) -> Result<Option<(Entry, &[u8])>, Al
         txn: head.txn,
         op,
     };
-    Ok(Some((entry, rest)))
+    Ok((entry, rest))
 }
 
 /// A Commit behind its kind, and what follows it.
@@ -105,23 +100,20 @@ fn take_rollback(bytes: &[u8]) -> Option<(Entry, &[u8])>
 }
 
 /// The entry whose record stands in front, and what follows it.
-fn take_entry(alloc: Global, bytes: &[u8]) -> Result<Option<(Entry, &[u8])>, AllocError>
-    ensures some { IfOk result (λ taken. IfSome taken (λ got.
-        bytes.now ≡ entry_bytes got.0 ++ got.1.now)) }
-    ensures is_record { IfOk result (λ taken. IfSome taken (λ got. IsRecord got.0)) }
-    ensures none { IfOk result (λ taken. IfNone taken (NoRecordAhead bytes.now)) }
+fn take_entry(alloc: Global, bytes: &[u8]) -> Result<(Entry, &[u8]), FieldError>
+    ensures some { IfOk result (λ got. bytes.now ≡ entry_bytes got.0 ++ got.1.now) }
+    ensures is_record { IfOk result (λ got. IsRecord got.0) }
+    ensures none { result ≡ Err FieldError.NoField → NoRecordAhead bytes.now }
 {
-    let Some((kind, rest)) = take_u8(bytes) else {
-        return Ok(None);
-    };
+    let (kind, rest) = take_u8(bytes).ok_or(FieldError::NoField)?;
     match kind {
-        EPOCH => Ok(take_epoch(rest)),
-        OPENED => Ok(take_opened(rest)),
-        CLOSED => Ok(take_closed(rest)),
+        EPOCH => take_epoch(rest).ok_or(FieldError::NoField),
+        OPENED => take_opened(rest).ok_or(FieldError::NoField),
+        CLOSED => take_closed(rest).ok_or(FieldError::NoField),
         UPDATE => take_update(alloc, rest),
-        COMMIT => Ok(take_commit(rest)),
-        ROLLBACK => Ok(take_rollback(rest)),
-        _ => Ok(None),
+        COMMIT => take_commit(rest).ok_or(FieldError::NoField),
+        ROLLBACK => take_rollback(rest).ok_or(FieldError::NoField),
+        _ => Err(FieldError::NoField),
     }
 }
 
@@ -137,8 +129,8 @@ pub fn read_entry(alloc: Global, bytes: &[u8]) -> Result<(Entry, usize), RecordE
         bytes.now ≡ entry_bytes entry ++ rest → IfOk result (λ got. got.0 ≡ entry) }
 {
     match take_entry(alloc, bytes) {
-        Ok(Some((entry, rest))) => Ok((entry, bytes.len() - rest.len())),
-        Ok(None) => Err(RecordError::NotARecord),
-        Err(error) => Err(RecordError::Memory(error)),
+        Ok((entry, rest)) => Ok((entry, bytes.len() - rest.len())),
+        Err(FieldError::NoField) => Err(RecordError::NotARecord),
+        Err(FieldError::Memory(error)) => Err(RecordError::Memory(error)),
     }
 }

@@ -14,6 +14,8 @@ mod laws;
 mod mem_disk;
 mod mem_disks;
 mod piece;
+#[cfg(test)]
+mod tests;
 
 pub use disk::Disk;
 pub use disk_set::DiskSet;

@@ -232,12 +232,6 @@ marked_join t a s = record {
   parted = parted_now t a s false t.conns (joined_now t a s);
 }
 
--- what stands behind a list that got one more
-got_front : {A : Type 0} → (xs : List A) (y : A) (k : ℕ) → k < length xs → slice_get (xs ++ y ∷ []) k ≡ slice_get xs k
-got_front [] y k within = absurd (omega arith)
-got_front (x ∷ xs) y zero within = refl
-got_front (x ∷ xs) y (suc k) within = got_front xs y k (omega arith)
-
 got_last : {A : Type 0} → (xs : List A) (y : A) → slice_get (xs ++ y ∷ []) (length xs) ≡ Some y
 got_last [] y = refl
 got_last (x ∷ xs) y = got_last xs y

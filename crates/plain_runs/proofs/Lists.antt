@@ -7,7 +7,7 @@ use Rattle.plain_orders.specs.declared.entry.Entry.{Entry}
 use Rattle.plain_orders.specs.declared.entry.Entry.TheVariants.{Epoch, Opened, Closed, Update, Commit, Rollback}
 use Rattle.plain_orders.specs.Entries.{live, live_from, closes}
 use Rattle.plain_orders.specs.Own.{Issued}
-use Rattle.plain_runs.specs.Plain.{until}
+use Rattle.plain_orders.specs.Times.{until}
 use Rattle.plain_runs.specs.Items.{all_stand}
 use Rattle.plain_runs.specs.OrderRows.{due_of}
 use Rattle.plain_orders.specs.ItemEntries.{has_item, is_item_at}

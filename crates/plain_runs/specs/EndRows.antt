@@ -15,7 +15,8 @@ use Rattle.plain_orders.specs.declared.refused.ReasonName.{ReasonName}
 use Rattle.plain_orders.specs.declared.refused.ReasonName.TheVariants.{Reset, Expired, NoWay}
 use Rattle.plain_orders.specs.Entries.{entry_at, live, live_session, last_epoch}
 use Rattle.plain_orders.specs.Own.{Issued}
-use Rattle.plain_runs.specs.Plain.{Plain, Server, Session, Entered, Known, Job, put, with_server, with_session, with_jobs_of, runs_on, order_at, orders, session_in, issued_in, pair_session, until}
+use Rattle.plain_orders.specs.Times.{until}
+use Rattle.plain_runs.specs.Plain.{Plain, Server, Session, Entered, Known, Job, put, with_server, with_session, with_jobs_of, runs_on, order_at, orders, session_in, issued_in, pair_session}
 use Rattle.plain_runs.specs.Items.{is_update_of}
 use Rattle.plain_runs.specs.OrderRows.{with_entry}
 use Rattle.plain_orders.specs.Sessions.{app_in, place_of_epoch}

@@ -8,7 +8,8 @@ use Rattle.plain_orders.specs.declared.layout.Layout.{Layout}
 use Rattle.plain_orders.specs.declared.limits.TheConstants.{START_EPOCH_LIMIT}
 use Rattle.plain_orders.specs.Entries.{count, live, last_epoch, live_session}
 use Rattle.plain_orders.specs.Ordered.{IsOrdered}
-use Rattle.plain_runs.specs.Plain.{Server, put, current, until, issued_in, session_in}
+use Rattle.plain_orders.specs.Times.{until}
+use Rattle.plain_runs.specs.Plain.{Server, put, current, issued_in, session_in}
 use Rattle.plain_runs.specs.Items.{entry_of}
 use Rattle.plain_orders.specs.Sessions.{live_sessions, app_in, is_close}
 use Rattle.plain_runs.specs.Holds.{hold_after_crash, hold_after_back}

@@ -1,5 +1,5 @@
 -- The state of the plain machine.
-use Rattle.std.specs.Prelude.{ℕ, Bool, false, ◌==◌, ◌&&◌, ◌+◌, ◌^◌, ◌-◌, min, if◌then◌else◌, List, [], ◌∷◌, ◌++◌, length, Option, None, slice_index_or, unwrap_or, nat_lt}
+use Rattle.std.specs.Prelude.{ℕ, Bool, false, ◌==◌, ◌&&◌, if◌then◌else◌, List, [], ◌∷◌, ◌++◌, length, Option, None, slice_index_or, unwrap_or, nat_lt}
 use Rattle.std.specs.Option.{option_map}
 use Rattle.plain_orders.specs.declared.entry.Entry.{Entry}
 use Rattle.plain_orders.specs.declared.mode.Mode.{Mode}
@@ -144,10 +144,6 @@ pair_session s app = unwrap_or (s.pair_at app).session 0
 -- the order that a pair's session is told of
 abbrev pub told_order : Server → ℕ → List Entry
 told_order s app = order_at s (session_in s (pair_session s app)).told
-
--- a sum of times stops at the greatest number of 64 bits
-abbrev pub until : ℕ → ℕ → ℕ
-until t wait = min (t + wait) (2 ^ 64 - 1)
 
 -- with what a job knows changed
 abbrev pub with_known : Server → ℕ → Known → Server

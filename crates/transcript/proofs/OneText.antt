@@ -1,4 +1,4 @@
--- An act has at most one text, and so has an answer.
+-- An act has at most one text, and so has an answer and a piece.
 use Rattle.std.proofs.Common.{◌≡◌, ℕ, List, [], ◌∷◌, ◌++◌, Option, None, Some, sym, ap, ◌∙◌}
 use Rattle.std.specs.Prelude.{codes}
 use Rattle.subscript_keys.specs.declared.sub.Sub.{Sub}
@@ -22,6 +22,9 @@ use Rattle.app_job.specs.declared.answer.Answer.{Answer}
 use Rattle.app_job.specs.declared.answer.Answer.TheVariants.{Queued as QueuedAnswer, Value as ValueAnswer, Shape as ShapeAnswer, Next as NextAnswer, Counted as CountedAnswer, Granted as GrantedAnswer, Done as DoneAnswer, Committed as CommittedAnswer, RolledBack as RolledBackAnswer, Waiting as WaitingAnswer, Refused as RefusedAnswer}
 use Rattle.transcript.specs.Parts.{field, fields, signed_field, name_at, via_word, mode_word, or_empty, found_text, below, IsValueText, IsKeyText, IsBehindText}
 use Rattle.transcript.specs.AnswerText.{held_text, IsAnswerOf, IsAnswerLine}
+use Rattle.transcript.specs.declared.piece.Piece.{Piece}
+use Rattle.transcript.specs.declared.piece.Piece.TheVariants.{Answered, Pumped, Restarted as RestartedPiece, Halted, Gone}
+use Rattle.transcript.specs.PieceText.{IsPieceLine}
 use Rattle.transcript.specs.ActText.{IsOpText, IsEntryText, IsItemText, IsQuestionText, IsLockText, IsActText, AreEntryLines, entries_behind, AreActLines}
 
 -- a node by its key
@@ -131,3 +134,11 @@ one-answer names DoneAnswer a b p q = p ∙ sym q
 -- an answer's line has at most one text
 pub one-answer-text : (names : Names) (job line : ℕ) (answer : Answer) (a b : List ℕ) → IsAnswerLine names job line answer a → IsAnswerLine names job line answer b → a ≡ b
 one-answer-text names job line answer = within (IsAnswerOf names answer) (λ shown. name_at names.jobs job ++ (field line ++ (32 ∷ (shown ++ 10 ∷ [])))) (one-answer names answer)
+
+-- a piece's line has at most one text
+pub one-piece-text : (names : Names) (piece : Piece) (a b : List ℕ) → IsPieceLine names piece a → IsPieceLine names piece b → a ≡ b
+one-piece-text names (Answered answered) a b p q = one-answer-text names answered.job answered.line answered.answer a b p q
+one-piece-text names (Pumped line left) a b p q = p ∙ sym q
+one-piece-text names (RestartedPiece server line outcome) a b p q = p ∙ sym q
+one-piece-text names (Halted server line) a b p q = p ∙ sym q
+one-piece-text names (Gone job line) a b p q = p ∙ sym q

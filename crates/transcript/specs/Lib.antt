@@ -1,4 +1,5 @@
 pub mod Parts
 pub mod AnswerText
+pub mod PieceText
 pub mod ActText
 pub mod ActGroups

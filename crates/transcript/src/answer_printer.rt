@@ -113,7 +113,7 @@ fn put_answer(to: &mut Printer, names: &Names, answer: &Answer) -> Result<(), Al
 }
 
 /// The line of an answer.
-fn put_answer_line(
+pub fn put_answer_line(
     to: &mut Printer,
     names: &Names,
     job: u16,

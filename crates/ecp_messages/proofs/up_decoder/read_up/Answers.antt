@@ -1,35 +1,38 @@
 use Rattle.std.proofs.Common.{rules}
+use Rattle.ecp_messages.specs.declared.message_error.MessageError.TheVariants.{BadField}
 use Rattle.ecp_messages.specs.Ups.{up_row, up_frame_bytes, IsUpFrame}
 use Rattle.ecp_messages.proofs.Frames.{seq-holds, seq-fails, some-left}
-use Rattle.ecp_messages.proofs.Readings.{reads-error}
+use Rattle.ecp_messages.proofs.Readings.{reads-handed}
 use Rattle.ecp_messages.proofs.FrameReads.{short-body, no-frame, unknown-head, wrong-seq, frame-stands, is-frame}
 use Rattle.ecp_messages.proofs.UpTable.{up_kinds, up-table}
 use Rattle.ecp_messages.proofs.UpFrames.{up_seq, up_ack, up_message}
 use Rattle.ecp_messages.proofs.up_decoder.read_up.Goals as goal
 
-pub returns-in_default : goal.returns-in_default
-returns-in_default c = short-body up_row up_seq up_ack up_message c.args.body.now (search rules)
+pub returns-in_err-head : goal.returns-in_err-head
+returns-in_err-head c =
+    let short = short-body up_row up_seq up_ack up_message c.args.body.now (search rules) in
+    reads-handed up_frame_bytes IsUpFrame _ c.args.body.now c.from_residual.result BadField (search rules) (λ e. absurd cc) (λ e. short) (λ e. absurd cc)
 
-pub returns-in-Err : goal.returns-in-Err
-returns-in-Err c = reads-error up_frame_bytes IsUpFrame _ c.args.body.now c.in-Err.error (λ e. unknown-head up_row c.in-Some.head.seq c.in-Some.head.ack c.in-Some.head.kind c.args.body.now c.in-Some.rest.now (search rules) (search rules)) (λ e. search rules) (λ e. search rules)
-
-pub returns-in_default-taken : goal.returns-in_default-taken
-returns-in_default-taken c =
-    let none = rw c.in_default-taken.is at c.in-Ok.ensures.none in
-    no-frame up_row up_seq up_ack up_message c.in-Some.head.seq c.in-Some.head.ack c.in-Some.head.kind c.args.body.now c.in-Some.rest.now (search rules) (search rules) (search rules) c.in-Ok.ensures.known none
+pub returns-in_err-message : goal.returns-in_err-message
+returns-in_err-message c =
+    let head = c.in_ok-head.head in
+    let rest = c.in_ok-head.rest.now in
+    let answers = c.in_err-message.ensures in
+    reads-handed up_frame_bytes IsUpFrame _ c.args.body.now c.from_residual-in_err-message.result c.in_err-message.field-0.0 (search rules) (λ e. unknown-head up_row head.seq head.ack head.kind c.args.body.now rest (search rules) (answers.bad_kind (search rules))) (λ e. no-frame up_row up_seq up_ack up_message head.seq head.ack head.kind c.args.body.now rest (search rules) (search rules) (search rules) (answers.known (search rules)) (answers.bad_field (search rules))) (λ e. answers.left_over (search rules))
 
 pub returns-then-not-has_seq : goal.returns-then-not-has_seq
 returns-then-not-has_seq c =
-    let ahead = rw c.in-Some-taken.is at c.in-Ok.ensures.some in
-    wrong-seq up_row up_kinds up_seq up_ack up_message up-table c.in-Some.head.seq c.in-Some.head.ack c.in-Some.head.kind c.args.body.now c.in-Some.rest.now c.in-Some-taken.message c.in-Some-taken.rest.now (search rules) (search rules) (search rules) ahead (seq-fails c.has_seq.result c.is_numbered.result _ c.in-Some.head.seq c.has_seq.ensures c.if-not-has_seq.true c.is_numbered.ensures)
+    let head = c.in_ok-head.head in
+    wrong-seq up_row up_kinds up_seq up_ack up_message up-table head.seq head.ack head.kind c.args.body.now c.in_ok-head.rest.now c.in_ok-message.message c.in_ok-message.rest.now (search rules) (search rules) (search rules) c.in_ok-message.ensures.some (seq-fails c.has_seq.result c.is_numbered.result _ head.seq c.has_seq.ensures c.if-not-has_seq.true c.is_numbered.ensures)
 
 pub returns-then-not-is_empty : goal.returns-then-not-is_empty
 returns-then-not-is_empty c =
-    let ahead = rw c.in-Some-taken.is at c.in-Ok.ensures.some in
+    let head = c.in_ok-head.head in
+    let ahead = c.in_ok-message.ensures.some in
     record {
-      frame = record { seq = c.in-Some.head.seq; ack = c.in-Some.head.ack; message = c.in-Some-taken.message };
-      rest = c.in-Some-taken.rest.now;
-      formed = is-frame up_row c.in-Some.head.seq c.in-Some.head.ack c.in-Some.head.kind c.in-Some.rest.now c.in-Some-taken.message c.in-Some-taken.rest.now (search rules) (search rules) ahead (seq-holds c.has_seq.result c.is_numbered.result _ c.in-Some.head.seq c.has_seq.ensures c.if-not-has_seq.false c.is_numbered.ensures);
-      more = some-left c.is_empty.result c.in-Some-taken.rest.now c.is_empty.ensures c.if-not-is_empty.true;
-      whole = frame-stands up_row c.in-Some.head.seq c.in-Some.head.ack c.in-Some.head.kind c.args.body.now c.in-Some.rest.now c.in-Some-taken.message c.in-Some-taken.rest.now (search rules) ahead;
+      frame = record { seq = head.seq; ack = head.ack; message = c.in_ok-message.message };
+      rest = c.in_ok-message.rest.now;
+      formed = is-frame up_row head.seq head.ack head.kind c.in_ok-head.rest.now c.in_ok-message.message c.in_ok-message.rest.now (search rules) (search rules) ahead (seq-holds c.has_seq.result c.is_numbered.result _ head.seq c.has_seq.ensures c.if-not-has_seq.false c.is_numbered.ensures);
+      more = some-left c.is_empty.result c.in_ok-message.rest.now c.is_empty.ensures c.if-not-is_empty.true;
+      whole = frame-stands up_row head.seq head.ack head.kind c.args.body.now c.in_ok-head.rest.now c.in_ok-message.message c.in_ok-message.rest.now (search rules) ahead;
     }

@@ -1,9 +1,9 @@
-use Rattle.std.proofs.Common.{◌≡◌, [], Bool, true, refl, sym, subst}
+use Rattle.std.proofs.Common.{◌≡◌, ◌∷◌, [], Bool, true, sym, subst}
 use Rattle.plain_orders.specs.declared.act.Act.TheVariants.{Synced, Met}
 use Rattle.plain_runs.specs.Plain.{Plain}
 use Rattle.plain_runs.specs.Recording.{state_of}
-use Rattle.cluster_call.specs.Running.{Stands}
-use Rattle.cluster_call.proofs.AddLemmas.{adds_served, adds_both, state_behind_three}
+use Rattle.cluster_call.specs.Running.{IsBetweenLines}
+use Rattle.cluster_call.proofs.AddLemmas.{served_met, served_open, served_save, state_behind_three, three_more}
 use Rattle.cluster_call.proofs.RunSteps.{connected_stands, behind_met, open_session}
 use Rattle.cluster_call.proofs.script_run.ScriptRun.connect.Goals as goal
 
@@ -12,14 +12,14 @@ returns-clause-stands c =
     let met : state_of c.note-3.new.self ≡ behind_met c.args.self.now.recorder.layout (state_of c.args.self.now.recorder) =
     state_behind_three c.args.self.now.recorder.layout c.note.new.self.layout c.note-2.new.self.layout (state_of c.args.self.now.recorder) (state_of c.note.new.self) (state_of c.note-2.new.self) (state_of c.note-3.new.self) open_session (Synced 0 2) (Met 0 0 2)
     c.in_ok-note.ensures.layout c.in_ok-note-2.ensures.layout c.in_ok-note.ensures.state c.in_ok-note-2.ensures.state c.in_ok-note-3.ensures.state in
-    subst (λ (p : Plain). Stands p 2 0 true c.args.self.now.store) (sym met)
+    subst (λ (p : Plain). IsBetweenLines p 2 0 true c.args.self.now.store) (sym met)
     (connected_stands c.args.self.now.recorder.layout (state_of c.args.self.now.recorder) c.args.self.now.length c.args.self.now.issued c.args.self.now.store
-    (subst (λ (b : Bool). Stands (state_of c.args.self.now.recorder) c.args.self.now.length c.args.self.now.issued b c.args.self.now.store) c.requires.unmet c.requires.stands) c.requires.job)
+    (subst (λ (b : Bool). IsBetweenLines (state_of c.args.self.now.recorder) c.args.self.now.length c.args.self.now.issued b c.args.self.now.store) c.requires.unmet c.requires.stands) c.requires.job)
 
 pub returns-clause-adds : goal.returns-clause-adds
 returns-clause-adds c =
-    adds_both c.args.self.now.recorder.acts c.note-2.new.self.acts c.note-3.new.self.acts [] []
-    (adds_both c.args.self.now.recorder.acts c.note.new.self.acts c.note-2.new.self.acts [] []
-    (adds_served c.args.self.now.recorder.acts c.note.new.self.acts open_session c.in_ok-note.ensures.ok (record { clock = refl; ends = refl; losses = refl; found = refl; printed = tt }) (λ j. refl) refl)
-    (adds_served c.note.new.self.acts c.note-2.new.self.acts (Synced 0 2) c.in_ok-note-2.ensures.ok (record { clock = refl; ends = refl; losses = refl; found = refl; printed = tt }) (λ j. refl) refl))
-    (adds_served c.note-2.new.self.acts c.note-3.new.self.acts (Met 0 0 2) c.in_ok-note-3.ensures.ok (record { clock = refl; ends = refl; losses = refl; found = refl; printed = tt }) (λ j. refl) refl)
+    let l = c.args.self.now.recorder.layout in (
+      open_session ∷ Synced 0 2 ∷ Met 0 0 2 ∷ [],
+      three_more c.args.self.now.recorder.acts c.note.new.self.acts c.note-2.new.self.acts c.note-3.new.self.acts open_session (Synced 0 2) (Met 0 0 2) c.in_ok-note.ensures.ok c.in_ok-note-2.ensures.ok c.in_ok-note-3.ensures.ok,
+      (served_open l c.requires.job, (served_save l 2 c.requires.job, (served_met l c.requires.job, tt))),
+    )

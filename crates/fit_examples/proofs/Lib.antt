@@ -1,0 +1,7 @@
+pub mod FirstMoments
+pub mod EndsOn
+pub mod EndLaws
+pub mod PartLaws
+pub mod JobLaws
+pub mod LineLaws
+pub mod Keys

@@ -1,0 +1,39 @@
+use Rattle.std.proofs.Common.{[], refl, rules}
+use Rattle.std.specs.Prelude.{false}
+use Rattle.plain_orders.specs.declared.mode.Mode.TheVariants.{Exclusive}
+use Rattle.script_fits.specs.Locking.{no_past}
+use Rattle.fit_examples.specs.Groups.{two, at_x}
+use Rattle.app_job.specs.declared.answer.Answer.TheVariants.{Done as DoneAnswer}
+use Rattle.fit_examples.proofs.FirstMoments.{unlock_does, unlock_holds}
+use Rattle.fit_examples.proofs.examples.unlock_examples.Goals as goal
+
+pub returns : goal.returns
+returns c = (
+  ((_, _, refl, (refl, (tt, tt)), refl, refl, refl), (refl, (refl, tt))),
+  search rules,
+  search rules,
+  search rules,
+  search rules,
+  search rules,
+  search rules,
+  λ f. absurd (cc (unlock_does two 0 5 at_x Exclusive false no_past _ _ DoneAnswer [] f.0)),
+  search rules,
+  search rules,
+  search rules,
+  search rules,
+  search rules,
+  search rules,
+  ((_, _, refl, (tt, tt), refl, refl, refl), (refl, tt)),
+  search rules,
+  λ f. absurd (cc (unlock_holds two 0 5 at_x Exclusive false no_past _ _ DoneAnswer [] f.0)),
+  search rules,
+  ((_, _, refl, (tt, tt), refl, refl, refl), (refl, tt)),
+  search rules,
+  ((_, _, refl, (refl, (tt, tt)), refl, refl, refl), (refl, (refl, tt))),
+  search rules,
+  ((_, _, refl, (tt, tt), refl, refl, refl), (refl, tt)),
+  search rules,
+  search rules,
+  ((_, _, refl, (tt, tt), refl, refl, refl), (refl, tt)),
+  ((_, _, refl, (tt, tt), refl, refl, refl), (refl, tt)),
+)

@@ -1,0 +1,14 @@
+pub mod Groups
+pub mod Trails
+pub mod Scripts
+pub mod TrailExamples
+pub mod IssueExamples
+pub mod ReadExamples
+pub mod LockExamples
+pub mod LevelExamples
+pub mod EndExamples
+pub mod RefusalExamples
+pub mod JobExamples
+pub mod LineExamples
+pub mod FitExamples
+pub mod StepExamples

@@ -1,0 +1,13 @@
+pub mod Moments
+pub mod Acting
+pub mod Locking
+pub mod Committing
+pub mod Refusing
+pub mod Commands
+pub mod JobLines
+pub mod Pieces
+pub mod Naming
+pub mod Walk
+pub mod Breaks
+pub mod Lines
+pub mod Fits
