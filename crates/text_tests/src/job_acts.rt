@@ -58,6 +58,92 @@ fn question(alloc: Global, words: &mut SplitWhitespace<'_>) -> Result<Question, 
     })
 }
 
+/// Where an act of a job's line stands.
+struct At {
+    job: u16,
+    line: u32,
+    server: u8,
+    at: u64,
+}
+
+/// A lock that is granted, or what an increment did.
+fn sum_act(kind: &str, place: At, words: &mut SplitWhitespace<'_>) -> Result<Act, Fail>
+    ensures { IfOk result (λ act. CanPrintAct act) }
+{
+    let At {
+        job,
+        line,
+        server,
+        at,
+    } = place;
+    if kind == "granted" {
+        return Ok(Act::Granted {
+            job,
+            line,
+            server,
+            at,
+        });
+    }
+    if kind == "notwhole" {
+        return Ok(Act::NotWhole {
+            job,
+            line,
+            server,
+            at,
+        });
+    }
+    if kind == "range" {
+        return Ok(Act::Range {
+            job,
+            line,
+            server,
+            at,
+        });
+    }
+    let sum = word(words)?.parse::<i64>()?;
+    Ok(Act::Counted {
+        job,
+        line,
+        server,
+        at,
+        sum,
+    })
+}
+
+/// The end of a command at a data server.
+fn end_act(kind: &str, place: At) -> Act
+    ensures { CanPrintAct result }
+{
+    let At {
+        job,
+        line,
+        server,
+        at,
+    } = place;
+    if kind == "committed" {
+        return Act::Committed {
+            job,
+            line,
+            server,
+            at,
+        };
+    }
+    if kind == "rolledback" {
+        return Act::RolledBack {
+            job,
+            line,
+            server,
+            at,
+        };
+    }
+    Act::Reached {
+        job,
+        line,
+        server,
+        at,
+    }
+}
+
 /// An act of a job at a data server that tells a position or a number there.
 pub fn job_act(alloc: Global, kind: &str, words: &mut SplitWhitespace<'_>) -> Result<Act, Fail>
     ensures { IfOk result (λ act. CanPrintAct act) }
@@ -67,52 +153,6 @@ pub fn job_act(alloc: Global, kind: &str, words: &mut SplitWhitespace<'_>) -> Re
     let server = index(words)?;
     let at = number(words)?;
     match kind {
-        "granted" => Ok(Act::Granted {
-            job,
-            line,
-            server,
-            at,
-        }),
-        "notwhole" => Ok(Act::NotWhole {
-            job,
-            line,
-            server,
-            at,
-        }),
-        "range" => Ok(Act::Range {
-            job,
-            line,
-            server,
-            at,
-        }),
-        "committed" => Ok(Act::Committed {
-            job,
-            line,
-            server,
-            at,
-        }),
-        "rolledback" => Ok(Act::RolledBack {
-            job,
-            line,
-            server,
-            at,
-        }),
-        "reached" => Ok(Act::Reached {
-            job,
-            line,
-            server,
-            at,
-        }),
-        "counted" => {
-            let sum = word(words)?.parse::<i64>()?;
-            Ok(Act::Counted {
-                job,
-                line,
-                server,
-                at,
-                sum,
-            })
-        }
         "issue" => {
             let item = item(alloc, words)?;
             Ok(Act::Issue {
@@ -123,7 +163,7 @@ pub fn job_act(alloc: Global, kind: &str, words: &mut SplitWhitespace<'_>) -> Re
                 item,
             })
         }
-        _ => {
+        "read" => {
             let via = via(words)?;
             let question = question(alloc, words)?;
             Ok(Act::Read {
@@ -135,6 +175,27 @@ pub fn job_act(alloc: Global, kind: &str, words: &mut SplitWhitespace<'_>) -> Re
                 question,
             })
         }
+        "granted" | "notwhole" | "range" | "counted" => {
+            sum_act(
+                kind,
+                At {
+                    job,
+                    line,
+                    server,
+                    at,
+                },
+                words,
+            )
+        }
+        _ => Ok(end_act(
+            kind,
+            At {
+                job,
+                line,
+                server,
+                at,
+            },
+        )),
     }
 }
 
