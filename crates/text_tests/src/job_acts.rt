@@ -66,7 +66,7 @@ struct At {
     at: u64,
 }
 
-/// A lock that is granted, or what an increment did.
+/// What an increment did.
 fn sum_act(kind: &str, place: At, words: &mut SplitWhitespace<'_>) -> Result<Act, Fail>
     ensures { IfOk result (λ act. CanPrintAct act) }
 {
@@ -76,14 +76,6 @@ fn sum_act(kind: &str, place: At, words: &mut SplitWhitespace<'_>) -> Result<Act
         server,
         at,
     } = place;
-    if kind == "granted" {
-        return Ok(Act::Granted {
-            job,
-            line,
-            server,
-            at,
-        });
-    }
     if kind == "notwhole" {
         return Ok(Act::NotWhole {
             job,
@@ -110,7 +102,7 @@ fn sum_act(kind: &str, place: At, words: &mut SplitWhitespace<'_>) -> Result<Act
     })
 }
 
-/// The end of a command at a data server.
+/// A lock that is granted, or the end of a command at a data server.
 fn end_act(kind: &str, place: At) -> Act
     ensures { CanPrintAct result }
 {
@@ -120,82 +112,85 @@ fn end_act(kind: &str, place: At) -> Act
         server,
         at,
     } = place;
-    if kind == "committed" {
-        return Act::Committed {
+    match kind {
+        "granted" => Act::Granted {
             job,
             line,
             server,
             at,
-        };
-    }
-    if kind == "rolledback" {
-        return Act::RolledBack {
+        },
+        "committed" => Act::Committed {
             job,
             line,
             server,
             at,
-        };
+        },
+        "rolledback" => Act::RolledBack {
+            job,
+            line,
+            server,
+            at,
+        },
+        _ => Act::Reached {
+            job,
+            line,
+            server,
+            at,
+        },
     }
-    Act::Reached {
+}
+
+/// An item that is issued, or a read.
+fn asked_act(
+    alloc: Global,
+    kind: &str,
+    place: At,
+    words: &mut SplitWhitespace<'_>,
+) -> Result<Act, Fail>
+    ensures { IfOk result (λ act. CanPrintAct act) }
+{
+    let At {
         job,
         line,
         server,
         at,
+    } = place;
+    if kind == "issue" {
+        let item = item(alloc, words)?;
+        return Ok(Act::Issue {
+            job,
+            line,
+            server,
+            w: at,
+            item,
+        });
     }
+    let via = via(words)?;
+    let question = question(alloc, words)?;
+    Ok(Act::Read {
+        job,
+        line,
+        server,
+        at,
+        via,
+        question,
+    })
 }
 
 /// An act of a job at a data server that tells a position or a number there.
 pub fn job_act(alloc: Global, kind: &str, words: &mut SplitWhitespace<'_>) -> Result<Act, Fail>
     ensures { IfOk result (λ act. CanPrintAct act) }
 {
-    let job = word(words)?.parse::<u16>()?;
-    let line = word(words)?.parse::<u32>()?;
-    let server = index(words)?;
-    let at = number(words)?;
+    let place = At {
+        job: word(words)?.parse::<u16>()?,
+        line: word(words)?.parse::<u32>()?,
+        server: index(words)?,
+        at: number(words)?,
+    };
     match kind {
-        "issue" => {
-            let item = item(alloc, words)?;
-            Ok(Act::Issue {
-                job,
-                line,
-                server,
-                w: at,
-                item,
-            })
-        }
-        "read" => {
-            let via = via(words)?;
-            let question = question(alloc, words)?;
-            Ok(Act::Read {
-                job,
-                line,
-                server,
-                at,
-                via,
-                question,
-            })
-        }
-        "granted" | "notwhole" | "range" | "counted" => {
-            sum_act(
-                kind,
-                At {
-                    job,
-                    line,
-                    server,
-                    at,
-                },
-                words,
-            )
-        }
-        _ => Ok(end_act(
-            kind,
-            At {
-                job,
-                line,
-                server,
-                at,
-            },
-        )),
+        "issue" | "read" => asked_act(alloc, kind, place, words),
+        "notwhole" | "range" | "counted" => sum_act(kind, place, words),
+        _ => Ok(end_act(kind, place)),
     }
 }
 
