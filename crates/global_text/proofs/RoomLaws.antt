@@ -1,8 +1,8 @@
 -- How many bytes of a string have room.
-use Rattle.std.proofs.Common.{◌≡◌, ℕ, ◌+◌, ◌≤◌, Bool, true, false, List, [], ◌∷◌, ◌++◌, length, refl, sym, ap, subst, ◌∙◌, inl, inr, arith, length-append}
+use Rattle.std.proofs.Common.{◌≡◌, ℕ, ◌+◌, ◌≤◌, Bool, true, false, List, [], ◌∷◌, ◌++◌, length, refl, ap, subst, inl, inr, arith, length-append}
 use Rattle.std.specs.Prelude.{if◌then◌else◌}
 use Rattle.std.proofs.lemmas.Bool.{cases_eq, eq-eqb, ne_eqb}
-use Rattle.std.proofs.lemmas.List.{length-map, append-nil}
+use Rattle.std.proofs.lemmas.List.{length-map}
 use Rattle.subscript_keys.specs.declared.sub.Sub.{Sub}
 use Rattle.subscript_keys.specs.declared.sub.Sub.TheVariants.{Num, Text}
 use Rattle.subscript_keys.specs.Decimal.{AreCanonical, IsNumberText, decimal_text, number_text, digit_text}
@@ -75,10 +75,7 @@ sub-room key (Num d) p h =
 sub-room key (Text []) p h = inl (tt, omega arith)
 sub-room key (Text (b ∷ text)) p h = inr h
 
--- a text with nothing after the bytes of a number
-pub all-number : (text token rest : List ℕ) → text ≡ token ++ rest → Every is_number_byte token → rest ≡ [] → Every is_number_byte text
-all-number text token rest e all none = subst (λ (t : List ℕ). Every is_number_byte t) (sym (e ∙ ap (λ r. token ++ r) none ∙ append-nil token)) all
-
+-- where all of a text are bytes of a number, nothing follows those that come first
 pub no-other : (text token rest : List ℕ) → text ≡ token ++ rest → BeginsOtherwise is_number_byte rest → Every is_number_byte text → rest ≡ []
 no-other text token [] e other all = refl
 no-other text token (c ∷ rest) e other all = absurd (other (every-behind token (c ∷ rest) (subst (λ (t : List ℕ). Every is_number_byte t) e all)).0)

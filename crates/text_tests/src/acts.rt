@@ -87,6 +87,33 @@ fn loss(words: &mut SplitWhitespace<'_>) -> Result<Loss, Fail> {
     }
 }
 
+/// What an application server hears of its session.
+fn session_act(
+    kind: &str,
+    app: u8,
+    server: u8,
+    words: &mut SplitWhitespace<'_>,
+) -> Result<Act, Fail>
+    ensures { IfOk result (λ act. CanPrintAct act) }
+{
+    let session = number(words)?;
+    if kind == "met" {
+        return Ok(Act::Met {
+            app,
+            server,
+            session,
+        });
+    }
+    let epoch = word(words)?.parse::<u32>()?;
+    Ok(Act::Told {
+        app,
+        server,
+        session,
+        epoch,
+        kept: number(words)?,
+    })
+}
+
 /// An act of a session or a connection.
 fn link_act(kind: &str, app: u8, words: &mut SplitWhitespace<'_>) -> Result<Act, Fail>
     ensures { IfOk result (λ act. CanPrintAct act) }
@@ -115,22 +142,7 @@ fn link_act(kind: &str, app: u8, words: &mut SplitWhitespace<'_>) -> Result<Act,
             time: number(words)?,
         });
     }
-    let session = number(words)?;
-    if kind == "met" {
-        return Ok(Act::Met {
-            app,
-            server,
-            session,
-        });
-    }
-    let epoch = word(words)?.parse::<u32>()?;
-    Ok(Act::Told {
-        app,
-        server,
-        session,
-        epoch,
-        kept: number(words)?,
-    })
+    session_act(kind, app, server, words)
 }
 
 /// The act that words tell.

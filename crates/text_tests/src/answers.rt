@@ -9,7 +9,7 @@ use std::alloc::Global;
 use std::str::SplitWhitespace;
 use std::test::*;
 use subscript_keys::Name;
-use transcript::{print_answer, print_layout};
+use transcript::{AnswerLine, Piece, print_answer, print_layout, print_piece};
 
 const ANSWERS: &str = r#"
 J2 7 queued D1:1 D2:4
@@ -56,8 +56,17 @@ fn names_of(alloc: Global, texts: &str) -> Result<NameList, Fail> {
     Ok(names)
 }
 
+/// Two data servers, an application server and two jobs.
+pub fn declared(alloc: Global) -> Result<Names, Fail> {
+    Ok(Names {
+        servers: names_of(alloc, "D1 D2")?,
+        apps: names_of(alloc, "A1")?,
+        jobs: names_of(alloc, "J1 J2")?,
+    })
+}
+
 /// The index of a data server by its name; another than the two that are declared has no name.
-fn server(name: &str) -> u8 {
+pub fn server(name: &str) -> u8 {
     match name {
         "D1" => 0,
         "D2" => 1,
@@ -186,11 +195,7 @@ fn read_answer(alloc: Global, kind: &str, words: &mut SplitWhitespace<'_>) -> Re
 #[test]
 fn each_answer_has_its_line(rt: HostRuntime) -> Result<(), Fail> {
     let alloc = rt.alloc();
-    let names = Names {
-        servers: names_of(alloc, "D1 D2")?,
-        apps: names_of(alloc, "A1")?,
-        jobs: names_of(alloc, "J1 J2")?,
-    };
+    let names = declared(alloc)?;
     for line in ANSWERS.lines().filter(|line| !line.is_empty()) {
         let mut words = line.split_whitespace();
         let job = if word(&mut words)? == "J2" { 1 } else { 0 };
@@ -198,7 +203,13 @@ fn each_answer_has_its_line(rt: HostRuntime) -> Result<(), Fail> {
         let answer = answer(alloc, &mut words)?;
         let mut text = Vec::new(alloc);
         print_answer(&names, job, number, &answer, &mut text)?;
-        let want = format!(in alloc; "{line}\n")?;
+        let piece = Piece::Answered(AnswerLine {
+            job,
+            line: number,
+            answer,
+        });
+        print_piece(&names, &piece, &mut text)?;
+        let want = format!(in alloc; "{line}\n{line}\n")?;
         assert_eq!(rt; text.as_slice(), want.as_bytes());
     }
     Ok(())

@@ -58,83 +58,139 @@ fn question(alloc: Global, words: &mut SplitWhitespace<'_>) -> Result<Question, 
     })
 }
 
+/// Where an act of a job's line stands.
+struct At {
+    job: u16,
+    line: u32,
+    server: u8,
+    at: u64,
+}
+
+/// What an increment did.
+fn sum_act(kind: &str, place: At, words: &mut SplitWhitespace<'_>) -> Result<Act, Fail>
+    ensures { IfOk result (λ act. CanPrintAct act) }
+{
+    let At {
+        job,
+        line,
+        server,
+        at,
+    } = place;
+    if kind == "notwhole" {
+        return Ok(Act::NotWhole {
+            job,
+            line,
+            server,
+            at,
+        });
+    }
+    if kind == "range" {
+        return Ok(Act::Range {
+            job,
+            line,
+            server,
+            at,
+        });
+    }
+    let sum = word(words)?.parse::<i64>()?;
+    Ok(Act::Counted {
+        job,
+        line,
+        server,
+        at,
+        sum,
+    })
+}
+
+/// A lock that is granted, or the end of a command at a data server.
+fn end_act(kind: &str, place: At) -> Act
+    ensures { CanPrintAct result }
+{
+    let At {
+        job,
+        line,
+        server,
+        at,
+    } = place;
+    match kind {
+        "granted" => Act::Granted {
+            job,
+            line,
+            server,
+            at,
+        },
+        "committed" => Act::Committed {
+            job,
+            line,
+            server,
+            at,
+        },
+        "rolledback" => Act::RolledBack {
+            job,
+            line,
+            server,
+            at,
+        },
+        _ => Act::Reached {
+            job,
+            line,
+            server,
+            at,
+        },
+    }
+}
+
+/// An item that is issued, or a read.
+fn asked_act(
+    alloc: Global,
+    kind: &str,
+    place: At,
+    words: &mut SplitWhitespace<'_>,
+) -> Result<Act, Fail>
+    ensures { IfOk result (λ act. CanPrintAct act) }
+{
+    let At {
+        job,
+        line,
+        server,
+        at,
+    } = place;
+    if kind == "issue" {
+        let item = item(alloc, words)?;
+        return Ok(Act::Issue {
+            job,
+            line,
+            server,
+            w: at,
+            item,
+        });
+    }
+    let via = via(words)?;
+    let question = question(alloc, words)?;
+    Ok(Act::Read {
+        job,
+        line,
+        server,
+        at,
+        via,
+        question,
+    })
+}
+
 /// An act of a job at a data server that tells a position or a number there.
 pub fn job_act(alloc: Global, kind: &str, words: &mut SplitWhitespace<'_>) -> Result<Act, Fail>
     ensures { IfOk result (λ act. CanPrintAct act) }
 {
-    let job = word(words)?.parse::<u16>()?;
-    let line = word(words)?.parse::<u32>()?;
-    let server = index(words)?;
-    let at = number(words)?;
+    let place = At {
+        job: word(words)?.parse::<u16>()?,
+        line: word(words)?.parse::<u32>()?,
+        server: index(words)?,
+        at: number(words)?,
+    };
     match kind {
-        "granted" => Ok(Act::Granted {
-            job,
-            line,
-            server,
-            at,
-        }),
-        "notwhole" => Ok(Act::NotWhole {
-            job,
-            line,
-            server,
-            at,
-        }),
-        "range" => Ok(Act::Range {
-            job,
-            line,
-            server,
-            at,
-        }),
-        "committed" => Ok(Act::Committed {
-            job,
-            line,
-            server,
-            at,
-        }),
-        "rolledback" => Ok(Act::RolledBack {
-            job,
-            line,
-            server,
-            at,
-        }),
-        "reached" => Ok(Act::Reached {
-            job,
-            line,
-            server,
-            at,
-        }),
-        "counted" => {
-            let sum = word(words)?.parse::<i64>()?;
-            Ok(Act::Counted {
-                job,
-                line,
-                server,
-                at,
-                sum,
-            })
-        }
-        "issue" => {
-            let item = item(alloc, words)?;
-            Ok(Act::Issue {
-                job,
-                line,
-                server,
-                w: at,
-                item,
-            })
-        }
-        _ => {
-            let via = via(words)?;
-            let question = question(alloc, words)?;
-            Ok(Act::Read {
-                job,
-                line,
-                server,
-                at,
-                via,
-                question,
-            })
-        }
+        "issue" | "read" => asked_act(alloc, kind, place, words),
+        "notwhole" | "range" | "counted" => sum_act(kind, place, words),
+        _ => Ok(end_act(kind, place)),
     }
 }
 

@@ -1,4 +1,4 @@
-//! The texts of answers and acts, a line each, and targets with their refusals. A line is read into what it tells by a
+//! The texts of answers, pieces and acts, a line each, and targets with their refusals. A line is read into what it tells by a
 //! small reader, and must be printed from that again.
 #![tactic(auto)]
 
@@ -10,6 +10,8 @@ mod answers;
 mod job_acts;
 #[cfg(test)]
 mod parts;
+#[cfg(test)]
+mod pieces;
 #[cfg(test)]
 mod server_acts;
 #[cfg(test)]

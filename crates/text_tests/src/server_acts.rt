@@ -9,25 +9,15 @@ use std::alloc::Global;
 use std::str::SplitWhitespace;
 use std::test::*;
 
-/// The entry that words tell.
-fn entry(alloc: Global, words: &mut SplitWhitespace<'_>) -> Result<Entry, Fail>
+/// The entry of an item of this session.
+fn item_entry(
+    alloc: Global,
+    kind: &str,
+    session: u64,
+    words: &mut SplitWhitespace<'_>,
+) -> Result<Entry, Fail>
     ensures { IfOk result (λ entry. CanPrintEntry entry) }
 {
-    let kind = word(words)?;
-    if kind == "epoch" {
-        let number = word(words)?.parse::<u32>()?;
-        return Ok(Entry::Epoch { number });
-    }
-    let session = number(words)?;
-    if kind == "close" {
-        return Ok(Entry::Closed { session });
-    }
-    if kind == "open" {
-        return Ok(Entry::Opened {
-            session,
-            app: index(words)?,
-        });
-    }
     let w = number(words)?;
     let job = word(words)?.parse::<u16>()?;
     let txn = word(words)?.parse::<u32>()?;
@@ -55,6 +45,28 @@ fn entry(alloc: Global, words: &mut SplitWhitespace<'_>) -> Result<Entry, Fail>
         txn,
         op,
     })
+}
+
+/// The entry that words tell.
+fn entry(alloc: Global, words: &mut SplitWhitespace<'_>) -> Result<Entry, Fail>
+    ensures { IfOk result (λ entry. CanPrintEntry entry) }
+{
+    let kind = word(words)?;
+    if kind == "epoch" {
+        let number = word(words)?.parse::<u32>()?;
+        return Ok(Entry::Epoch { number });
+    }
+    let session = number(words)?;
+    if kind == "close" {
+        return Ok(Entry::Closed { session });
+    }
+    if kind == "open" {
+        return Ok(Entry::Opened {
+            session,
+            app: index(words)?,
+        });
+    }
+    item_entry(alloc, kind, session, words)
 }
 
 /// The entries that the journal of a data server held at first, none or two, each after the word `entry`.
@@ -105,6 +117,38 @@ fn shut_cause(words: &mut SplitWhitespace<'_>) -> Result<ShutCause, Fail> {
     }
 }
 
+/// A hold that is given, or given up.
+fn hold_act(
+    alloc: Global,
+    kind: &str,
+    server: u8,
+    session: u64,
+    words: &mut SplitWhitespace<'_>,
+) -> Result<Act, Fail>
+    ensures { IfOk result (λ act. CanPrintAct act) }
+{
+    let job = word(words)?.parse::<u16>()?;
+    let mode = mode(words)?;
+    let key = key(alloc, word(words)?).ok_or("no node")?;
+    if kind == "free" {
+        return Ok(Act::Free {
+            server,
+            session,
+            job,
+            mode,
+            key,
+        });
+    }
+    Ok(Act::Grant {
+        server,
+        session,
+        job,
+        mode,
+        key,
+        at: number(words)?,
+    })
+}
+
 /// An act of a data server that tells a position or a session.
 pub fn counted_act(
     alloc: Global,
@@ -132,24 +176,5 @@ pub fn counted_act(
         }),
         _ => {}
     }
-    let job = word(words)?.parse::<u16>()?;
-    let mode = mode(words)?;
-    let key = key(alloc, word(words)?).ok_or("no node")?;
-    if kind == "free" {
-        return Ok(Act::Free {
-            server,
-            session,
-            job,
-            mode,
-            key,
-        });
-    }
-    Ok(Act::Grant {
-        server,
-        session,
-        job,
-        mode,
-        key,
-        at: number(words)?,
-    })
+    hold_act(alloc, kind, server, session, words)
 }
