@@ -1,33 +1,52 @@
 ghost use Rattle.std.specs.Prelude.{IfOk};
 ghost use Rattle.field_bytes.specs.Fields.{HasShortLists};
+ghost use Rattle.journal_records.specs.Records.{IsRecordOp};
 
+use crate::texts::{bytes, lines, word};
 use field_bytes::*;
 use plain_orders::Op;
-use std::alloc::{AllocError, Global};
+use std::alloc::Global;
+use std::str::SplitWhitespace;
 use std::test::*;
-use subscript_keys::{KeyBytes, ValueBytes};
+use subscript_keys::{NUMBER_LIMIT, ValueBytes};
 
-/// What is done to ^A.
-#[derive(Clone, Copy)]
-enum Change {
-    Set,
-    Kill,
-    Add(i64),
-}
+/// The bytes of an operation, and the operation, whose key stands after its count; `none` where they begin with
+/// none.
+const OPS: &str = "
+0100024100000135                 set 00024100 35
+0200024100                       kill 00024100
+03000241.00*7.012C               add 00024100 300
+0300024100.FF*8                  add 00024100 -1
+-                                none
+0000024100                       none
+0400024100                       none
+02000141                         none
+";
 
-/// The change at ^A; a Set gives the value 5.
-fn op(alloc: Global, change: Change) -> Result<Op, AllocError>
-    ensures { IfOk result (λ op. HasShortLists op) }
+/// The operation that words tell, in a transaction, 0 being none.
+pub fn op_of(alloc: Global, txn: u32, words: &mut SplitWhitespace<'_>) -> Result<Op, Fail>
+    ensures short { IfOk result (λ op. HasShortLists op) }
+    ensures recorded { IfOk result (λ op. IsRecordOp txn op) }
 {
-    let key = KeyBytes::from_vec(Vec::from_slice(alloc, b"A\x00")?);
-    Ok(match change {
-        Change::Set => Op::Set {
-            key,
-            value: ValueBytes::from_vec(Vec::from_slice(alloc, b"5")?),
-        },
-        Change::Kill => Op::Kill { key },
-        Change::Add(amount) => Op::Add { key, amount },
-    })
+    let kind = word(words)?;
+    let key = bytes(alloc, words)?;
+    let (key, _) = take_key(alloc, key.as_slice())?;
+    if kind == "kill" {
+        return Ok(Op::Kill { key });
+    }
+    if kind == "set" {
+        let value = bytes(alloc, words)?;
+        if value.len() > 65535 {
+            return Err(Fail::from("a value is too long"));
+        }
+        let value = ValueBytes::from_vec(value);
+        return Ok(Op::Set { key, value });
+    }
+    let amount = word(words)?.parse::<i64>()?;
+    if kind != "add" || txn != 0 || amount.unsigned_abs() >= NUMBER_LIMIT {
+        return Err(Fail::from("no such operation"));
+    }
+    Ok(Op::Add { key, amount })
 }
 
 #[test]
@@ -59,35 +78,32 @@ fn numbers_and_lists_stand_with_the_greatest_byte_first(rt: HostRuntime) -> Resu
 #[test]
 fn operations_stand_behind_their_kinds(rt: HostRuntime) -> Result<(), Fail> {
     let alloc = rt.alloc();
-    let rows: [(Change, &[u8]); 4] = [
-        (Change::Set, b"\x01\x00\x02A\x00\x00\x015"),
-        (Change::Kill, b"\x02\x00\x02A\x00"),
-        (
-            Change::Add(300),
-            b"\x03\x00\x02A\x00\x00\x00\x00\x00\x00\x00\x01\x2C",
-        ),
-        (
-            Change::Add(-1),
-            b"\x03\x00\x02A\x00\xFF\xFF\xFF\xFF\xFF\xFF\xFF\xFF",
-        ),
-    ];
-    for (change, want) in rows {
-        let op = op(alloc, change)?;
-        let mut bytes = Vec::new(alloc);
-        put_op(&mut bytes, &op)?;
-        assert_eq!(rt; bytes.as_slice(), want);
-        assert!(rt; matches!(take_op(alloc, want), Ok(Some((taken, []))) if taken == op));
-        let (_, cut) = want.split_last().ok_or("an operation has bytes")?;
-        assert!(rt; matches!(take_op(alloc, cut), Ok(None)));
-    }
-    let none: [&[u8]; 4] = [
-        b"",
-        b"\x00\x00\x02A\x00",
-        b"\x04\x00\x02A\x00",
-        b"\x02\x00\x01A",
-    ];
-    for bytes in none {
-        assert!(rt; matches!(take_op(alloc, bytes), Ok(None)));
+    for line in lines(alloc, OPS)? {
+        let mut words = line.split_whitespace();
+        let want = bytes(alloc, &mut words)?;
+        if line.ends_with("none") {
+            assert!(rt;
+                matches!(take_op(alloc, &want), Err(FieldError::NoField)),
+                "{line}"
+            );
+            continue;
+        }
+        let op = op_of(alloc, 0, &mut words)?;
+        let mut written = Vec::new(alloc);
+        put_op(&mut written, &op)?;
+        assert_eq!(rt; written.as_slice(), want.as_slice());
+        assert!(rt;
+            matches!(take_op(alloc, &want), Ok((taken, [])) if taken == op),
+            "{line}"
+        );
+        let (_, cut) = want
+            .as_slice()
+            .split_last()
+            .ok_or("an operation has bytes")?;
+        assert!(rt;
+            matches!(take_op(alloc, cut), Err(FieldError::NoField)),
+            "{line}"
+        );
     }
     Ok(())
 }

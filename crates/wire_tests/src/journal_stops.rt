@@ -5,8 +5,8 @@ use plain_orders::Entry;
 use std::alloc::Global;
 use std::test::*;
 
-/// What a start answers behind a crash.
-fn read_behind_crash(alloc: Global, disk: &mut MemDisk, pick: u64) -> Result<Answer, Fail> {
+/// What a start answers after a crash.
+fn read_after_crash(alloc: Global, disk: &mut MemDisk, pick: u64) -> Result<Answer, Fail> {
     disk.crash(pick)?;
     Ok(read(alloc, disk))
 }
@@ -24,7 +24,7 @@ fn a_batch_is_absent_or_whole(rt: HostRuntime) -> Result<(), Fail> {
                 save(alloc, &mut disk, &part)?,
                 (Answer::Disk, Answer::NeedsStart)
             );
-            let answer = read_behind_crash(alloc, &mut disk, pick)?;
+            let answer = read_after_crash(alloc, &mut disk, pick)?;
             assert!(rt;
                 answer == Answer::Read(0) || answer == Answer::Read(most),
                 "{call} {pick}"
@@ -38,7 +38,7 @@ fn a_batch_is_absent_or_whole(rt: HostRuntime) -> Result<(), Fail> {
             (Answer::Saved, Answer::Saved)
         );
         assert_eq!(rt;
-            read_behind_crash(alloc, &mut disk, pick)?,
+            read_after_crash(alloc, &mut disk, pick)?,
             Answer::Read(1),
             "{pick}"
         );
@@ -55,7 +55,7 @@ fn a_stop_at_any_write_leaves_whole_batches(rt: HostRuntime) -> Result<(), Fail>
             let mut disk = disk_with(alloc, b"", &[], Some(write))?;
             let saved = save_three(alloc, &mut disk)?;
             assert_eq!(rt; saved, if write == 0 { 0 } else { (write - 1) / 2 });
-            let answer = read_behind_crash(alloc, &mut disk, pick)?;
+            let answer = read_after_crash(alloc, &mut disk, pick)?;
             assert_eq!(rt; answer, Answer::Read(saved as usize), "{write} {pick}");
         }
     }
@@ -84,7 +84,7 @@ fn leaves_whole(alloc: Global, part: &[Entry], write: u64, batches: usize) -> Re
         if (answer == Answer::Saved) != (batches == 3) {
             return Ok(false);
         }
-        let read = read_behind_crash(alloc, &mut disk, pick)?;
+        let read = read_after_crash(alloc, &mut disk, pick)?;
         if want != Some(read) {
             return Ok(false);
         }

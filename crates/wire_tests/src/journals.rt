@@ -79,7 +79,7 @@ fn append(
     }
 }
 
-/// Starts a journal and appends a part: what that answers, and what an append behind it does.
+/// Starts a journal and appends a part: what that answers, and what an append after it does.
 pub(crate) fn save(
     alloc: Global,
     disk: &mut MemDisk,
@@ -104,9 +104,7 @@ pub(crate) fn save(
 
 /// An update of ^x in session 2, with a value of so many bytes.
 pub(crate) fn update(alloc: Global, w: u64, length: usize) -> Result<Entry, Fail> {
-    let Some((key, _)) = take_key(alloc, b"\x00\x02x\x00")? else {
-        return Err(Fail::from("the key of ^x"));
-    };
+    let (key, _) = take_key(alloc, b"\x00\x02x\x00")?;
     let value = ValueBytes::from_vec(vec![in alloc; b'5'; length]?);
     Ok(Entry::Update {
         session: 2,

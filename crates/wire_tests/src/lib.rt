@@ -1,4 +1,4 @@
-//! What no clause of the wire's crates and of the journal's says, as tables: their worked bytes, their texts, and
+//! What no clause of the wire's crates and of the journal's says, as texts: their worked bytes, their texts, and
 //! each public call with ample memory.
 #![tactic(auto)]
 
@@ -18,5 +18,7 @@ mod messages;
 mod queues;
 #[cfg(test)]
 mod records;
+#[cfg(test)]
+mod texts;
 #[cfg(test)]
 mod windows;

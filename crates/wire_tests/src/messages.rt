@@ -1,184 +1,137 @@
+use crate::texts::{bytes, lines, number, word};
 use ecp_messages::*;
 use plain_orders::Op;
 use std::alloc::{AllocError, Global};
+use std::str::SplitWhitespace;
 use std::test::*;
 
-/// Frames of a session: the update `set ^x 5`, then job 2 asks for ^x shared, then 64 messages were taken.
-const SESSION: [&[u8]; 3] = [
-    b"\0\0\0\0\0\0\0\x01\0\0\0\0\0\0\0\0\x03\0\0\0\0\0\0\0\x01\0\0\0\0\0\0\x01\0\x02x\0\0\x015",
-    b"\0\0\0\0\0\0\0\x02\0\0\0\0\0\0\0\x03\x06\0\0\0\x07\0\x02\x02\0\x02x\0",
-    b"\0\0\0\0\0\0\0\0\0\0\0\0\0\0\0\x40\x7F",
-];
+/// What reading a body answers, the direction, its number, its kind and its fields; at the end the count of what
+/// was taken, if it isn't 5.
+const BODIES: &str = "
+# the first numbers of a session: the update set ^x 5, job 2 asks for ^x shared, 64 messages were taken
+whole     up                  1 03 00*7.01.00*6.0100027800000135 0
+whole     up                  2 06 0000000700020200027800 3
+whole     up                  0 7F - 40
+# up messages, each with its smallest and its greatest fields
+whole     up                  0 01 01.00*5
+whole     up                  0 01 01.FF*5
+whole     up                  0 02 00*25
+whole     up                  0 02 FF*25
+whole     up                  1 03 00*14.01000278000000
+whole     up   FFFFFFFFFFFFFFFF 03 FF*14.0200027800
+whole     up                  1 04 00*11.02780080.00*7
+whole     up                  1 04 FF*10.000278007F.FF*7
+whole     up                  1 05 000100
+whole     up                  1 05 0003FEFFFF
+whole     up                  1 06 00*6.0100027800
+whole     up                  1 06 FF*6.0200027800
+whole     up                  1 07 00000100027800
+whole     up                  1 07 FFFF0200027800
+whole     up                  1 08 00*4
+whole     up                  1 08 FF*4
+whole     up                  1 09 00*15
+whole     up                  1 09 FF*14.01
+whole     up                  1 0A 00*14
+whole     up                  1 0A FF*14
+whole     up                  1 0B 00*4
+whole     up                  1 0B FF*4
+whole     up                  1 0C -
+whole     up                  1 0D 00000100000001.00*9.027800
+whole     up                  1 0D FFFF02.FF*12.00027800
+whole     up                  0 7F -
+# a number where none may stand, and none where one has to
+bad_field up                  1 01 01.00*5
+bad_field up                  1 7F -
+bad_field up                  0 0C -
+# version 2
+bad_field up                  0 01 02.00*5
+# an increment as an Update
+bad_field up                  1 03 00*14.03000278.00*9
+# no key of a node
+bad_field up                  1 04 00*11.017880.00*7
+bad_field up                  1 07 0000010000
+# no bytes, and such that don't stand below FF
+bad_field up                  1 05 0000
+bad_field up                  1 05 0001FF
+bad_field up                  1 05 0002FF00
+# modes 0 and 3
+bad_field up                  1 06 00*8.027800
+bad_field up                  1 06 00*6.0300027800
+bad_field up                  1 07 00*4.027800
+bad_field up                  1 0D 00000300000001.00*9.027800
+# wanted 2
+bad_field up                  1 09 00*14.02
+# count 0
+bad_field up                  1 0D 000001.00*13.027800
+bad_field up                  0 0D 00000100000001.00*9.027800
+# kinds that no up message has
+bad_kind  up                  1 00 01
+bad_kind  up                  1 0E 01
+bad_kind  up                  1 7E 01
+bad_kind  up                  1 80 01
+bad_kind  up                  1 81 01
+bad_kind  up                  1 FF 01
+# down messages
+whole     down                0 81 00*52
+whole     down                0 81 FF*52
+whole     down                0 82 00*16
+whole     down                0 82 FF*16
+whole     down                1 83 00*26
+whole     down FFFFFFFFFFFFFFFF 83 FF*24.000200FF
+whole     down                1 84 00*27.01FF
+whole     down                1 84 FF*24.0002780000037800FF
+whole     down                1 85 00*24
+whole     down                1 85 FF*24
+whole     down                1 86 00*36
+whole     down                1 86 FF*36
+whole     down                1 87 00*24.01.00*18.80.00*7
+whole     down                1 87 FF*24.01.FF*18.7F.FF*7
+whole     down                1 87 00*24.06.00*26
+whole     down                1 88 00*24
+whole     down                1 88 FF*24
+whole     down                0 7F -
+# a number where none may stand, none where one has to, and a Bare with one
+bad_field down                1 82 00*16
+bad_field down                0 85 00*24
+bad_field down                1 7F -
+# about 0 and 7
+bad_field down                1 87 00*51
+bad_field down                1 87 00*24.07.00*26
+# a sum of what wasn't counted
+bad_field down                1 87 00*24.02.00*25.01
+# a block that is cut off
+bad_field down                1 83 00*25.0200
+# kinds that no down message has
+bad_kind  down                1 00 01
+bad_kind  down                1 0D 01
+bad_kind  down                1 7E 01
+bad_kind  down                1 80 01
+bad_kind  down                1 89 01
+bad_kind  down                1 FF 01
+";
 
-/// Numbers, kinds and fields of up messages: each with its smallest and its greatest fields.
-const UPS: [(u64, u8, &[u8]); 26] = [
-    (0, 0x01, b"\x01\x00\x00\x00\x00\x00"),
-    (0, 0x01, b"\x01\xFF\xFF\xFF\xFF\xFF"),
-    (0, 0x02, &[0; 25]),
-    (0, 0x02, &[0xFF; 25]),
-    (1, 0x03, b"\0\0\0\0\0\0\0\0\0\0\0\0\0\0\x01\0\x02x\0\0\0"),
-    (
-        u64::MAX,
-        0x03,
-        b"\xFF\xFF\xFF\xFF\xFF\xFF\xFF\xFF\xFF\xFF\xFF\xFF\xFF\xFF\x02\0\x02x\0",
-    ),
-    (1, 0x04, b"\0\0\0\0\0\0\0\0\0\0\0\x02x\0\x80\0\0\0\0\0\0\0"),
-    (
-        1,
-        0x04,
-        b"\xFF\xFF\xFF\xFF\xFF\xFF\xFF\xFF\xFF\xFF\0\x02x\0\x7F\xFF\xFF\xFF\xFF\xFF\xFF\xFF",
-    ),
-    (1, 0x05, b"\0\x01\0"),
-    (1, 0x05, b"\0\x03\xFE\xFF\xFF"),
-    (1, 0x06, b"\0\0\0\0\0\0\x01\0\x02x\0"),
-    (1, 0x06, b"\xFF\xFF\xFF\xFF\xFF\xFF\x02\0\x02x\0"),
-    (1, 0x07, b"\0\0\x01\0\x02x\0"),
-    (1, 0x07, b"\xFF\xFF\x02\0\x02x\0"),
-    (1, 0x08, &[0; 4]),
-    (1, 0x08, &[0xFF; 4]),
-    (1, 0x09, &[0; 15]),
-    (
-        1,
-        0x09,
-        b"\xFF\xFF\xFF\xFF\xFF\xFF\xFF\xFF\xFF\xFF\xFF\xFF\xFF\xFF\x01",
-    ),
-    (1, 0x0A, &[0; 14]),
-    (1, 0x0A, &[0xFF; 14]),
-    (1, 0x0B, &[0; 4]),
-    (1, 0x0B, &[0xFF; 4]),
-    (1, 0x0C, b""),
-    (1, 0x0D, b"\0\0\x01\0\0\0\x01\0\0\0\0\0\0\0\0\0\x02x\0"),
-    (
-        1,
-        0x0D,
-        b"\xFF\xFF\x02\xFF\xFF\xFF\xFF\xFF\xFF\xFF\xFF\xFF\xFF\xFF\xFF\0\x02x\0",
-    ),
-    (0, 0x7F, b""),
-];
+/// The bodies of an Update `set ^x 5`, of an Answer with the numbers 3 to 8 that tells the sum -2, and of a Block of
+/// two bytes.
+const FIELDS: &str = "
+1 03 00*7.01000200000003010002780000.0135
+1 87 00*7.03.00*7.04.00*7.05010006.00*7.07.00*7.08.FF*7.FE
+1 83 00*25.026869
+";
 
-/// The same for fields that no up message has.
-const BAD_UPS: [(u64, u8, &[u8]); 17] = [
-    // a number where none may stand, and none where one has to
-    (1, 0x01, b"\x01\x00\x00\x00\x00\x00"),
-    (1, 0x7F, b""),
-    (0, 0x0C, b""),
-    // version 2
-    (0, 0x01, b"\x02\x00\x00\x00\x00\x00"),
-    // an increment as an Update
-    (
-        1,
-        0x03,
-        b"\0\0\0\0\0\0\0\0\0\0\0\0\0\0\x03\0\x02x\0\0\0\0\0\0\0\0\0",
-    ),
-    // no key of a node
-    (1, 0x04, b"\0\0\0\0\0\0\0\0\0\0\0\x01x\x80\0\0\0\0\0\0\0"),
-    (1, 0x07, b"\0\0\x01\0\0"),
-    // no bytes, and such that don't stand below FF
-    (1, 0x05, b"\0\0"),
-    (1, 0x05, b"\0\x01\xFF"),
-    (1, 0x05, b"\0\x02\xFF\0"),
-    // modes 0 and 3
-    (1, 0x06, b"\0\0\0\0\0\0\0\0\x02x\0"),
-    (1, 0x06, b"\0\0\0\0\0\0\x03\0\x02x\0"),
-    (1, 0x07, b"\0\0\0\0\x02x\0"),
-    (1, 0x0D, b"\0\0\x03\0\0\0\x01\0\0\0\0\0\0\0\0\0\x02x\0"),
-    // wanted 2
-    (1, 0x09, b"\0\0\0\0\0\0\0\0\0\0\0\0\0\0\x02"),
-    // count 0
-    (1, 0x0D, b"\0\0\x01\0\0\0\0\0\0\0\0\0\0\0\0\0\x02x\0"),
-    (0, 0x0D, b"\0\0\x01\0\0\0\x01\0\0\0\0\0\0\0\0\0\x02x\0"),
-];
-
-/// Numbers, kinds and fields of down messages.
-const DOWNS: [(u64, u8, &[u8]); 18] = [
-    (0, 0x81, &[0; 52]),
-    (0, 0x81, &[0xFF; 52]),
-    (0, 0x82, &[0; 16]),
-    (0, 0x82, &[0xFF; 16]),
-    (
-        1,
-        0x83,
-        b"\0\0\0\0\0\0\0\0\0\0\0\0\0\0\0\0\0\0\0\0\0\0\0\0\0\0",
-    ),
-    (
-        u64::MAX,
-        0x83,
-        b"\xFF\xFF\xFF\xFF\xFF\xFF\xFF\xFF\xFF\xFF\xFF\xFF\xFF\xFF\xFF\xFF\xFF\xFF\xFF\xFF\xFF\xFF\xFF\xFF\0\x02\0\xFF",
-    ),
-    (
-        1,
-        0x84,
-        b"\0\0\0\0\0\0\0\0\0\0\0\0\0\0\0\0\0\0\0\0\0\0\0\0\0\0\0\x01\xFF",
-    ),
-    (
-        1,
-        0x84,
-        b"\xFF\xFF\xFF\xFF\xFF\xFF\xFF\xFF\xFF\xFF\xFF\xFF\xFF\xFF\xFF\xFF\xFF\xFF\xFF\xFF\xFF\xFF\xFF\xFF\0\x02x\0\0\x03x\0\xFF",
-    ),
-    (1, 0x85, &[0; 24]),
-    (1, 0x85, &[0xFF; 24]),
-    (1, 0x86, &[0; 36]),
-    (1, 0x86, &[0xFF; 36]),
-    (
-        1,
-        0x87,
-        b"\0\0\0\0\0\0\0\0\0\0\0\0\0\0\0\0\0\0\0\0\0\0\0\0\x01\0\0\0\0\0\0\0\0\0\0\0\0\0\0\0\0\0\0\x80\0\0\0\0\0\0\0",
-    ),
-    (
-        1,
-        0x87,
-        b"\xFF\xFF\xFF\xFF\xFF\xFF\xFF\xFF\xFF\xFF\xFF\xFF\xFF\xFF\xFF\xFF\xFF\xFF\xFF\xFF\xFF\xFF\xFF\xFF\x01\xFF\xFF\xFF\xFF\xFF\xFF\xFF\xFF\xFF\xFF\xFF\xFF\xFF\xFF\xFF\xFF\xFF\xFF\x7F\xFF\xFF\xFF\xFF\xFF\xFF\xFF",
-    ),
-    (
-        1,
-        0x87,
-        b"\0\0\0\0\0\0\0\0\0\0\0\0\0\0\0\0\0\0\0\0\0\0\0\0\x06\0\0\0\0\0\0\0\0\0\0\0\0\0\0\0\0\0\0\0\0\0\0\0\0\0\0",
-    ),
-    (1, 0x88, &[0; 24]),
-    (1, 0x88, &[0xFF; 24]),
-    (0, 0x7F, b""),
-];
-
-/// The fields of an Answer.
-const ANSWER: &[u8] =
-    b"\0\0\0\0\0\0\0\x03\0\0\0\0\0\0\0\x04\0\0\0\0\0\0\0\x05\x01\0\x06\0\0\0\0\0\0\0\x07\0\0\0\0\0\0\0\x08\xFF\xFF\xFF\xFF\xFF\xFF\xFF\xFE";
-
-/// The fields of a Block of two bytes.
-const BLOCK: &[u8] = b"\0\0\0\0\0\0\0\0\0\0\0\0\0\0\0\0\0\0\0\0\0\0\0\0\0\x02hi";
-
-/// The same for fields that no down message has.
-const BAD_DOWNS: [(u64, u8, &[u8]); 7] = [
-    (1, 0x82, &[0; 16]),
-    (0, 0x85, &[0; 24]),
-    (1, 0x7F, b""),
-    // about 0 and 7
-    (1, 0x87, &[0; 51]),
-    (
-        1,
-        0x87,
-        b"\0\0\0\0\0\0\0\0\0\0\0\0\0\0\0\0\0\0\0\0\0\0\0\0\x07\0\0\0\0\0\0\0\0\0\0\0\0\0\0\0\0\0\0\0\0\0\0\0\0\0\0",
-    ),
-    // a sum of what wasn't counted
-    (
-        1,
-        0x87,
-        b"\0\0\0\0\0\0\0\0\0\0\0\0\0\0\0\0\0\0\0\0\0\0\0\0\x02\0\0\0\0\0\0\0\0\0\0\0\0\0\0\0\0\0\0\0\0\0\0\0\0\0\x01",
-    ),
-    // a block that is cut off
-    (
-        1,
-        0x83,
-        b"\0\0\0\0\0\0\0\0\0\0\0\0\0\0\0\0\0\0\0\0\0\0\0\0\0\x02\0",
-    ),
-];
-
-/// The body with this number, with 5 messages taken.
-fn body(alloc: Global, seq: u64, kind: u8, fields: &[u8]) -> Result<Vec<u8>, AllocError> {
+/// The body that words tell: its number, its kind, its fields, and maybe the count of what was taken.
+fn body_of(alloc: Global, words: &mut SplitWhitespace<'_>) -> Result<Vec<u8>, Fail> {
+    let seq = number(words)?;
+    let kind = number(words)?;
+    let fields = bytes(alloc, words)?;
+    let taken = match words.next() {
+        None => 5,
+        Some(taken) => u64::from_str_radix(taken, 16)?,
+    };
     let mut body = Vec::new(alloc);
     body.extend_from_slice(&seq.to_be_bytes())?;
-    body.extend_from_slice(&5u64.to_be_bytes())?;
-    body.push(kind)?;
-    body.extend_from_slice(fields)?;
+    body.extend_from_slice(&taken.to_be_bytes())?;
+    body.push(u8::try_from(kind)?)?;
+    body.extend_from_slice(fields.as_slice())?;
     Ok(body)
 }
 
@@ -197,13 +150,50 @@ fn down_again(alloc: Global, body: &[u8]) -> Result<Vec<u8>, MessageError> {
     Ok(written)
 }
 
-/// Why a body is refused.
-fn up_error(alloc: Global, body: &[u8]) -> Option<MessageError> {
-    decode_up(alloc, body).err()
+/// What reading a body answers, and writing its frame.
+fn answer(alloc: Global, direction: &str, body: &[u8]) -> &'static str {
+    let again = match direction {
+        "up" => up_again(alloc, body),
+        _ => down_again(alloc, body),
+    };
+    match again {
+        Ok(written) if written.as_slice() == body => "whole",
+        Ok(_) => "other bytes",
+        Err(MessageError::BadKind) => "bad_kind",
+        Err(MessageError::BadField) => "bad_field",
+        Err(MessageError::LeftOver) => "left_over",
+        Err(MessageError::Memory(_)) => "memory",
+    }
 }
 
-fn down_error(alloc: Global, body: &[u8]) -> Option<MessageError> {
-    decode_down(alloc, body).err()
+#[test]
+fn bodies_are_read_and_written_or_refused(rt: HostRuntime) -> Result<(), Fail> {
+    let alloc = rt.alloc();
+    for line in lines(alloc, BODIES)? {
+        let mut words = line.split_whitespace();
+        let want = word(&mut words)?;
+        let direction = word(&mut words)?;
+        let mut body = body_of(alloc, &mut words)?;
+        assert_eq!(rt; answer(alloc, direction, body.as_slice()), want, "{line}");
+        if want != "whole" {
+            continue;
+        }
+        for cut in 0..body.len() {
+            let (front, _) = body.as_slice().split_at(cut);
+            assert_eq!(rt;
+                answer(alloc, direction, front),
+                "bad_field",
+                "{line}, cut at {cut}"
+            );
+        }
+        body.push(0)?;
+        assert_eq!(rt;
+            answer(alloc, direction, body.as_slice()),
+            "left_over",
+            "{line}"
+        );
+    }
+    Ok(())
 }
 
 /// Whether a body stands for an update `set ^x 5` with the numbers 1, 2 and 3.
@@ -220,11 +210,10 @@ fn is_update(alloc: Global, body: &[u8]) -> Result<bool, MessageError> {
     })
 }
 
-/// Whether a body stands for an Answer with the numbers 3 to 8 that tells the sum -2.
-fn is_answer(alloc: Global, body: &[u8]) -> Result<bool, MessageError> {
+/// Whether a body stands for an Answer with the numbers 3 to 8 that tells the sum -2, or for a Block of two bytes.
+fn is_answer_or_block(alloc: Global, body: &[u8]) -> Result<bool, MessageError> {
     let frame = decode_down(alloc, body)?;
-    Ok(matches!(
-        &frame.message,
+    Ok(match &frame.message {
         Down::Answer {
             front: Front { n: 3, w: 4, s: 5 },
             about: About::Counted,
@@ -232,122 +221,25 @@ fn is_answer(alloc: Global, body: &[u8]) -> Result<bool, MessageError> {
             number: 7,
             at: 8,
             sum: -2,
-        }
-    ))
-}
-
-/// Whether a body stands for a Block of these bytes.
-fn is_block(alloc: Global, body: &[u8], bytes: &[u8]) -> Result<bool, MessageError> {
-    let frame = decode_down(alloc, body)?;
-    Ok(match &frame.message {
-        Down::Block { block, .. } => block.as_slice() == bytes,
+        } => true,
+        Down::Block { block, .. } => block.as_slice() == b"hi".as_slice(),
         _ => false,
     })
 }
 
 #[test]
-fn up_messages_are_read_and_written(rt: HostRuntime) -> Result<(), Fail> {
-    let alloc = rt.alloc();
-    for frame in SESSION {
-        assert_eq!(rt; up_again(alloc, frame)?.as_slice(), frame);
-    }
-    for (seq, kind, fields) in UPS {
-        let mut body = body(alloc, seq, kind, fields)?;
-        assert_eq!(rt;
-            up_again(alloc, body.as_slice())?.as_slice(),
-            body.as_slice()
-        );
-        for cut in 0..body.len() {
-            let (front, _) = body.as_slice().split_at(cut);
-            let cut_off = matches!(up_error(alloc, front), Some(MessageError::BadField));
-            assert!(rt; cut_off, "{kind} cut at {cut}");
-        }
-        body.push(0)?;
-        let left = matches!(
-            up_error(alloc, body.as_slice()),
-            Some(MessageError::LeftOver)
-        );
-        assert!(rt; left, "a byte behind {kind}");
-    }
-    Ok(())
-}
-
-#[test]
-fn down_messages_are_read_and_written(rt: HostRuntime) -> Result<(), Fail> {
-    let alloc = rt.alloc();
-    for (seq, kind, fields) in DOWNS {
-        let mut body = body(alloc, seq, kind, fields)?;
-        assert_eq!(rt;
-            down_again(alloc, body.as_slice())?.as_slice(),
-            body.as_slice()
-        );
-        for cut in 0..body.len() {
-            let (front, _) = body.as_slice().split_at(cut);
-            let cut_off = matches!(down_error(alloc, front), Some(MessageError::BadField));
-            assert!(rt; cut_off, "{kind} cut at {cut}");
-        }
-        body.push(0)?;
-        let left = matches!(
-            down_error(alloc, body.as_slice()),
-            Some(MessageError::LeftOver)
-        );
-        assert!(rt; left, "a byte behind {kind}");
-    }
-    Ok(())
-}
-
-#[test]
-fn what_the_tables_do_not_have_is_refused(rt: HostRuntime) -> Result<(), Fail> {
-    let alloc = rt.alloc();
-    for (seq, kind, fields) in BAD_UPS {
-        let body = body(alloc, seq, kind, fields)?;
-        let bad = matches!(
-            up_error(alloc, body.as_slice()),
-            Some(MessageError::BadField)
-        );
-        assert!(rt; bad, "up {kind}");
-    }
-    for (seq, kind, fields) in BAD_DOWNS {
-        let body = body(alloc, seq, kind, fields)?;
-        let bad = matches!(
-            down_error(alloc, body.as_slice()),
-            Some(MessageError::BadField)
-        );
-        assert!(rt; bad, "down {kind}");
-    }
-    for kind in [0x00, 0x0E, 0x7E, 0x80, 0x81, 0xFF] {
-        let body = body(alloc, 1, kind, b"\x01")?;
-        let bad = matches!(
-            up_error(alloc, body.as_slice()),
-            Some(MessageError::BadKind)
-        );
-        assert!(rt; bad, "up {kind}");
-    }
-    for kind in [0x00, 0x0D, 0x7E, 0x80, 0x89, 0xFF] {
-        let body = body(alloc, 1, kind, b"\x01")?;
-        let bad = matches!(
-            down_error(alloc, body.as_slice()),
-            Some(MessageError::BadKind)
-        );
-        assert!(rt; bad, "down {kind}");
-    }
-    Ok(())
-}
-
-#[test]
 fn fields_stand_in_the_order_of_the_table(rt: HostRuntime) -> Result<(), Fail> {
     let alloc = rt.alloc();
-    let update = body(
-        alloc,
-        1,
-        0x03,
-        b"\0\0\0\0\0\0\0\x01\0\x02\0\0\0\x03\x01\0\x02x\0\0\x015",
-    )?;
-    assert!(rt; is_update(alloc, update.as_slice())?);
-    let answer = body(alloc, 1, 0x87, ANSWER)?;
-    assert!(rt; is_answer(alloc, answer.as_slice())?);
-    let block = body(alloc, 1, 0x83, BLOCK)?;
-    assert!(rt; is_block(alloc, block.as_slice(), b"hi")?);
+    for line in lines(alloc, FIELDS)? {
+        let body = body_of(alloc, &mut line.split_whitespace())?;
+        let is_up = line.starts_with("1 03");
+        let is_right = if is_up {
+            is_update(alloc, body.as_slice())?
+        } else {
+            is_answer_or_block(alloc, body.as_slice())?
+        };
+        assert!(rt; is_right, "{line}");
+    }
     messages_have_one_spelling();
     Ok(())
 }

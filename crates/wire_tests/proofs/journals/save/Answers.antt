@@ -1,7 +1,7 @@
 use Rattle.std.proofs.Common.{◌≡◌, ◌∙◌, ◌++◌, List, ap, subst}
 use Rattle.plain_orders.specs.declared.entry.Entry.{Entry}
 use Rattle.plain_orders.specs.Ordered.{IsOrdered}
-use Rattle.wire_rows.proofs.journals.save.Goals as goal
+use Rattle.wire_tests.proofs.journals.save.Goals as goal
 
 pub append-requires : goal.append-requires
 append-requires c =
