@@ -8,11 +8,16 @@ use Rattle.plain_orders.specs.declared.op.Op.TheVariants.{Set as SetOp, Kill as 
 use Rattle.app_job.specs.declared.answer.Answer.{Answer}
 use Rattle.app_job.specs.declared.command.Command.{Command}
 use Rattle.app_job.specs.declared.command.Command.TheVariants.{Set, Kill, Get, Shape, Next, Incr, Lock, Unlock, Start, Commit, Rollback, Sync}
+use Rattle.plain_runs.specs.Plain.{Plain}
 use Rattle.script_fits.specs.Moments.{Moment, acts_in, AreTogether, IsFree}
 use Rattle.script_fits.specs.Acting.{Issues, Gets, Shapes, Nexts, Counts, IssuesAdd, Reaches}
 use Rattle.script_fits.specs.Locking.{HeldBack, Past, Locks, Unlocks}
-use Rattle.script_fits.specs.Committing.{Starts, Commits, RollsBack, CommitBegins, PutsAwaited}
-use Rattle.script_fits.specs.Refusing.{RefusalMay, IsRefusal}
+use Rattle.script_fits.specs.Committing.{BeginsAt, Starts, Commits, RollsBack, CommitBegins, PutsAwaited}
+use Rattle.script_fits.specs.Refusing.{HasHeard, RefusalMay, IsRefusal}
+
+-- when a command began to act, the job was told of each loss that bars it from a data server that the command is about
+abbrev pub HeardFirst : ℕ → Command → List Moment → Type 0
+HeardFirst job command ms = (p : Plain) × BeginsAt p ms × HasHeard p job command
 
 -- A command was done whole: these moments, this answer, and these unlocks held back after it. Only a rollback is done while the job has to
 -- roll back first; a get may be read from a cache that hasn't heard of that.
@@ -24,10 +29,10 @@ Whole l job line (Shape at) past ms answer held = Shapes job line at (acts_in ms
 Whole l job line (Next parent sub) past ms answer held = Nexts job line parent sub (acts_in ms) answer × IsFree job ms × (held ≡ past.held_back)
 Whole l job line (Incr at amount) past ms answer held = Counts job line at amount (acts_in ms) answer × IsFree job ms × (held ≡ past.held_back)
 Whole l job line (Lock at mode wait) past ms answer held = Locks l job line at mode wait past ms answer × (held ≡ past.held_back)
-Whole l job line (Unlock at mode now) past ms answer held = Unlocks l job line at mode now past ms answer held × IsFree job ms
+Whole l job line (Unlock at mode now) past ms answer held = Unlocks l job line at mode now past ms answer held × IsFree job ms × HeardFirst job (Unlock at mode now) ms
 Whole l job line Start past ms answer held = Starts job line ms answer × IsFree job ms × (held ≡ past.held_back)
 Whole l job line (Commit sync) past ms answer held = Commits l job line sync past ms answer held × IsFree job ms
-Whole l job line Rollback past ms answer held = RollsBack l job line past ms answer held
+Whole l job line Rollback past ms answer held = RollsBack l job line past ms answer held × HeardFirst job Rollback ms
 Whole l job line (Sync server) past ms answer held = Reaches job line server (acts_in ms) answer × AreTogether ms × IsFree job ms × (held ≡ past.held_back)
 
 -- nothing of a command was done yet
@@ -47,7 +52,7 @@ Part l job line (Lock at mode wait) past ms held = Nothing past ms held
 Part l job line (Unlock at mode now) past ms held = Nothing past ms held
 Part l job line Start past ms held = Nothing past ms held
 Part l job line (Commit sync) past ms held = Nothing past ms held ⊎ CommitBegins l job line sync past ms held
-Part l job line Rollback past ms held = Nothing past ms held ⊎ PutsAwaited l job line RollbackItem past ms held
+Part l job line Rollback past ms held = Nothing past ms held ⊎ (PutsAwaited l job line RollbackItem past ms held × HeardFirst job Rollback ms)
 Part l job line (Sync server) past ms held = Nothing past ms held
 
 -- a command was refused after a part of its acts

@@ -1,12 +1,13 @@
 -- A script fits an output.
-use Rattle.std.specs.Prelude.{◌≡◌, ◌⊎◌, ℕ, ◌+◌, ◌≤◌, true, List, [], ◌∷◌, ◌++◌, length, slice_get, IfSome, map, Any, filter, ◌==◌}
+use Rattle.std.specs.Prelude.{Option, Some, None, false, ◌≡◌, ◌⊎◌, ℕ, ◌+◌, ◌≤◌, true, List, [], ◌∷◌, ◌++◌, length, slice_get, IfSome, map, Any, filter, ◌==◌}
 use Rattle.std.specs.List.{flat_map, range_with_len, AllByRecursion}
 use Rattle.plain_orders.specs.declared.act.Act.{Act}
 use Rattle.plain_runs.specs.Plain.{app_of}
 use Rattle.plain_runs.specs.Run.{state_after}
 use Rattle.job_script.specs.declared.script.Script.{Script}
 use Rattle.script_fits.specs.declared.output.Output.{Output}
-use Rattle.script_fits.specs.Moments.{moments, moments_of}
+use Rattle.plain_orders.specs.declared.act.Act.TheVariants.{Read}
+use Rattle.script_fits.specs.Moments.{Moment, moments, moments_of}
 use Rattle.script_fits.specs.JobLines.{CommandLine, commands_of, Ended, ended_of, DoesJob}
 use Rattle.script_fits.specs.Pieces.{answers_in, has_wait}
 use Rattle.script_fits.specs.Naming.{IsDeclared, opened_in}
@@ -29,7 +30,7 @@ HasEnds script out ends j =
 abbrev pub BeginsOnce : List Act → ℕ → Type 0
 BeginsOnce trail d = length (filter (λ o. o == d) (flat_map opened_in trail)) ≡ 1
 
--- What every way of running a script owes: the commands of each job in their order, each with just its answer.
+-- What every way of running a script owes at least: the commands of each job in their order, each with just its answer.
 pub record AnswersJobs (script : Script) (out : Output) (ends : List Ended) : Type 0 where
   -- what acts name is declared
   pub declared : AllByRecursion (IsDeclared script.layout) out.trail
@@ -45,6 +46,15 @@ pub record AnswersJobs (script : Script) (out : Output) (ends : List Ended) : Ty
 abbrev pub IsOpening : Act → Type 0
 IsOpening act = length (opened_in act) ≡ 1
 
+-- the job of an act alone, if it is a read
+abbrev pub reader_in : Act → Option ℕ
+reader_in (Read job line d at via question) = Some job
+reader_in act = None
+
+-- a job that reads hasn't to roll back first
+abbrev pub IsReadFree : Moment → Type 0
+IsReadFree m = IfSome (reader_in m.act) (λ j. (m.before.job_at j).rollback_only ≡ false)
+
 -- What a script that is run line by line owes beside this: trail and transcript are cut into the opening and one part for each line.
 pub record FollowsLines (script : Script) (nets : List NetCounts) (out : Output) (ends : List Ended) : Type 0 where
   pub opening : List Act
@@ -56,8 +66,10 @@ pub record FollowsLines (script : Script) (nets : List NetCounts) (out : Output)
   pub pieces : out.pieces.items ≡ flat_map (λ (a : Added). a.pieces) added
   pub whole : ends ≡ flat_map (λ (a : Added). a.ends) added
   pub lines : LinesAdd script.layout (after_opening opening) script.lines added
-  -- none of a job's commands is left without a word
+  -- none of a living job's commands is left without a word
   pub over : (j : ℕ) → HasEnds script out ends j
+  -- no job reads while it has to roll back first, as one may that reads from a cache without its server's lock
+  pub reads : AllByRecursion IsReadFree (moments script.layout out.trail)
   -- there is one net at most
   pub one : length nets ≤ 1
   -- connections broke for causes, or with faults of the nets

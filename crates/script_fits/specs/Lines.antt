@@ -4,6 +4,7 @@ use Rattle.std.specs.Prelude.{not, ◌&&◌, ◌||◌, ◌==◌, Any, ◌≡◌,
 use Rattle.std.specs.List.{flat_map, list_any, range_with_len, AllByRecursion}
 use Rattle.plain_orders.specs.declared.act.Act.{Act}
 use Rattle.plain_orders.specs.declared.act.Act.TheVariants.{Opened, Enter, Synced, Shut, Release, Met, Told, Back, Crash as CrashAct, Issue, Read, Grant, Granted, GiveUp, Quit, Free, Counted, NotWhole, Range, Committed, RolledBack, Reached, Level, Done, Refused, Broke, Mended, Tick as TickAct, Lose, Died}
+use Rattle.plain_orders.specs.declared.causes.PairEnd.TheVariants.{App as AppEnd, Server as ServerEnd}
 use Rattle.plain_orders.specs.declared.layout.Layout.{Layout}
 use Rattle.plain_orders.specs.Times.{until}
 use Rattle.plain_runs.specs.Plain.{Plain, app_of, put}
@@ -23,7 +24,7 @@ use Rattle.transcript.specs.declared.piece.Restarted.TheVariants.{Kept, DiskFaul
 use Rattle.script_fits.specs.JobLines.{CommandLine, commands_of, Ended, ended_of}
 use Rattle.script_fits.specs.Pieces.{Waits, answers_in, waits_in, last_why, has_wait, pump_in, restart_in, gone_in, HaltedAt, halt_in}
 use Rattle.script_fits.specs.Naming.{IsServer, opened_in}
-use Rattle.script_fits.specs.Walk.{Added, SoFar, with_line, down_at, down_after, is_crash}
+use Rattle.script_fits.specs.Walk.{Added, SoFar, with_line, down_at, down_after, is_crash, may_save}
 
 -- the time of an act alone, if it is a tick
 abbrev pub tick_in : Act → List ℕ
@@ -39,11 +40,6 @@ death_in act = []
 abbrev pub crash_in : Act → List Act
 crash_in (CrashAct d kept) = CrashAct d kept ∷ []
 crash_in act = []
-
--- an act syncs more at this data server
-abbrev pub is_synced : ℕ → Act → Bool
-is_synced d (Synced server n) = server == d
-is_synced d act = false
 
 -- so many ticks, each one above the last
 abbrev pub ticks_from : ℕ → ℕ → List ℕ
@@ -127,52 +123,6 @@ ArePumps n line (Restart server) pumps = pumps ≡ []
 ArePumps n line (Die app) pumps = pumps ≡ []
 ArePumps n line (Await job) pumps = pumps ≡ []
 
--- a crash comes first at its line, and the new Epoch is synced right after it
-abbrev pub IsKeptBy : ℕ → ℕ → List Act → Type 0
-IsKeptBy d kept acts = (rest : List Act) × (acts ≡ CrashAct d kept ∷ Synced d (kept + 1) ∷ rest) × (flat_map crash_in rest ≡ [])
-
--- a crash comes first at its line, and the new Epoch isn't synced there; or nothing crashes
-abbrev pub IsCutShort : ℕ → List Act → Type 0
-IsCutShort d acts =
-    (flat_map crash_in acts ≡ [])
-    ⊎ ((kept : ℕ) × (rest : List Act) × (acts ≡ CrashAct d kept ∷ rest) × (flat_map crash_in rest ≡ []) × (list_any (is_synced d) rest ≡ false))
-
--- a crash comes first at its line, whatever is synced then; or nothing crashes
-abbrev pub IsCrashAtMost : ℕ → List Act → Type 0
-IsCrashAtMost d acts =
-    (flat_map crash_in acts ≡ []) ⊎ ((kept : ℕ) × (rest : List Act) × (acts ≡ CrashAct d kept ∷ rest) × (flat_map crash_in rest ≡ []))
-
--- how a restart may end, and the crash that it writes: a running server's changes nothing, one that is down crashes with the entries kept
-abbrev pub RestartMay : Bool → ℕ → Restarted → List Act → Type 0
-RestartMay down d (Kept entries) acts = (down ≡ true) × IsKeptBy d entries acts
-RestartMay down d DiskFault acts = (down ≡ true) × IsCutShort d acts
-RestartMay down d (NotAJournal place) acts = (down ≡ true) × (flat_map crash_in acts ≡ [])
-RestartMay down d (NotKept place) acts = (down ≡ true) × (flat_map crash_in acts ≡ [])
-RestartMay down d NetFault acts = (down ≡ true) × IsCrashAtMost d acts
-RestartMay down d Running acts = (down ≡ false) × (flat_map crash_in acts ≡ [])
-
--- nothing is restarted
-abbrev pub NoRestart : List Piece → List Act → Type 0
-NoRestart restarts acts = (restarts ≡ []) × (flat_map crash_in acts ≡ [])
-
--- a restart says once how it ended, and no other line does; a server crashes at its restart alone
-abbrev pub AreRestarts : (ℕ → Bool) → ℕ → Todo → List Piece → List Act → Type 0
-AreRestarts down line (Job job command) restarts acts = NoRestart restarts acts
-AreRestarts down line Hold restarts acts = NoRestart restarts acts
-AreRestarts down line Flow restarts acts = NoRestart restarts acts
-AreRestarts down line (Up app server) restarts acts = NoRestart restarts acts
-AreRestarts down line (Down app server) restarts acts = NoRestart restarts acts
-AreRestarts down line (Save server) restarts acts = NoRestart restarts acts
-AreRestarts down line Pump restarts acts = NoRestart restarts acts
-AreRestarts down line (Tick count) restarts acts = NoRestart restarts acts
-AreRestarts down line (Break app server) restarts acts = NoRestart restarts acts
-AreRestarts down line (Mend app server) restarts acts = NoRestart restarts acts
-AreRestarts down line (Crash server pick) restarts acts = NoRestart restarts acts
-AreRestarts down line (Restart server) restarts acts =
-    (outcome : Restarted) × (restarts ≡ RestartedPiece server line outcome ∷ []) × RestartMay (down server) server outcome acts
-AreRestarts down line (Die app) restarts acts = NoRestart restarts acts
-AreRestarts down line (Await job) restarts acts = NoRestart restarts acts
-
 -- the data server that does an act of its own
 abbrev pub doer_of : Act → Option ℕ
 doer_of (Opened d entries) = Some d
@@ -200,11 +150,65 @@ doer_of (Reached job line d at) = None
 doer_of (Level job line level) = None
 doer_of (Done job line) = None
 doer_of (Refused job line refused) = None
-doer_of (Broke app d end time) = None
+doer_of (Broke app d AppEnd time) = None
+doer_of (Broke app d ServerEnd time) = Some d
 doer_of (Mended app d) = None
 doer_of (TickAct time) = None
 doer_of (Lose app d loss) = None
 doer_of (Died app) = None
+
+-- a data server does nothing of its own among these
+abbrev pub DoesNothing : ℕ → List Act → Type 0
+DoesNothing d acts = AllByRecursion (λ a. IfSome (doer_of a) (λ s. s ≢ d)) acts
+
+-- a crash comes first at its line, and the new Epoch is synced right after it
+abbrev pub IsKeptBy : ℕ → ℕ → List Act → Type 0
+IsKeptBy d kept acts = (rest : List Act) × (acts ≡ CrashAct d kept ∷ Synced d (kept + 1) ∷ rest) × (flat_map crash_in rest ≡ [])
+
+-- the server doesn't begin; or it crashes first at the line, and its new Epoch isn't synced
+abbrev pub IsCutShort : ℕ → List Act → Type 0
+IsCutShort d acts = DoesNothing d acts ⊎ ((kept : ℕ) × (rest : List Act) × (acts ≡ CrashAct d kept ∷ rest) × DoesNothing d rest)
+
+-- the same; or its new Epoch is synced, and nothing more
+abbrev pub IsNotHeard : ℕ → List Act → Type 0
+IsNotHeard d acts = IsCutShort d acts ⊎ ((kept : ℕ) × (rest : List Act) × (acts ≡ CrashAct d kept ∷ Synced d (kept + 1) ∷ rest) × DoesNothing d rest)
+
+-- how a restart may end, and what it writes: a running server has no crash, one that is down crashes with the entries kept; after a
+-- restart that failed the server does nothing
+abbrev pub RestartMay : Bool → ℕ → Restarted → List Act → Type 0
+RestartMay down d (Kept entries) acts = (down ≡ true) × IsKeptBy d entries acts
+RestartMay down d DiskFault acts = (down ≡ true) × IsCutShort d acts
+RestartMay down d (NotAJournal place) acts = (down ≡ true) × DoesNothing d acts
+RestartMay down d (NotKept place) acts = (down ≡ true) × DoesNothing d acts
+RestartMay down d NetFault acts = (down ≡ true) × IsNotHeard d acts
+RestartMay down d Running acts = (down ≡ false) × (flat_map crash_in acts ≡ [])
+
+-- a crash is one of this data server
+abbrev pub IsCrashOf : ℕ → Act → Type 0
+IsCrashOf d act = IfSome (doer_of act) (λ s. s ≡ d)
+
+-- nothing is restarted
+abbrev pub NoRestart : List Piece → List Act → Type 0
+NoRestart restarts acts = (restarts ≡ []) × (flat_map crash_in acts ≡ [])
+
+-- a restart says once how it ended, and no other line does; a server crashes at its restart alone
+abbrev pub AreRestarts : (ℕ → Bool) → ℕ → Todo → List Piece → List Act → Type 0
+AreRestarts down line (Job job command) restarts acts = NoRestart restarts acts
+AreRestarts down line Hold restarts acts = NoRestart restarts acts
+AreRestarts down line Flow restarts acts = NoRestart restarts acts
+AreRestarts down line (Up app server) restarts acts = NoRestart restarts acts
+AreRestarts down line (Down app server) restarts acts = NoRestart restarts acts
+AreRestarts down line (Save server) restarts acts = NoRestart restarts acts
+AreRestarts down line Pump restarts acts = NoRestart restarts acts
+AreRestarts down line (Tick count) restarts acts = NoRestart restarts acts
+AreRestarts down line (Break app server) restarts acts = NoRestart restarts acts
+AreRestarts down line (Mend app server) restarts acts = NoRestart restarts acts
+AreRestarts down line (Crash server pick) restarts acts = NoRestart restarts acts
+AreRestarts down line (Restart server) restarts acts =
+    (outcome : Restarted) × (restarts ≡ RestartedPiece server line outcome ∷ []) × RestartMay (down server) server outcome acts
+    × AllByRecursion (IsCrashOf server) (flat_map crash_in acts)
+AreRestarts down line (Die app) restarts acts = NoRestart restarts acts
+AreRestarts down line (Await job) restarts acts = NoRestart restarts acts
 
 -- a line restarts this data server
 abbrev pub is_restart : ℕ → Todo → Bool
@@ -231,12 +235,12 @@ is_still down todo d = (down d && not (is_restart d todo)) || is_crash d todo
 abbrev pub IsOfRunning : (ℕ → Bool) → Todo → Act → Type 0
 IsOfRunning down todo act = IfSome (doer_of act) (λ d. is_still down todo d ≡ false)
 
--- servers halt at this line, each of them once, while it is up and has something unsaved
-abbrev pub AreHalts : Layout → Plain → (ℕ → Bool) → ℕ → List HaltedAt → Type 0
-AreHalts l p down line [] = Unit {0}
-AreHalts l p down line (h ∷ halts) =
-    IsServer l h.server × (h.line ≡ line) × (down h.server ≡ false) × ((p.server_at h.server).synced < length (p.server_at h.server).order)
-    × AreHalts l p (put down h.server true) line halts
+-- servers halt at this line, each of them once and while it is up; what it had unsaved is so still after the line
+abbrev pub AreHalts : Layout → Plain → (ℕ → Bool) → (ℕ → Bool) → ℕ → List HaltedAt → Type 0
+AreHalts l p saves down line [] = Unit {0}
+AreHalts l p saves down line (h ∷ halts) =
+    IsServer l h.server × (h.line ≡ line) × (saves h.server ≡ true) × (down h.server ≡ false)
+    × ((p.server_at h.server).synced < length (p.server_at h.server).order) × AreHalts l p saves (put down h.server true) line halts
 
 -- the answer of a command that has its end
 abbrev pub answer_line : Ended → AnswerLine
@@ -287,30 +291,38 @@ IsNoLater line a = IfSome (line_of a) (λ l. l ≤ line)
 abbrev pub first_open : SoFar → ℕ → Option CommandLine
 first_open s j = slice_get (commands_of j s.lines) (length (ended_of j s.ends))
 
--- what a command may wait for
-abbrev pub reasons_of : Command → List Why
-reasons_of (Set at value) = State ∷ Queue ∷ []
-reasons_of (Kill at) = State ∷ Queue ∷ []
-reasons_of (Get at) = State ∷ Fetch ∷ []
-reasons_of (Shape at) = State ∷ Own ∷ Fetch ∷ []
-reasons_of (Next parent sub) = State ∷ Own ∷ Fetch ∷ []
-reasons_of (Incr at amount) = State ∷ Queue ∷ Own ∷ Reply ∷ []
-reasons_of (Lock at mode wait) = State ∷ GrantWhy ∷ []
-reasons_of (Unlock at mode now) = State ∷ []
-reasons_of Start = []
-reasons_of (Commit true) = State ∷ Queue ∷ Reply ∷ []
-reasons_of (Commit false) = State ∷ Queue ∷ []
-reasons_of Rollback = State ∷ Queue ∷ Reply ∷ []
-reasons_of (Sync server) = State ∷ Own ∷ Reply ∷ []
+-- an act issues something for a job at a line
+abbrev pub is_issue : ℕ → ℕ → Act → Bool
+is_issue job line (Issue j k d w item) = j == job && k == line
+is_issue job line act = false
+
+-- what a command may wait for, before it issued something at its line and after that
+abbrev pub reasons_of : Command → Bool → List Why
+reasons_of (Set at value) issued = State ∷ Queue ∷ []
+reasons_of (Kill at) issued = State ∷ Queue ∷ []
+reasons_of (Get at) issued = State ∷ Fetch ∷ []
+reasons_of (Shape at) issued = State ∷ Own ∷ Fetch ∷ []
+reasons_of (Next parent sub) issued = State ∷ Own ∷ Fetch ∷ []
+reasons_of (Incr at amount) false = State ∷ Queue ∷ Own ∷ []
+reasons_of (Incr at amount) true = State ∷ Reply ∷ []
+reasons_of (Lock at mode wait) issued = State ∷ GrantWhy ∷ []
+reasons_of (Unlock at mode now) issued = State ∷ []
+reasons_of Start issued = []
+reasons_of (Commit false) issued = State ∷ Queue ∷ []
+reasons_of (Commit true) false = State ∷ Queue ∷ []
+reasons_of (Commit true) true = State ∷ Reply ∷ []
+reasons_of Rollback false = State ∷ Queue ∷ []
+reasons_of Rollback true = State ∷ Reply ∷ []
+reasons_of (Sync server) issued = State ∷ Own ∷ Reply ∷ []
 
 -- a waiting line is that of this command, for one of its reasons
-abbrev pub IsWaitOf : Waits → CommandLine → Type 0
-IsWaitOf w c = (c.line ≡ w.line) × Any (λ why. why ≡ w.why) (reasons_of c.command)
+abbrev pub IsWaitOf : List Act → Waits → CommandLine → Type 0
+IsWaitOf acts w c = (c.line ≡ w.line) × Any (λ why. why ≡ w.why) (reasons_of c.command (list_any (is_issue w.job w.line) acts))
 
 -- a waiting line: of a living job's first command without an end, for another reason than was printed last for it
 pub record WaitMay (l : Layout) (old new : SoFar) (w : Waits) : Type 0 where
   pub alive : (state_after l new.acts).died_at (app_of l w.job) ≡ false
-  pub its : IsSomeAnd (first_open new w.job) (IsWaitOf w)
+  pub its : IsSomeAnd (first_open new w.job) (IsWaitOf new.acts w)
   pub another : last_why None w.job w.line (waits_in old.pieces) ≢ Some w.why
 
 -- waiting lines by job, from a job on
@@ -333,8 +345,9 @@ pub record LineAdds (l : Layout) (s : SoFar) (line : ScriptLine) (added : Added)
   -- no data server begins
   pub opened : flat_map opened_in added.acts ≡ []
   pub restarts : AreRestarts s.down line.line line.todo (flat_map restart_in added.pieces) added.acts
-  pub halts : AreHalts l (state_after l (s.acts ++ added.acts)) (down_at s.down line.todo added.pieces) line.line (flat_map halt_in added.pieces)
-  -- a data server that is down does nothing of its own
+  pub halts :
+      AreHalts l (state_after l (s.acts ++ added.acts)) (may_save s.flows line.todo) (down_at s.down line.todo added.pieces) line.line (flat_map halt_in added.pieces)
+  -- a data server that is down, or that this line takes down, does nothing of its own
   pub still : AllByRecursion (IsOfRunning s.down line.todo) added.acts
   pub pumps :
       ArePumps (unsaved l (state_after l (s.acts ++ added.acts)) (down_after s.down line.todo added.pieces)) line.line line.todo (flat_map pump_in added.pieces)
@@ -344,7 +357,7 @@ pub record LineAdds (l : Layout) (s : SoFar) (line : ScriptLine) (added : Added)
   -- the answers are those of the commands that end at this line
   pub answers : answers_in added.pieces ≡ map answer_line added.ends
   pub places : AllByRecursion (IsWithin (length s.acts) (length added.acts)) added.ends
-  -- a restart and a job that is gone are told first, a pump after the answers, and the waiting lines last, by job
+  -- a restart and a job that is gone are told first, then answers and halts, then a pump, and the waiting lines last, by job
   pub pieces :
       added.pieces ≡ flat_map restart_in added.pieces ++ (flat_map gone_in added.pieces ++ (middle ++ (flat_map pump_in added.pieces ++ waiting)))
   pub no_wait : waits_in middle ≡ []

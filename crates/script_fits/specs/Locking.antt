@@ -1,5 +1,5 @@
 -- Locks, unlocks, and the unlocks that a transaction holds back.
-use Rattle.std.specs.Prelude.{◌≡◌, ◌⊎◌, ◌≤◌, ℕ, Bool, true, false, ◌==◌, ◌&&◌, ◌||◌, not, if◌then◌else◌, List, [], ◌∷◌, ◌++◌, Option, Some, None, unwrap_or, IfSome}
+use Rattle.std.specs.Prelude.{is_some, ◌≡◌, ◌⊎◌, ◌≤◌, ℕ, Bool, true, false, ◌==◌, ◌&&◌, ◌||◌, not, if◌then◌else◌, List, [], ◌∷◌, ◌++◌, Option, Some, None, unwrap_or, IfSome}
 use Rattle.std.specs.List.{list_any}
 use Rattle.plain_orders.specs.declared.act.Act.{Act}
 use Rattle.plain_orders.specs.declared.act.Act.TheVariants.{Granted, GiveUp, Quit, Done, Refused}
@@ -70,7 +70,7 @@ abbrev pub QuitsToRollBack : ℕ → ℕ → Site → Mode → List Moment → A
 QuitsToRollBack job line at mode ms answer =
     (m : Moment) × QuitsFor job line at mode (Refused job line RollbackOnly) ms m × (answer ≡ RefusedAnswer RollbackOnlyRefusal)
 
--- a lock is granted, or its request is given up
+-- a lock is granted, or its request is given up and the command refused
 abbrev pub Locks : Layout → ℕ → ℕ → Site → Mode → Option ℕ → Past → List Moment → Answer → Type 0
 Locks l job line at mode wait past ms answer =
     IsGranted l job line at mode ms answer ⊎ (TimesOut job line at mode wait past ms answer ⊎ QuitsToRollBack job line at mode ms answer)
@@ -97,10 +97,15 @@ held_after l p job at mode now held =
     held ++ record { server = at.server; session = session_of l p job at.server; mode = mode; key = at.key } ∷ []
     else held
 
+-- the job's application server has a session there, and its end isn't broke
+abbrev pub IsUp : Layout → Plain → ℕ → ℕ → Type 0
+IsUp l p job server =
+    (has_session (p.server_at server) (app_of l job) ≡ true) × (is_some ((p.server_at server).pair_at (app_of l job)).broke ≡ false)
+
 -- an unlock gives the lock up where the job has it, or is held back
 abbrev pub Unlocks : Layout → ℕ → ℕ → Site → Mode → Bool → Past → List Moment → Answer → List HeldBack → Type 0
 Unlocks l job line at mode now past ms answer held =
-    (m : Moment) × (rest : List Moment) × (ms ≡ m ∷ rest) × AreTogether ms × (acts_in ms ≡ unlock_acts l m.before job line at mode now)
+    (m : Moment) × (rest : List Moment) × (ms ≡ m ∷ rest) × AreTogether ms × IsUp l m.before job at.server × (acts_in ms ≡ unlock_acts l m.before job line at mode now)
     × (answer ≡ DoneAnswer) × (held ≡ held_after l m.before job at mode now past.held_back)
 
 -- the lock of an unlock that was held back is still held, in the session in which the unlock was given

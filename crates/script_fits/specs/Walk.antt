@@ -18,17 +18,18 @@ pub record Added : Type 0 where
   pub pieces : List Piece
   pub ends : List Ended
 
--- what stands so far, and which data servers are down
+-- what stands so far, which data servers are down, and whether messages flow after each line
 pub record SoFar : Type 0 where
   pub lines : List ScriptLine
   pub acts : List Act
   pub pieces : List Piece
   pub ends : List Ended
   pub down : ℕ → Bool
+  pub flows : Bool
 
--- at the first line: the acts of the opening alone, and no server is down
+-- at the first line: the acts of the opening alone, no server is down, and messages flow
 abbrev pub after_opening : List Act → SoFar
-after_opening acts = record { lines = []; acts = acts; pieces = []; ends = []; down = λ _. false }
+after_opening acts = record { lines = []; acts = acts; pieces = []; ends = []; down = λ _. false; flows = true }
 
 -- a line takes this data server down
 abbrev pub is_crash : ℕ → Todo → Bool
@@ -64,7 +65,7 @@ is_up_piece d (RestartedPiece server line outcome) = if server == d then is_up_a
 is_up_piece d (Halted server line) = false
 is_up_piece d (Gone job line) = false
 
--- which servers are down once a line did its own, before anything is saved at it
+-- which servers are down once a line did its own, before its rounds
 abbrev pub down_at : (ℕ → Bool) → Todo → List Piece → ℕ → Bool
 down_at down todo pieces d = if list_any (is_up_piece d) pieces then false else (down d || is_crash d todo)
 
@@ -76,6 +77,44 @@ is_halted d halts = list_any (λ (h : HaltedAt). h.server == d) halts
 abbrev pub down_after : (ℕ → Bool) → Todo → List Piece → ℕ → Bool
 down_after down todo pieces d = is_halted d (flat_map halt_in pieces) || down_at down todo pieces d
 
+-- whether messages flow after a line
+abbrev pub flows_after : Bool → Todo → Bool
+flows_after flows (Job job command) = flows
+flows_after flows Hold = false
+flows_after flows Flow = true
+flows_after flows (Up app server) = flows
+flows_after flows (Down app server) = flows
+flows_after flows (Save server) = flows
+flows_after flows Pump = flows
+flows_after flows (Tick count) = flows
+flows_after flows (Break app server) = flows
+flows_after flows (Mend app server) = flows
+flows_after flows (Crash server pick) = flows
+flows_after flows (Restart server) = flows
+flows_after flows (Die app) = flows
+flows_after flows (Await job) = flows
+
+-- a line has this data server save
+abbrev pub is_save : ℕ → Todo → Bool
+is_save d (Job job command) = false
+is_save d Hold = false
+is_save d Flow = false
+is_save d (Up app server) = false
+is_save d (Down app server) = false
+is_save d (Save server) = server == d
+is_save d Pump = true
+is_save d (Tick count) = false
+is_save d (Break app server) = false
+is_save d (Mend app server) = false
+is_save d (Crash server pick) = false
+is_save d (Restart server) = false
+is_save d (Die app) = false
+is_save d (Await job) = false
+
+-- a data server may save at a line: messages flow before it or after it, or the line has it save
+abbrev pub may_save : Bool → Todo → ℕ → Bool
+may_save flows todo d = (flows || flows_after flows todo) || is_save d todo
+
 -- what stands after one more line
 abbrev pub with_line : SoFar → ScriptLine → Added → SoFar
 with_line s line added = record {
@@ -84,4 +123,5 @@ with_line s line added = record {
   pieces = s.pieces ++ added.pieces;
   ends = s.ends ++ added.ends;
   down = down_after s.down line.todo added.pieces;
+  flows = flows_after s.flows line.todo;
 }
