@@ -1,17 +1,18 @@
 -- A script that fits its output.
 use Rattle.std.proofs.Common.{Option, None, Some, ◌≡◌, ◌≢◌, ℕ, zero, suc, add-one, ◌+◌, ◌<◌, ◌≤◌, Bool, true, false, ◌==◌, if◌then◌else◌, List, [], ◌∷◌, ◌++◌, length, take, All, None, map, refl, sym, ap, ◌∙◌, subst, append-nil, append_assoc, inl, inr, arith, get_or, length-append, ◌||◌, ◌&&◌, not}
 use Rattle.std.specs.List.{flat_map, filter, range_with_len, AllByRecursion, list_any}
-use Rattle.std.specs.Prelude.{Any, IfSome, slice_get, slice_index_or}
+use Rattle.std.specs.Prelude.{unwrap_or, Any, IfSome, slice_get, slice_index_or}
 use Rattle.std.proofs.lemmas.Bool.{eqb-true}
 use Rattle.std.proofs.lemmas.Grind.{flat_map-append}
 use Rattle.std.proofs.lemmas.List.Elements.{filter-append, recursion_from_All}
 use Rattle.std.proofs.lemmas.List.{map-append}
 use Rattle.std.proofs.lemmas.Option.{slice_get_past}
 use Rattle.plain_orders.specs.declared.act.Act.{Act}
-use Rattle.plain_orders.specs.declared.act.Act.TheVariants.{Opened}
+use Rattle.plain_orders.specs.declared.act.Act.TheVariants.{Opened, Read}
 use Rattle.plain_orders.specs.declared.layout.Layout.{Layout}
-use Rattle.plain_runs.specs.Plain.{start}
+use Rattle.plain_runs.specs.Plain.{Plain, start}
 use Rattle.plain_runs.specs.Run.{after_all, state_after}
+use Rattle.plain_runs.specs.Step.{after}
 use Rattle.app_job.specs.declared.answer.Answer.{Answer}
 use Rattle.app_job.specs.declared.command.Command.{Command}
 use Rattle.app_job.specs.declared.command.Command.TheVariants.{Set, Kill, Get, Shape, Next}
@@ -35,7 +36,7 @@ use Rattle.script_fits.specs.Naming.{IsDeclared, opened_in}
 use Rattle.script_fits.specs.Walk.{Added, SoFar, after_opening, down_after, with_line, down_at, is_halted, is_up_piece}
 use Rattle.script_fits.specs.Lines.{LineAdds, LinesAdd, answer_line, tick_in, ticks_of, death_in, deaths_of, crash_in, gone_of, unsaved, ArePumps, AreRestarts, IsNoLater, IsAccounted, IsOfRunning, doer_of, is_still}
 use Rattle.script_fits.specs.Breaks.{AreApart, Causes, LiesIn, no_causes, causes_after, range_of, with_causes}
-use Rattle.script_fits.specs.Fits.{AreRising, Fits, IsOpening}
+use Rattle.script_fits.specs.Fits.{AreRising, Fits, IsOpening, IsReadFree, reader_in}
 use Rattle.plain_runs.proofs.RunLemmas.{after_all-append}
 use Rattle.cluster_call.specs.Stage.{IsUndisturbed, found_of, loss_of}
 use Rattle.cluster_call.specs.Running.{AllCanPrint, AddsAct, CanRun, DidCommand, DidTodo, HasJob, IsMade, IsQuiet, IsServed, Makes, TodoRuns, own_line, pieces_of}
@@ -61,6 +62,7 @@ pub record IsRunTo (l : Layout) (opening : List Act) (lines : List ScriptLine) (
   pub found : flat_map found_of acts ≡ flat_map found_of opening
   pub kept : flat_map loss_of acts ≡ flat_map loss_of opening
   pub all_answers : length (answers_in pieces) ≡ length pieces
+  pub reads : AllByRecursion IsReadFree (moments l acts)
   pub declared : AllByRecursion (IsDeclared l) acts
   pub printed : AllCanPrint acts
   pub answered : AllByRecursion CanPrintPiece pieces
@@ -70,8 +72,8 @@ pub record IsRunTo (l : Layout) (opening : List Act) (lines : List ScriptLine) (
   pub jobs : (j : ℕ) → (left : Past) × AreDone l j no_past (commands_of j lines) (moments_of j (moments l acts)) (ended_of j ends) left
 
 -- no line was done yet
-pub run_none : (l : Layout) (opening : List Act) → AllByRecursion (IsDeclared l) opening → AllCanPrint opening → flat_map range_of opening ≡ [] → ((j : ℕ) → moments_of j (moments l opening) ≡ []) → IsRunTo l opening [] opening []
-run_none l opening declared printed failed none = record {
+pub run_none : (l : Layout) (opening : List Act) → AllByRecursion IsReadFree (moments l opening) → AllByRecursion (IsDeclared l) opening → AllCanPrint opening → flat_map range_of opening ≡ [] → ((j : ℕ) → moments_of j (moments l opening) ≡ []) → IsRunTo l opening [] opening []
+run_none l opening unread declared printed failed none = record {
   added = [];
   ends = [];
   lines_add = refl;
@@ -89,6 +91,7 @@ run_none l opening declared printed failed none = record {
   found = refl;
   kept = refl;
   all_answers = refl;
+  reads = unread;
   declared = declared;
   printed = printed;
   answered = tt;
@@ -107,6 +110,34 @@ more_none l f acts more xs none all is =
 found_none : (a : Act) → opened_in a ≡ [] → found_of a ≡ []
 found_none (Opened d entries) none = absurd cc
 found_none _ none = refl
+
+-- what no job makes is no read
+no_reader : (a : Act) → job_of a ≡ None → reader_in a ≡ None
+no_reader (Read job line d at via question) none = absurd cc
+no_reader _ none = refl
+
+-- so nobody reads among acts that no job makes
+served_reads : (l : Layout) (k : ℕ) (p : Plain) (acts : List Act) → AllByRecursion (IsServed l) acts → AllByRecursion IsReadFree (moments_from l k p acts)
+served_reads l k p [] all = tt
+served_reads l k p (a ∷ acts) all = (subst (λ o. IfSome o (λ j. (p.job_at j).rollback_only ≡ false)) (sym (no_reader a all.0.job)) tt, served_reads l (k + 1) (after l p a) acts all.1)
+
+-- an act of the only job is a read of it, or none
+own_reader : (a : Act) (P : ℕ → Type 0) → job_of a ≡ Some 0 → P 0 → IfSome (reader_in a) P
+own_reader (Read job line d at via question) P own here = subst P (sym (unwrapped own)) here
+  where
+    unwrapped : {x y : ℕ} → Some x ≡ Some y → x ≡ y
+    unwrapped e = ap (λ o. unwrap_or o 0) e
+own_reader _ P own here = tt
+
+-- a line's reads
+line_reads : (l : Layout) (line k : ℕ) (p : Plain) (before more : List Act) (act : Act) → AllByRecursion (IsServed l) before → IsMade l line act → AllByRecursion (IsServed l) more
+    → ((after_all l p before).job_at 0).rollback_only ≡ false → AllByRecursion IsReadFree (moments_from l k p (before ++ act ∷ more))
+line_reads l line k p [] more act served its rest free =
+    (own_reader act (λ j. (p.job_at j).rollback_only ≡ false) its.job free, served_reads l (k + 1) (after l p act) more rest)
+line_reads l line k p (a ∷ before) more act served its rest free = (
+  subst (λ o. IfSome o (λ j. (p.job_at j).rollback_only ≡ false)) (sym (no_reader a served.0.job)) tt,
+  line_reads l line (k + 1) (after l p a) before more act served.1 its rest free,
+)
 
 -- a command done by one act
 makes_done : (l : Layout) (line : ℕ) (command : Command) (past : Past) (m : Moment) (answer : Answer) → (m.before.job_at 0).rollback_only ≡ false → Makes line command m.act answer → Whole l 0 line command past (m ∷ []) answer past.held_back
@@ -366,6 +397,11 @@ job_line l opening xs x command old new pieces answer r todo job alive did =
       opened = ap (flat_map opened_in) d.whole ∙ more_none l opened_in old y.acts (flat_map opened_in opening) (λ a q. q.opened) quiet r.opened;
       found = ap (flat_map found_of) d.whole ∙ more_none l found_of old y.acts (flat_map found_of opening) (λ a q. found_none a q.opened) quiet r.found;
       kept = ap (flat_map loss_of) d.whole ∙ more_none l loss_of old y.acts (flat_map loss_of opening) (λ a q. q.kept) quiet r.kept;
+      reads =
+          subst (AllByRecursion IsReadFree) (sym (ap (moments l) d.whole ∙ moments-more l 0 start old y.acts))
+          (all_both IsReadFree (moments l old) (moments_from l (0 + length old) (after_all l start old) y.acts) r.reads
+          (line_reads l x.line (0 + length old) (after_all l start old) d.before d.after did.act d.served_before d.its d.served_after
+          (subst (λ p. (p.job_at 0).rollback_only ≡ false) (after_all-append l start old d.before) d.free)));
       all_answers =
           omega
           (arith, ap length (flat_map-append answer_in pieces y.pieces), length-append (answers_in pieces) (answers_in y.pieces), length-append pieces y.pieces, r.all_answers, ap length adds.answers);
@@ -413,6 +449,7 @@ still_line l opening xs x job acts pieces r todo =
       found = r.found;
       kept = r.kept;
       all_answers = r.all_answers;
+      reads = r.reads;
       declared = r.declared;
       printed = r.printed;
       answered = r.answered;
@@ -480,6 +517,7 @@ fits_all script opening out acts pieces begins openings once r t p = record {
     whole = r.all_ends;
     lines = r.lines_add;
     over = λ j. inr (none_open (commands_of j script.lines) (length (ended_of j r.ends)) (λ c. has_wait j c.line out.pieces.items ≡ true) (counted script.layout script.lines acts r.ends r.jobs j));
+    reads = subst (λ acts. AllByRecursion IsReadFree (moments script.layout acts)) (sym t) r.reads;
     one = omega arith;
     breaks = inr (omega (arith, r.breaks));
     failed = subst (AllByRecursion (λ q. Any (LiesIn q) [])) (sym (ap (flat_map range_of) t ∙ r.failed)) tt;
@@ -522,7 +560,7 @@ first_of_one (suc (suc n)) few some = absurd (omega (arith, few))
 pub fits_none : (script : Script) (out : Output) → script.layout.servers ≡ 0 → CanRun script → out.trail ≡ [] → out.pieces.items ≡ [] → Fits script [] out
 fits_none script out none runs t p =
     fits_all script [] out [] [] (sym (ap (range_with_len 0) none)) tt (once script.layout.servers runs.few)
-    (none_run script.layout [] script.lines none (recursion_from_All (λ (x : ScriptLine). TodoRuns script.layout x.todo) script.lines runs.lines) (run_none script.layout [] tt tt refl (λ j. refl))) t p
+    (none_run script.layout [] script.lines none (recursion_from_All (λ (x : ScriptLine). TodoRuns script.layout x.todo) script.lines runs.lines) (run_none script.layout [] tt tt tt refl (λ j. refl))) t p
 
 -- a script with one
 pub fits_one : (script : Script) (out : Output) (acts : List Act) (pieces : List Piece) → script.layout.servers ≢ 0 → CanRun script → IsRunTo script.layout (Opened 0 [] ∷ []) script.lines acts pieces → out.trail ≡ acts → out.pieces.items ≡ pieces → Fits script [] out
@@ -531,7 +569,7 @@ fits_one script out acts pieces some runs r t p =
 
 -- the opening of a script with one
 pub run_opened : (l : Layout) → l.servers ≢ 0 → IsRunTo l (Opened 0 [] ∷ []) [] (Opened 0 [] ∷ []) []
-run_opened l some = run_none l (Opened 0 [] ∷ []) (omega (arith, some), tt) (tt, tt) refl (λ j. refl)
+run_opened l some = run_none l (Opened 0 [] ∷ []) (tt, tt) (omega (arith, some), tt) (tt, tt) refl (λ j. refl)
 
 -- each line can be run
 pub one_runs : (l : Layout) (lines : List ScriptLine) (i : ℕ) (line : ScriptLine) → i < length lines → line ≡ get_or lines i line → All (λ (x : ScriptLine). TodoRuns l x.todo) lines → TodoRuns l line.todo
