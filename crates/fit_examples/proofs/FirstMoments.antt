@@ -15,13 +15,13 @@ first_is m n ms ns e = cc e
 -- an unlock has the acts that the state before its first act asks for
 pub unlock_does : (l : Layout) (job line : ℕ) (at : Site) (mode : Mode) (now : Bool) (past : Past) (m : Moment) (ms : List Moment) (answer : Answer) (held : List HeldBack)
     → Unlocks l job line at mode now past (m ∷ ms) answer held → acts_in (m ∷ ms) ≡ unlock_acts l m.before job line at mode now
-unlock_does l job line at mode now past m ms answer held (n, rest, e, together, acts, u, h) =
+unlock_does l job line at mode now past m ms answer held (n, rest, e, together, up, acts, u, h) =
     subst (λ (o : Moment). acts_in (m ∷ ms) ≡ unlock_acts l o.before job line at mode now) (sym (first_is m n ms rest e)) acts
 
 -- and holds back what it asks for
 pub unlock_holds : (l : Layout) (job line : ℕ) (at : Site) (mode : Mode) (now : Bool) (past : Past) (m : Moment) (ms : List Moment) (answer : Answer) (held : List HeldBack)
     → Unlocks l job line at mode now past (m ∷ ms) answer held → held ≡ held_after l m.before job at mode now past.held_back
-unlock_holds l job line at mode now past m ms answer held (n, rest, e, together, acts, u, h) =
+unlock_holds l job line at mode now past m ms answer held (n, rest, e, together, up, acts, u, h) =
     subst (λ (o : Moment). held ≡ held_after l o.before job at mode now past.held_back) (sym (first_is m n ms rest e)) h
 
 -- a grant is of the hold that the state before it shows

@@ -72,6 +72,10 @@ set_both = set_one ++ Issue 0 4 1 1 (OpItem (SetOp (120 ∷ 0 ∷ []) (53 ∷ []
 abbrev pub set_lost : List Act
 set_lost = set_both ++ Shut 0 2 Replaced ∷ Synced 0 3 ∷ Lose 0 0 (ByReset 3) ∷ []
 
+-- and job 0 was told of that
+abbrev pub lost_told : List Act
+lost_told = set_lost ++ RefusedAct 0 4 (Network 0 Recovery Reset) ∷ []
+
 -- a session was lost
 abbrev pub barred : List Act
 barred = met ++ Shut 0 2 Replaced ∷ Synced 0 3 ∷ Lose 0 0 (ByReset 3) ∷ []

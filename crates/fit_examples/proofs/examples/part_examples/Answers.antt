@@ -1,6 +1,7 @@
 use Rattle.std.proofs.Common.{[], ◌∷◌, refl, arith, rules, inl, inr}
 use Rattle.script_fits.specs.Locking.{no_past}
 use Rattle.fit_examples.specs.Groups.{two}
+use Rattle.fit_examples.proofs.Hearing.{told_both}
 use Rattle.fit_examples.proofs.PartLaws.{no_commit_part, no_rollback_part}
 use Rattle.fit_examples.proofs.examples.part_examples.Goals as goal
 
@@ -21,7 +22,7 @@ returns c = (
   no_commit_part two 0 5 no_past _ _ _ (0 ∷ 1 ∷ []) refl (search rules),
   no_commit_part two 0 5 no_past _ _ _ [] refl (search rules),
   search rules,
-  inr (_, _, (_, _, refl, refl), omega arith, refl, (λ e. absurd (cc e)), record { issued = _ ∷ _ ∷ []; given = []; closing = _; whole = refl; together = (refl, (refl, (tt, tt))); items = (2, _, _, refl, refl, (2, [], [], refl, refl, (refl, refl))); unlocks = refl; level = refl }),
+  inr ((_, _, (_, _, refl, refl), omega arith, refl, (λ e. absurd (cc e)), record { issued = _ ∷ _ ∷ []; given = []; closing = _; whole = refl; together = (refl, (refl, (tt, tt))); items = (2, _, _, refl, refl, (2, [], [], refl, refl, (refl, refl))); unlocks = refl; level = refl }), (_, (_, _, refl, refl), λ d u. told_both d)),
   no_rollback_part two 0 5 no_past _ _ _ (0 ∷ 1 ∷ []) refl (search rules),
   no_rollback_part two 0 5 no_past _ _ _ (0 ∷ 1 ∷ []) refl (search rules),
   search rules,

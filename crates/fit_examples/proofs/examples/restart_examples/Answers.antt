@@ -7,13 +7,13 @@ use Rattle.fit_examples.proofs.examples.restart_examples.Goals as goal
 
 pub returns : goal.returns
 returns c = (
-  record { middle = []; waiting = []; ticks = refl; deaths = refl; opened = refl; restarts = (Kept 2, refl, (refl, ([], refl, refl))); halts = tt; still = (refl, (refl, tt)); pumps = refl; gone = refl; given = (tt, (tt, tt)); answers = refl; places = tt; pieces = refl; no_wait = refl; only_waits = refl; waits = tt; accounted = (λ j. inr tt) },
-  record { middle = []; waiting = []; ticks = refl; deaths = refl; opened = refl; restarts = (DiskFault, refl, (refl, inl refl)); halts = tt; still = tt; pumps = refl; gone = refl; given = tt; answers = refl; places = tt; pieces = refl; no_wait = refl; only_waits = refl; waits = tt; accounted = (λ j. inr tt) },
-  record { middle = []; waiting = []; ticks = refl; deaths = refl; opened = refl; restarts = (DiskFault, refl, (refl, inr (2, [], refl, refl, refl))); halts = tt; still = (refl, tt); pumps = refl; gone = refl; given = (tt, tt); answers = refl; places = tt; pieces = refl; no_wait = refl; only_waits = refl; waits = tt; accounted = (λ j. inr tt) },
-  record { middle = []; waiting = []; ticks = refl; deaths = refl; opened = refl; restarts = (NotAJournal 7, refl, (refl, refl)); halts = tt; still = tt; pumps = refl; gone = refl; given = tt; answers = refl; places = tt; pieces = refl; no_wait = refl; only_waits = refl; waits = tt; accounted = (λ j. inr tt) },
-  record { middle = []; waiting = []; ticks = refl; deaths = refl; opened = refl; restarts = (NotKept 1, refl, (refl, refl)); halts = tt; still = tt; pumps = refl; gone = refl; given = tt; answers = refl; places = tt; pieces = refl; no_wait = refl; only_waits = refl; waits = tt; accounted = (λ j. inr tt) },
-  record { middle = []; waiting = []; ticks = refl; deaths = refl; opened = refl; restarts = (NetFault, refl, (refl, inr (2, _, refl, refl))); halts = tt; still = (refl, (refl, tt)); pumps = refl; gone = refl; given = (tt, (tt, tt)); answers = refl; places = tt; pieces = refl; no_wait = refl; only_waits = refl; waits = tt; accounted = (λ j. inr tt) },
-  record { middle = []; waiting = []; ticks = refl; deaths = refl; opened = refl; restarts = (Running, refl, (refl, refl)); halts = tt; still = tt; pumps = refl; gone = refl; given = tt; answers = refl; places = tt; pieces = refl; no_wait = refl; only_waits = refl; waits = tt; accounted = (λ j. inr tt) },
+  record { middle = []; waiting = []; ticks = refl; deaths = refl; opened = refl; restarts = (Kept 2, refl, (refl, ([], refl, refl)), (refl, tt)); halts = tt; still = (refl, (refl, tt)); pumps = refl; gone = refl; given = (tt, (tt, tt)); answers = refl; places = tt; pieces = refl; no_wait = refl; only_waits = refl; waits = tt; accounted = (λ j. inr tt) },
+  record { middle = []; waiting = []; ticks = refl; deaths = refl; opened = refl; restarts = (DiskFault, refl, (refl, inl tt), tt); halts = tt; still = tt; pumps = refl; gone = refl; given = tt; answers = refl; places = tt; pieces = refl; no_wait = refl; only_waits = refl; waits = tt; accounted = (λ j. inr tt) },
+  record { middle = []; waiting = []; ticks = refl; deaths = refl; opened = refl; restarts = (DiskFault, refl, (refl, inr (2, [], refl, tt)), (refl, tt)); halts = tt; still = (refl, tt); pumps = refl; gone = refl; given = (tt, tt); answers = refl; places = tt; pieces = refl; no_wait = refl; only_waits = refl; waits = tt; accounted = (λ j. inr tt) },
+  record { middle = []; waiting = []; ticks = refl; deaths = refl; opened = refl; restarts = (NotAJournal 7, refl, (refl, tt), tt); halts = tt; still = tt; pumps = refl; gone = refl; given = tt; answers = refl; places = tt; pieces = refl; no_wait = refl; only_waits = refl; waits = tt; accounted = (λ j. inr tt) },
+  record { middle = []; waiting = []; ticks = refl; deaths = refl; opened = refl; restarts = (NotKept 1, refl, (refl, tt), tt); halts = tt; still = tt; pumps = refl; gone = refl; given = tt; answers = refl; places = tt; pieces = refl; no_wait = refl; only_waits = refl; waits = tt; accounted = (λ j. inr tt) },
+  record { middle = []; waiting = []; ticks = refl; deaths = refl; opened = refl; restarts = (NetFault, refl, (refl, inr (2, [], refl, tt)), (refl, tt)); halts = tt; still = (refl, (refl, tt)); pumps = refl; gone = refl; given = (tt, (tt, tt)); answers = refl; places = tt; pieces = refl; no_wait = refl; only_waits = refl; waits = tt; accounted = (λ j. inr tt) },
+  record { middle = []; waiting = []; ticks = refl; deaths = refl; opened = refl; restarts = (Running, refl, (refl, refl), tt); halts = tt; still = tt; pumps = refl; gone = refl; given = tt; answers = refl; places = tt; pieces = refl; no_wait = refl; only_waits = refl; waits = tt; accounted = (λ j. inr tt) },
   λ f. no_restart when_down.down 0 5 (Kept 3) _ f.restarts (search rules),
   λ f. no_restart when_down.down 0 5 (Kept 2) _ f.restarts (search rules),
   λ f. no_restart when_down.down 0 5 (Kept 2) _ f.restarts (search rules),
