@@ -100,6 +100,8 @@ RollbackExamples =
     × Does (set_both ++ Level 0 4 2 ∷ []) Rollback (Issue 0 5 0 2 (RollbackItem 1) ∷ Issue 0 5 1 2 (RollbackItem 1) ∷ Level 0 5 0 ∷ rollbacks_enter ++ RolledBack 0 5 0 4 ∷ RolledBack 0 5 1 4 ∷ []) (RolledBackAnswer (place 0 4 ∷ place 1 4 ∷ []))
     -- a session with updates was lost, and the job was told of that
     × Does lost_told Rollback (Issue 0 5 1 2 (RollbackItem 1) ∷ Level 0 5 0 ∷ Enter 1 (Update 2 1 0 1 (SetOp at_x.key five)) ∷ Enter 1 (RollbackEntry 2 2 0 1) ∷ Synced 1 4 ∷ RolledBack 0 5 1 4 ∷ []) (RolledBackAnswer (place 1 4 ∷ []))
+    -- a session with updates was lost, and the job was not told of that
+    × (¬ Does set_lost Rollback (Issue 0 5 1 2 (RollbackItem 1) ∷ Level 0 5 0 ∷ Enter 1 (Update 2 1 0 1 (SetOp at_x.key five)) ∷ Enter 1 (RollbackEntry 2 2 0 1) ∷ Synced 1 4 ∷ RolledBack 0 5 1 4 ∷ []) (RolledBackAnswer (place 1 4 ∷ [])))
     -- another order of the ends
     × (¬ Does set_both Rollback (Issue 0 5 0 2 (RollbackItem 1) ∷ Issue 0 5 1 2 (RollbackItem 1) ∷ Level 0 5 0 ∷ rollbacks_enter ++ RolledBack 0 5 1 4 ∷ RolledBack 0 5 0 4 ∷ []) (RolledBackAnswer (place 0 4 ∷ place 1 4 ∷ [])))
     -- another order of the items

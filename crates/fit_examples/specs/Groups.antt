@@ -1,5 +1,5 @@
 -- What the examples are made of: two data servers, some nodes, and groups of moments of a trail.
-use Rattle.std.specs.Prelude.{ℕ, List, [], ◌∷◌, length, Some}
+use Rattle.std.specs.Prelude.{ℕ, List, [], ◌∷◌, ◌++◌, length, Some}
 use Rattle.plain_orders.specs.declared.act.Act.{Act}
 use Rattle.plain_orders.specs.declared.act.Act.TheVariants.{Opened, Enter, Synced, Met}
 use Rattle.plain_orders.specs.declared.entry.Entry.TheVariants.{Opened as OpenEntry}
@@ -113,6 +113,10 @@ JobDoes front commands acts ends = DoesJob two 0 commands (group front 0 acts) e
 -- what stands before a line: acts, lines, pieces; no data server is down, and messages flow
 abbrev pub so_far : List Act → List ScriptLine → List Piece → SoFar
 so_far acts lines pieces = record { lines = lines; acts = acts; pieces = pieces; ends = []; down = λ _. false; flows = true }
+
+-- messages are held, and the first data server has an entry unsaved
+abbrev pub in_hold : SoFar
+in_hold = record (so_far (met ++ Enter 0 (OpenEntry 3 1) ∷ []) [] []) { flows = false }
 
 -- the first data server is down
 abbrev pub when_down : SoFar
