@@ -9,6 +9,8 @@ use Rattle.plain_runs.specs.Plain.{Plain}
 use Rattle.script_fits.specs.Moments.{Moment, AreTogether, IsFree}
 use Rattle.script_fits.specs.Locking.{HeldBack, Past}
 use Rattle.script_fits.specs.Committing.{level_of, updated, AreCommitted, AreRolledBack, txn_at, EndsEmpty, EndsQueued, EndsCommitted, EndsRolledBack, EndsWithUpdates, Commits, RollsBack}
+use Rattle.app_job.specs.declared.command.Command.TheVariants.{Rollback}
+use Rattle.script_fits.specs.Commands.{HeardFirst}
 use Rattle.fit_examples.proofs.FirstMoments.{first_is}
 use Rattle.fit_examples.proofs.EndsOn.{PutsOn, LeavesDone, LeavesNothing, LeavesAnswers, empty_on, queued_on, answered_on}
 
@@ -74,8 +76,8 @@ no_commit l job line sync past m ms answer held servers one same wrong ((inr (p,
 
 -- no such rollback
 pub no_rollback : (l : Layout) (job line : ℕ) (past : Past) (m : Moment) (ms : List Moment) (answer : Answer) (held : List HeldBack) (servers : List ℕ)
-    → updated l m.before job ≡ servers → ¬ RollbackOn l job line (txn_at m.before job) past (m ∷ ms) answer servers → ¬ RollsBack l job line past (m ∷ ms) answer held
-no_rollback l job line past m ms answer held servers same wrong (p, (n, rest, e, b), is, h, ends) = wrong (go p (cc (b, first_is m n ms rest e)) ends)
+    → updated l m.before job ≡ servers → ¬ RollbackOn l job line (txn_at m.before job) past (m ∷ ms) answer servers → ¬ (RollsBack l job line past (m ∷ ms) answer held × HeardFirst job Rollback (m ∷ ms))
+no_rollback l job line past m ms answer held servers same wrong ((p, (n, rest, e, b), is, h, ends), heard) = wrong (go p (cc (b, first_is m n ms rest e)) ends)
   where
     go : (p : Plain) → p ≡ m.before
         → ((updated l p job ≡ []) × EndsEmpty l job line (RollbackItem (txn_at p job)) past (m ∷ ms) answer)

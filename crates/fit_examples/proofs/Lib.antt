@@ -1,5 +1,6 @@
 pub mod FirstMoments
 pub mod EndsOn
+pub mod Hearing
 pub mod EndLaws
 pub mod PartLaws
 pub mod JobLaws

@@ -20,7 +20,7 @@ use Rattle.script_fits.specs.Walk.{SoFar, Added, with_line}
 -- a restart that may not end so
 pub no_restart : (down : ℕ → Bool) (d line : ℕ) (outcome : Restarted) (acts : List Act)
     → AreRestarts down line (Restart d) (RestartedPiece d line outcome ∷ []) acts → ¬ RestartMay (down d) d outcome acts → ⊥
-no_restart down d line outcome acts (other, e, may) wrong =
+no_restart down d line outcome acts (other, e, may, crashes) wrong =
     let same : other ≡ outcome = cc e in
     wrong (subst (λ o. RestartMay (down d) d o acts) same may)
 

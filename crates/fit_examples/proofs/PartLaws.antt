@@ -85,7 +85,7 @@ pub no_rollback_part : (l : Layout) (job line : ℕ) (past : Past) (m : Moment) 
     → ¬ ((servers ≢ []) × ((places : List Place) × PutsOn l job line (RollbackItem (txn_at m.before job)) LeavesNothing past.held_back servers (m ∷ ms) places))
     → ¬ Part l job line Rollback past (m ∷ ms) held
 no_rollback_part l job line past m ms held servers same wrong (inl (e, h)) = absurd (cc e)
-no_rollback_part l job line past m ms held servers same wrong (inr awaited) = wrong (awaits_on l job line RollbackItem past m ms held servers same awaited)
+no_rollback_part l job line past m ms held servers same wrong (inr (awaited, heard)) = wrong (awaits_on l job line RollbackItem past m ms held servers same awaited)
 
 -- a session in which nothing was issued
 abbrev no_items : Session

@@ -8,7 +8,7 @@ use Rattle.app_job.specs.declared.command.Command.TheVariants.{Commit, Rollback,
 use Rattle.fit_examples.specs.Groups.{at_x, five, place, held_x, met, Does, DoesHeld, DoesAs}
 use Rattle.plain_orders.specs.declared.entry.Entry.TheVariants.{Update, Rollback as RollbackEntry}
 use Rattle.script_fits.specs.Locking.{no_past}
-use Rattle.fit_examples.specs.Trails.{commits_enter, rollbacks_enter, set_one, set_both, set_lost}
+use Rattle.fit_examples.specs.Trails.{commits_enter, rollbacks_enter, set_one, set_both, set_lost, lost_told}
 
 -- a commit that nobody waits for
 abbrev pub CommitExamples : Type 0
@@ -98,8 +98,10 @@ RollbackExamples =
     Does set_both Rollback (Issue 0 5 0 2 (RollbackItem 1) ∷ Issue 0 5 1 2 (RollbackItem 1) ∷ Level 0 5 0 ∷ rollbacks_enter ++ RolledBack 0 5 0 4 ∷ RolledBack 0 5 1 4 ∷ []) (RolledBackAnswer (place 0 4 ∷ place 1 4 ∷ []))
     -- within another transaction
     × Does (set_both ++ Level 0 4 2 ∷ []) Rollback (Issue 0 5 0 2 (RollbackItem 1) ∷ Issue 0 5 1 2 (RollbackItem 1) ∷ Level 0 5 0 ∷ rollbacks_enter ++ RolledBack 0 5 0 4 ∷ RolledBack 0 5 1 4 ∷ []) (RolledBackAnswer (place 0 4 ∷ place 1 4 ∷ []))
-    -- a session with updates was lost
-    × Does set_lost Rollback (Issue 0 5 1 2 (RollbackItem 1) ∷ Level 0 5 0 ∷ Enter 1 (Update 2 1 0 1 (SetOp at_x.key five)) ∷ Enter 1 (RollbackEntry 2 2 0 1) ∷ Synced 1 4 ∷ RolledBack 0 5 1 4 ∷ []) (RolledBackAnswer (place 1 4 ∷ []))
+    -- a session with updates was lost, and the job was told of that
+    × Does lost_told Rollback (Issue 0 5 1 2 (RollbackItem 1) ∷ Level 0 5 0 ∷ Enter 1 (Update 2 1 0 1 (SetOp at_x.key five)) ∷ Enter 1 (RollbackEntry 2 2 0 1) ∷ Synced 1 4 ∷ RolledBack 0 5 1 4 ∷ []) (RolledBackAnswer (place 1 4 ∷ []))
+    -- a session with updates was lost, and the job was not told of that
+    × (¬ Does set_lost Rollback (Issue 0 5 1 2 (RollbackItem 1) ∷ Level 0 5 0 ∷ Enter 1 (Update 2 1 0 1 (SetOp at_x.key five)) ∷ Enter 1 (RollbackEntry 2 2 0 1) ∷ Synced 1 4 ∷ RolledBack 0 5 1 4 ∷ []) (RolledBackAnswer (place 1 4 ∷ [])))
     -- another order of the ends
     × (¬ Does set_both Rollback (Issue 0 5 0 2 (RollbackItem 1) ∷ Issue 0 5 1 2 (RollbackItem 1) ∷ Level 0 5 0 ∷ rollbacks_enter ++ RolledBack 0 5 1 4 ∷ RolledBack 0 5 0 4 ∷ []) (RolledBackAnswer (place 0 4 ∷ place 1 4 ∷ [])))
     -- another order of the items

@@ -1,5 +1,5 @@
 -- What the examples are made of: two data servers, some nodes, and groups of moments of a trail.
-use Rattle.std.specs.Prelude.{ℕ, List, [], ◌∷◌, length, Some}
+use Rattle.std.specs.Prelude.{ℕ, List, [], ◌∷◌, ◌++◌, length, Some}
 use Rattle.plain_orders.specs.declared.act.Act.{Act}
 use Rattle.plain_orders.specs.declared.act.Act.TheVariants.{Opened, Enter, Synced, Met}
 use Rattle.plain_orders.specs.declared.entry.Entry.TheVariants.{Opened as OpenEntry}
@@ -20,7 +20,7 @@ use Rattle.job_script.specs.declared.script_line.ScriptLine.{ScriptLine}
 use Rattle.job_script.specs.declared.todo.Todo.{Todo}
 use Rattle.transcript.specs.declared.piece.Piece.{Piece}
 use Rattle.transcript.specs.declared.piece.Piece.TheVariants.{Answered}
-use Rattle.std.specs.Prelude.{false, ◌==◌}
+use Rattle.std.specs.Prelude.{true, false, ◌==◌}
 
 -- two data servers and two application servers; the jobs 0 and 2 run on the first, job 1 on the second
 abbrev pub two : Layout
@@ -110,13 +110,17 @@ ended line answer place = record { job = 0; line = line; answer = answer; place 
 abbrev pub JobDoes : List Act → List CommandLine → List Act → List Ended → Type 0
 JobDoes front commands acts ends = DoesJob two 0 commands (group front 0 acts) ends
 
--- what stands before a line: acts, lines, pieces; and no data server is down
+-- what stands before a line: acts, lines, pieces; no data server is down, and messages flow
 abbrev pub so_far : List Act → List ScriptLine → List Piece → SoFar
-so_far acts lines pieces = record { lines = lines; acts = acts; pieces = pieces; ends = []; down = λ _. false }
+so_far acts lines pieces = record { lines = lines; acts = acts; pieces = pieces; ends = []; down = λ _. false; flows = true }
+
+-- messages are held, and the first data server has an entry unsaved
+abbrev pub in_hold : SoFar
+in_hold = record (so_far (met ++ Enter 0 (OpenEntry 3 1) ∷ []) [] []) { flows = false }
 
 -- the first data server is down
 abbrev pub when_down : SoFar
-when_down = record { lines = []; acts = met; pieces = []; ends = []; down = λ d. d == 0 }
+when_down = record { lines = []; acts = met; pieces = []; ends = []; down = λ d. d == 0; flows = true }
 
 -- line 5 of a script adds these acts, pieces and ends
 abbrev pub Adds : SoFar → Todo → List Act → List Piece → List Ended → Type 0

@@ -1,16 +1,17 @@
 -- What a line of a script adds.
-use Rattle.std.specs.Prelude.{[], ◌∷◌, ◌++◌, Some, None}
-use Rattle.plain_orders.specs.declared.act.Act.TheVariants.{Opened, Enter, Synced, Crash, Issue, Tick, Died}
+use Rattle.std.specs.Prelude.{pos, [], ◌∷◌, ◌++◌, Some, None}
+use Rattle.plain_orders.specs.declared.act.Act.TheVariants.{Opened, Enter, Synced, Crash, Issue, Broke, Tick, Died}
+use Rattle.plain_orders.specs.declared.causes.PairEnd.TheVariants.{App as AppEnd, Server as ServerEnd}
 use Rattle.plain_orders.specs.declared.item.Item.TheVariants.{Op as OpItem}
-use Rattle.plain_orders.specs.declared.op.Op.TheVariants.{Set as SetOp}
+use Rattle.plain_orders.specs.declared.op.Op.TheVariants.{Set as SetOp, Add as AddOp}
 use Rattle.app_job.specs.declared.answer.Answer.TheVariants.{Queued, Waiting}
-use Rattle.app_job.specs.declared.command.Command.TheVariants.{Set, Get}
-use Rattle.fit_examples.specs.Groups.{at_x, five, place, met, so_far, when_down, says, ended, Adds}
+use Rattle.app_job.specs.declared.command.Command.TheVariants.{Set, Get, Incr}
+use Rattle.fit_examples.specs.Groups.{at_x, five, place, met, so_far, in_hold, when_down, says, ended, Adds}
 use Rattle.plain_orders.specs.declared.entry.Entry.TheVariants.{Opened as OpenEntry}
-use Rattle.job_script.specs.declared.todo.Todo.TheVariants.{Crash as CrashLine, Job, Hold, Save, Pump, Tick as TickLine, Restart, Die}
+use Rattle.job_script.specs.declared.todo.Todo.TheVariants.{Crash as CrashLine, Job, Hold, Flow, Save, Pump, Tick as TickLine, Restart, Die}
 use Rattle.transcript.specs.declared.piece.Piece.TheVariants.{Pumped, Restarted, Halted, Gone}
 use Rattle.transcript.specs.declared.piece.Restarted.TheVariants.{Kept, DiskFault, NotAJournal, NotKept, NetFault, Running}
-use Rattle.app_job.specs.declared.why.Why.TheVariants.{State, Fetch, Grant as GrantWhy}
+use Rattle.app_job.specs.declared.why.Why.TheVariants.{State, Queue, Fetch, Reply, Grant as GrantWhy}
 use Rattle.std.specs.Prelude.{None, Some}
 
 -- ticks and deaths
@@ -96,6 +97,24 @@ RestartExamples =
     × (¬ Adds (so_far met [] []) (CrashLine 0 7) (Synced 0 2 ∷ []) [] [])
     -- one acts while another one is down
     × Adds when_down Hold (Enter 1 (OpenEntry 3 1) ∷ []) [] []
+    -- its disk failed, and it acts
+    × (¬ Adds when_down (Restart 0) (Synced 0 2 ∷ []) (Restarted 0 5 DiskFault ∷ []) [])
+    -- its disk failed at the new Epoch, and it acts after that
+    × (¬ Adds when_down (Restart 0) (Crash 0 2 ∷ Enter 0 (OpenEntry 3 1) ∷ []) (Restarted 0 5 DiskFault ∷ []) [])
+    -- its disk failed, and another one acts
+    × Adds when_down (Restart 0) (Enter 1 (OpenEntry 3 1) ∷ []) (Restarted 0 5 DiskFault ∷ []) []
+    -- its disk failed, and another one crashed
+    × (¬ Adds when_down (Restart 0) (Crash 1 2 ∷ []) (Restarted 0 5 DiskFault ∷ []) [])
+    -- it has no journal, and acts
+    × (¬ Adds when_down (Restart 0) (Synced 0 2 ∷ []) (Restarted 0 5 (NotAJournal 7) ∷ []) [])
+    -- its journal is another one, and it acts
+    × (¬ Adds when_down (Restart 0) (Synced 0 2 ∷ []) (Restarted 0 5 (NotKept 1) ∷ []) [])
+    -- the net failed, and it acts after its new Epoch
+    × (¬ Adds when_down (Restart 0) (Crash 0 2 ∷ Synced 0 3 ∷ Enter 0 (OpenEntry 4 1) ∷ []) (Restarted 0 5 NetFault ∷ []) [])
+    -- the end of a data server that is down breaks
+    × (¬ Adds when_down Hold (Broke 0 0 ServerEnd 0 ∷ []) [] [])
+    -- the other end of that connection breaks
+    × Adds when_down Hold (Broke 0 0 AppEnd 0 ∷ []) [] []
 
 -- what a line prints
 abbrev pub PieceExamples : Type 0
@@ -164,3 +183,17 @@ PieceExamples =
     × (¬ Adds (so_far met [] []) Hold [] (says 4 (Waiting Fetch) ∷ []) [])
     -- a dead job waits
     × (¬ Adds (so_far (met ++ Died 0 ∷ []) (record { line = 4; todo = Job 0 (Get at_x) } ∷ []) []) Hold [] (says 4 (Waiting Fetch) ∷ []) [])
+    -- messages are held, and a data server halts at a line that has it save
+    × Adds in_hold (Save 0) [] (Halted 0 5 ∷ []) []
+    -- at a line from which on they flow
+    × Adds in_hold Flow [] (Halted 0 5 ∷ []) []
+    -- at a line that has none save
+    × (¬ Adds in_hold Hold [] (Halted 0 5 ∷ []) [])
+    -- at a line that has another one save
+    × (¬ Adds in_hold (Save 1) [] (Halted 0 5 ∷ []) [])
+    -- an increment that was issued waits for its reply
+    × Adds (so_far met [] []) (Job 0 (Incr at_x (pos 3))) (Issue 0 5 0 1 (OpItem (AddOp at_x.key (pos 3))) ∷ []) (says 5 (Waiting Reply) ∷ []) []
+    -- it waits in the queue
+    × (¬ Adds (so_far met [] []) (Job 0 (Incr at_x (pos 3))) (Issue 0 5 0 1 (OpItem (AddOp at_x.key (pos 3))) ∷ []) (says 5 (Waiting Queue) ∷ []) [])
+    -- an increment that was not issued waits for a reply
+    × (¬ Adds (so_far met [] []) (Job 0 (Incr at_x (pos 3))) [] (says 5 (Waiting Reply) ∷ []) [])

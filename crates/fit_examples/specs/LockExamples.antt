@@ -8,7 +8,7 @@ use Rattle.fit_examples.specs.Groups.{at_x, at_y, held_x, shared_x, held_y, past
 use Rattle.script_fits.specs.Locking.{no_past}
 use Rattle.plain_orders.specs.declared.mode.Mode.TheVariants.{Exclusive, Shared}
 use Rattle.plain_orders.specs.declared.refused.Refused.TheVariants.{TooDeep, RollbackOnly, LockTimeout}
-use Rattle.fit_examples.specs.Trails.{locked, locked_y, locked_both, locked_shared, kept, kept_within}
+use Rattle.fit_examples.specs.Trails.{locked, locked_y, locked_both, locked_shared, kept, kept_within, kept_broke, kept_untold, barred}
 
 -- a lock that is granted
 abbrev pub LockExamples : Type 0
@@ -139,3 +139,9 @@ UnlockExamples =
     × DoesHeld kept no_past (Unlock at_x Shared false) (Done 0 5 ∷ []) DoneAnswer []
     -- a lock that was not answered is not held
     × DoesHeld locked no_past (Unlock at_x Exclusive false) (Done 0 5 ∷ []) DoneAnswer []
+    -- its application server's end is broke
+    × (¬ DoesHeld kept_broke no_past (Unlock at_x Exclusive false) (GiveUp 0 5 0 Exclusive at_x.key ∷ Done 0 5 ∷ []) DoneAnswer [])
+    -- the pair has no session
+    × (¬ DoesHeld barred no_past (Unlock at_x Exclusive false) (Done 0 5 ∷ []) DoneAnswer [])
+    -- the job was not told that its session was lost
+    × (¬ DoesHeld kept_untold no_past (Unlock at_x Exclusive false) (Done 0 5 ∷ []) DoneAnswer [])

@@ -16,7 +16,7 @@ use Rattle.plain_orders.specs.declared.refused.Refused.TheVariants.{NoTransactio
 use Rattle.plain_orders.specs.declared.refused.ReasonName.TheVariants.{Reset}
 use Rattle.plain_orders.specs.declared.refused.LinkName.TheVariants.{Recovery, Trouble}
 use Rattle.app_job.specs.declared.reason.Reason.TheVariants.{Reset as ResetReason, NoWay as NoWayReason}
-use Rattle.fit_examples.specs.Trails.{commits_enter, within, kept, set_one, set_both, barred}
+use Rattle.fit_examples.specs.Trails.{commits_enter, within, kept, set_one, set_both, set_lost, barred}
 use Rattle.plain_orders.specs.declared.question.Question.TheVariants.{Get as GetQuestion}
 use Rattle.plain_orders.specs.declared.via.Via.TheVariants.{Fetched}
 use Rattle.script_fits.specs.Commands.{Part, RefusedAfter}
@@ -56,6 +56,8 @@ PartExamples =
     × (¬ Begins set_both (Commit false) (Issue 0 5 0 2 (CommitItem 1) ∷ Issue 0 5 1 2 (CommitItem 1) ∷ Level 0 5 0 ∷ []))
     -- the items and the level of a rollback
     × Begins set_both Rollback (Issue 0 5 0 2 (RollbackItem 1) ∷ Issue 0 5 1 2 (RollbackItem 1) ∷ Level 0 5 0 ∷ [])
+    -- its items and its level, and the job was not told that a session was lost
+    × (¬ Begins set_lost Rollback (Issue 0 5 1 2 (RollbackItem 1) ∷ Level 0 5 0 ∷ []))
     -- one of its items and its level
     × (¬ Begins set_both Rollback (Issue 0 5 0 2 (RollbackItem 1) ∷ Level 0 5 0 ∷ []))
     -- the items of a commit

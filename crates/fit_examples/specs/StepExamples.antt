@@ -6,7 +6,10 @@ use Rattle.plain_orders.specs.declared.op.Op.TheVariants.{Set as SetOp}
 use Rattle.app_job.specs.declared.answer.Answer.TheVariants.{Queued, Value, Done as DoneAnswer, Committed as CommittedAnswer, Refused as RefusedAnswer}
 use Rattle.app_job.specs.declared.refusal.Refusal.TheVariants.{RollbackOnly as RollbackOnlyRefusal, LockTimeout as LockTimeoutRefusal}
 use Rattle.app_job.specs.declared.command.Command.TheVariants.{Set, Get, Lock, Unlock, Start, Commit, Sync}
-use Rattle.fit_examples.specs.Groups.{at_x, x_at_1, five, place, met, IsRefused, Does}
+use Rattle.fit_examples.specs.Groups.{two, at_x, x_at_1, five, place, met, IsRefused, Does}
+use Rattle.std.specs.List.{AllByRecursion}
+use Rattle.script_fits.specs.Moments.{moments}
+use Rattle.script_fits.specs.Fits.{IsReadFree}
 use Rattle.plain_orders.specs.declared.mode.Mode.TheVariants.{Exclusive}
 use Rattle.plain_orders.specs.declared.refused.Refused.TheVariants.{RollbackOnly, LockTimeout}
 use Rattle.plain_orders.specs.declared.question.Question.TheVariants.{Get as GetQuestion}
@@ -42,3 +45,7 @@ StepExamples =
     × (¬ Does set_both (Commit false) (Issue 0 5 0 2 (CommitItem 1) ∷ Tick 1 ∷ Issue 0 5 1 2 (CommitItem 1) ∷ Level 0 5 0 ∷ []) (Queued (place 0 2 ∷ place 1 2 ∷ [])))
     -- between its answers
     × (¬ Does set_both (Commit true) (Issue 0 5 0 2 (CommitItem 1) ∷ Issue 0 5 1 2 (CommitItem 1) ∷ Level 0 5 0 ∷ commits_enter ++ Committed 0 5 0 4 ∷ Tick 1 ∷ Committed 0 5 1 4 ∷ []) (CommittedAnswer (place 0 4 ∷ place 1 4 ∷ [])))
+    -- a job reads that hasn't to roll back
+    × AllByRecursion IsReadFree (moments two (set_both ++ Read 0 5 1 2 Fetched (GetQuestion at_x.key None) ∷ []))
+    -- a job reads while it has to, where the script is run line by line
+    × (¬ AllByRecursion IsReadFree (moments two (set_lost ++ Read 0 5 1 2 Fetched (GetQuestion at_x.key None) ∷ [])))

@@ -1,7 +1,8 @@
 -- Trails that the examples begin with. In each of them the first application server met a session at both data servers.
 use Rattle.std.specs.Prelude.{List, [], ◌∷◌, ◌++◌}
 use Rattle.plain_orders.specs.declared.act.Act.{Act}
-use Rattle.plain_orders.specs.declared.act.Act.TheVariants.{Enter, Synced, Shut, Release, Met, Issue, Grant, Granted, GiveUp, Level, Refused as RefusedAct, Lose}
+use Rattle.plain_orders.specs.declared.act.Act.TheVariants.{Enter, Synced, Shut, Release, Met, Issue, Grant, Granted, GiveUp, Level, Refused as RefusedAct, Broke, Lose}
+use Rattle.plain_orders.specs.declared.causes.PairEnd.TheVariants.{App as AppEnd}
 use Rattle.plain_orders.specs.declared.causes.ShutCause.TheVariants.{Replaced}
 use Rattle.plain_orders.specs.declared.causes.Loss.TheVariants.{Reset as ByReset}
 use Rattle.plain_orders.specs.declared.entry.Entry.TheVariants.{Opened as OpenEntry, Update, Commit as CommitEntry, Rollback as RollbackEntry}
@@ -37,6 +38,14 @@ kept = locked ++ Granted 0 2 0 2 ∷ []
 abbrev pub kept_within : List Act
 kept_within = kept ++ Level 0 3 1 ∷ []
 
+-- job 0 holds ^x, and its application server's end is broke
+abbrev pub kept_broke : List Act
+kept_broke = kept ++ Broke 0 0 AppEnd 0 ∷ []
+
+-- job 0 held ^x; the session of its lock was lost and another one met, and the job was not told of that
+abbrev pub kept_untold : List Act
+kept_untold = kept ++ Shut 0 2 Replaced ∷ Synced 0 3 ∷ Lose 0 0 (ByReset 3) ∷ Enter 0 (OpenEntry 4 0) ∷ Synced 0 4 ∷ Met 0 0 4 ∷ []
+
 -- job 0 is in a transaction
 abbrev pub within : List Act
 within = met ++ Level 0 3 1 ∷ []
@@ -71,6 +80,10 @@ set_both = set_one ++ Issue 0 4 1 1 (OpItem (SetOp (120 ∷ 0 ∷ []) (53 ∷ []
 -- and the session with the first one was lost
 abbrev pub set_lost : List Act
 set_lost = set_both ++ Shut 0 2 Replaced ∷ Synced 0 3 ∷ Lose 0 0 (ByReset 3) ∷ []
+
+-- and job 0 was told of that
+abbrev pub lost_told : List Act
+lost_told = set_lost ++ RefusedAct 0 4 (Network 0 Recovery Reset) ∷ []
 
 -- a session was lost
 abbrev pub barred : List Act

@@ -1,21 +1,21 @@
 use Rattle.std.proofs.Common.{[], ◌∷◌, ◌++◌, ◌≡◌, refl, arith, rules, ℕ, inl, inr}
 use Rattle.fit_examples.specs.Groups.{met, so_far}
-use Rattle.std.specs.Prelude.{None, Some, false}
+use Rattle.std.specs.Prelude.{pos, None, Some, false}
 use Rattle.fit_examples.proofs.LineLaws.{no_pump, other_line, waits_are, accounted_all}
 use Rattle.fit_examples.proofs.JobLaws.{neither}
 use Rattle.job_script.specs.declared.todo.Todo.TheVariants.{Job, Hold}
 use Rattle.transcript.specs.declared.piece.Piece.TheVariants.{Gone}
-use Rattle.app_job.specs.declared.why.Why.TheVariants.{State, Fetch}
+use Rattle.app_job.specs.declared.why.Why.TheVariants.{State, Fetch, Reply}
 use Rattle.fit_examples.specs.Groups.{two, at_x, five}
 use Rattle.std.specs.Prelude.{◌==◌, ◌++◌}
 use Rattle.script_fits.specs.JobLines.{commands_of}
 use Rattle.script_fits.specs.Walk.{with_line}
 use Rattle.plain_orders.specs.declared.act.Act.TheVariants.{Issue, Died}
 use Rattle.plain_orders.specs.declared.item.Item.TheVariants.{Op as OpItem}
-use Rattle.plain_orders.specs.declared.op.Op.TheVariants.{Set as SetOp}
+use Rattle.plain_orders.specs.declared.op.Op.TheVariants.{Set as SetOp, Add as AddOp}
 use Rattle.app_job.specs.declared.answer.Answer.TheVariants.{Queued, Waiting}
 use Rattle.fit_examples.specs.Groups.{says, place, ended}
-use Rattle.app_job.specs.declared.command.Command.TheVariants.{Set, Get}
+use Rattle.app_job.specs.declared.command.Command.TheVariants.{Set, Get, Incr}
 use Rattle.fit_examples.proofs.examples.piece_examples.Goals as goal
 
 pub returns : goal.returns
@@ -32,12 +32,12 @@ returns c = (
   λ f. absurd (cc f.gone),
   λ f. absurd (cc f.gone),
   λ f. absurd (cc f.gone),
-  record { middle = _ ∷ []; waiting = []; ticks = refl; deaths = refl; opened = refl; restarts = (refl, refl); halts = (omega arith, refl, refl, omega arith, tt); still = tt; pumps = refl; gone = refl; given = tt; answers = refl; places = tt; pieces = refl; no_wait = refl; only_waits = refl; waits = tt; accounted = (λ j. inr tt) },
-  λ f. absurd (cc f.halts.4.2),
-  λ f. absurd (cc f.halts.2),
+  record { middle = _ ∷ []; waiting = []; ticks = refl; deaths = refl; opened = refl; restarts = (refl, refl); halts = (omega arith, refl, refl, refl, omega arith, tt); still = tt; pumps = refl; gone = refl; given = tt; answers = refl; places = tt; pieces = refl; no_wait = refl; only_waits = refl; waits = tt; accounted = (λ j. inr tt) },
+  λ f. absurd (cc f.halts.5.3),
+  λ f. absurd (cc f.halts.3),
   λ f. absurd (cc f.halts.1),
   λ f. omega (arith, f.halts.0),
-  λ f. omega (arith, f.halts.3),
+  λ f. omega (arith, f.halts.4),
   record { middle = _ ∷ []; waiting = []; ticks = refl; deaths = refl; opened = refl; restarts = (refl, refl); halts = tt; still = (tt, tt); pumps = refl; gone = refl; given = (omega arith, tt); answers = refl; places = ((omega arith, omega arith), tt); pieces = refl; no_wait = refl; only_waits = refl; waits = tt; accounted = (let others : (j : ℕ) → (0 == j) ≡ false → commands_of j (record { line = 5; todo = Job 0 (Set at_x five) } ∷ []) ≡ [] = λ j e. rw e in accounted_all two (with_line (so_far met [] []) (record { line = 5; todo = Job 0 (Set at_x five) }) (record { acts = (Issue 0 5 0 1 (OpItem (SetOp at_x.key five)) ∷ []); pieces = (says 5 (Queued (place 0 1 ∷ [])) ∷ []); ends = (ended 5 (Queued (place 0 1 ∷ [])) 8 ∷ []) })) others (inr tt)) },
   λ f. other_line _ _ f.answers (λ e. omega (arith, e)),
   λ f. absurd (cc f.answers),
@@ -52,4 +52,11 @@ returns c = (
   record { middle = []; waiting = _ ∷ []; ticks = refl; deaths = refl; opened = refl; restarts = (refl, refl); halts = tt; still = tt; pumps = refl; gone = refl; given = tt; answers = refl; places = tt; pieces = refl; no_wait = refl; only_waits = refl; waits = (omega arith, record { alive = refl; its = (refl, search rules); another = (λ e. absurd (cc e)) }, tt); accounted = (let others : (j : ℕ) → (0 == j) ≡ false → commands_of j (record { line = 4; todo = Job 0 (Get at_x) } ∷ record { line = 5; todo = Hold } ∷ []) ≡ [] = λ j e. rw e in accounted_all two (with_line (so_far met (record { line = 4; todo = Job 0 (Get at_x) } ∷ []) (says 4 (Waiting Fetch) ∷ [])) (record { line = 5; todo = Hold }) (record { acts = ([]); pieces = (says 4 (Waiting State) ∷ []); ends = ([]) })) others (inr refl)) },
   λ f. (waits_are _ _ _ _ f).1.its,
   λ f. absurd (cc (waits_are _ _ _ _ f).1.alive),
+  record { middle = _ ∷ []; waiting = []; ticks = refl; deaths = refl; opened = refl; restarts = (refl, refl); halts = (omega arith, refl, refl, refl, omega arith, tt); still = tt; pumps = refl; gone = refl; given = tt; answers = refl; places = tt; pieces = refl; no_wait = refl; only_waits = refl; waits = tt; accounted = (λ j. inr tt) },
+  record { middle = _ ∷ []; waiting = []; ticks = refl; deaths = refl; opened = refl; restarts = (refl, refl); halts = (omega arith, refl, refl, refl, omega arith, tt); still = tt; pumps = refl; gone = refl; given = tt; answers = refl; places = tt; pieces = refl; no_wait = refl; only_waits = refl; waits = tt; accounted = (λ j. inr tt) },
+  λ f. absurd (cc f.halts.2),
+  λ f. absurd (cc f.halts.2),
+  record { middle = []; waiting = _ ∷ []; ticks = refl; deaths = refl; opened = refl; restarts = (refl, refl); halts = tt; still = (tt, tt); pumps = refl; gone = refl; given = (omega arith, tt); answers = refl; places = tt; pieces = refl; no_wait = refl; only_waits = refl; waits = (omega arith, record { alive = refl; its = (refl, search rules); another = (λ e. absurd (cc e)) }, tt); accounted = (let others : (j : ℕ) → (0 == j) ≡ false → commands_of j (record { line = 5; todo = Job 0 (Incr at_x (pos 3)) } ∷ []) ≡ [] = λ j e. rw e in accounted_all two (with_line (so_far met [] []) (record { line = 5; todo = Job 0 (Incr at_x (pos 3)) }) (record { acts = (Issue 0 5 0 1 (OpItem (AddOp at_x.key (pos 3))) ∷ []); pieces = (says 5 (Waiting Reply) ∷ []); ends = ([]) })) others (inr refl)) },
+  λ f. search (rules, waits_are _ _ _ _ f),
+  λ f. search (rules, waits_are _ _ _ _ f),
 )

@@ -3,6 +3,7 @@ use Rattle.std.specs.Prelude.{false, true}
 use Rattle.script_fits.specs.Locking.{no_past}
 use Rattle.fit_examples.specs.Groups.{two, past_with, held_x}
 use Rattle.std.specs.Prelude.{pos}
+use Rattle.fit_examples.proofs.Hearing.{told_both}
 use Rattle.fit_examples.proofs.PartLaws.{no_refusal, not_refused}
 use Rattle.plain_orders.specs.declared.refused.Refused.TheVariants.{NoTransaction, TooDeep, RollbackOnly, LockTimeout, Network}
 use Rattle.plain_orders.specs.declared.refused.ReasonName.TheVariants.{Reset}
@@ -36,7 +37,7 @@ returns c = (
   no_refusal two 0 5 (Incr at_x (pos 3)) no_past (_ ∷ _ ∷ []) _ (Network 0 Recovery Reset) _ _ refl (search rules),
   (_ ∷ _ ∷ _ ∷ [], _, Network 0 Recovery Reset, refl, inr ((refl, (refl, (refl, tt))), (_, (_, _, refl, refl), refl), (_, _, (_, _, refl, refl), omega arith, refl, (λ e. absurd (cc e)), record { issued = _ ∷ _ ∷ []; given = []; closing = _; whole = refl; together = (refl, (refl, (tt, tt))); items = (2, _, _, refl, refl, (2, [], [], refl, refl, (refl, refl))); unlocks = refl; level = refl })), refl, ((2, refl), inr (inl (λ e. absurd (cc e)))), (ResetReason 3, refl, refl)),
   no_refusal two 0 5 (Commit false) no_past (_ ∷ _ ∷ _ ∷ []) _ (Network 0 Recovery Reset) _ _ refl (search rules),
-  (_ ∷ _ ∷ _ ∷ [], _, Network 0 Recovery Reset, refl, inr (_, _, (_, _, refl, refl), omega arith, refl, (λ e. absurd (cc e)), record { issued = _ ∷ _ ∷ []; given = []; closing = _; whole = refl; together = (refl, (refl, (tt, tt))); items = (2, _, _, refl, refl, (2, [], [], refl, refl, (refl, refl))); unlocks = refl; level = refl }), refl, ((2, refl), inr (inl (λ e. absurd (cc e)))), (ResetReason 3, refl, refl)),
+  (_ ∷ _ ∷ _ ∷ [], _, Network 0 Recovery Reset, refl, inr ((_, _, (_, _, refl, refl), omega arith, refl, (λ e. absurd (cc e)), record { issued = _ ∷ _ ∷ []; given = []; closing = _; whole = refl; together = (refl, (refl, (tt, tt))); items = (2, _, _, refl, refl, (2, [], [], refl, refl, (refl, refl))); unlocks = refl; level = refl }), (_, (_, _, refl, refl), λ d u. told_both d)), refl, ((2, refl), inr (inl (λ e. absurd (cc e)))), (ResetReason 3, refl, refl)),
   no_refusal two 0 5 (Commit true) no_past [] _ (Network 1 Recovery Reset) _ _ refl (λ f. no_update f.1.0),
   ([], _, NoTransaction, refl, inl (refl, refl), refl, (refl, refl), refl),
   ([], _, NoTransaction, refl, inl (refl, refl), refl, (refl, refl), refl),

@@ -29,4 +29,6 @@ returns c = (
   search rules,
   no_commit two 0 5 false no_past _ _ _ _ (0 ∷ 1 ∷ []) refl refl (search rules),
   no_commit two 0 5 true no_past _ _ _ _ (0 ∷ 1 ∷ []) refl refl (search rules),
+  (tt, (tt, (tt, (tt, (tt, (tt, (tt, (tt, (tt, (tt, (tt, (refl, tt)))))))))))),
+  λ f. absurd (cc f.1.1.1.1.1.1.1.1.1.1.1.1.1.1.0),
 )
