@@ -95,7 +95,11 @@ pub record TakesResume (b : Sofar) (conn now app session epoch taken dial : ℕ)
   pub same : epoch ≡ last_epoch b.state.order
   pub after : c ≡ goes_on session conn taken (resumes app session dial conn now b)
 
--- a live session, in an older epoch: both ends number from 1 again, and the Welcome leaves once this epoch is synced
+-- the session goes on in a new epoch: both ends number from 1 again, and the Welcome leaves once the Epoch is synced
+abbrev pub comes_again : ℕ → ℕ → ℕ → Sofar → Sofar
+comes_again session conn kept b = replies (epoch_place b.state.order) (EpochWelcome conn session kept) (becomes (with_window session fresh) b)
+
+-- a live session, in an older epoch; so many entries stand before the first Epoch that its other end wasn't told
 pub record TakesReturn (b : Sofar) (conn now app session epoch dial : ℕ) (c : Sofar) : Type 0 where
   pub its : app_in b.state.order session ≡ Some app
   pub later : dial_of b.state app ≤ dial
@@ -103,7 +107,7 @@ pub record TakesReturn (b : Sofar) (conn now app session epoch dial : ℕ) (c : 
   pub older : epoch < last_epoch b.state.order
   pub kept : ℕ
   pub known : place_of_epoch epoch 0 b.state.order ≡ Some kept
-  pub after : c ≡ replies (epoch_place b.state.order) (EpochWelcome conn session kept) (becomes (with_window session fresh) (resumes app session dial conn now b))
+  pub after : c ≡ comes_again session conn kept (resumes app session dial conn now b)
 
 -- a closed session, in an epoch that is begun: it is answered once its Close is synced
 pub record TakesGone (b : Sofar) (conn app session epoch dial : ℕ) (c : Sofar) : Type 0 where

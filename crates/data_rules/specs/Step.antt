@@ -107,4 +107,3 @@ pub record StartMay (entries : List Entry) : Type 0 where
 -- What a start makes: it puts nothing and writes nothing.
 abbrev pub DataStart : ℕ → Times → List Entry → ℕ → DataOuts → DataState → Type 0
 DataStart server times entries now outs new = made new outs ≡ begun (started server times entries now)
-
