@@ -2,17 +2,22 @@
 use Rattle.std.specs.Prelude.{ℕ, List, [], ◌∷◌, replicate, set}
 use Rattle.plain_orders.specs.declared.layout.Times.{Times}
 use Rattle.plain_orders.specs.declared.act.Act.{Act}
-use Rattle.plain_orders.specs.declared.entry.Entry.TheVariants.{Epoch, Opened}
+use Rattle.plain_orders.specs.declared.entry.Entry.TheVariants.{Epoch, Opened, Update as Updated}
+use Rattle.plain_orders.specs.declared.op.Op.TheVariants.{Set}
+use Rattle.subscript_keys.specs.declared.run.Run.{Run}
 use Rattle.link_states.specs.declared.data_link.DataLink.TheVariants.{Free, Normal}
 use Rattle.ecp_messages.specs.declared.front.Front.{Front}
 use Rattle.ecp_messages.specs.declared.up.Up.{Up}
+use Rattle.ecp_messages.specs.declared.up.Up.TheVariants.{Update}
+use Rattle.ecp_messages.specs.declared.down.Down.{Down}
+use Rattle.ecp_messages.specs.declared.down.Down.TheVariants.{Block, Drop}
 use Rattle.ecp_messages.specs.declared.up.UpFrame.{UpFrame}
 use Rattle.end_words.specs.Windows.{fresh}
 use Rattle.data_rules.specs.declared.data_outs.DataOuts.{DataOuts}
 use Rattle.data_rules.specs.declared.down_frames.DownOut.{DownOut}
 use Rattle.data_rules.specs.declared.rows.Role.TheVariants.{New, Bound}
 use Rattle.data_rules.specs.declared.rows.Says.TheVariants.{NewWelcome}
-use Rattle.data_rules.specs.DataState.{DataState}
+use Rattle.data_rules.specs.DataState.{DataState, SessionWindow}
 use Rattle.data_rules.specs.Step.{started}
 
 -- times of some ticks
@@ -55,6 +60,44 @@ greeted =
 abbrev pub welcomed : DataState
 welcomed = record greeted { synced = 2; replies = [] }
 
--- connection 8 is accepted then
+-- the window of a session: what was acknowledged, what was sent after that, what was taken, and how many of these since a frame was put
+abbrev pub window_at : ℕ → ℕ → List Down → ℕ → ℕ → SessionWindow
+window_at session acked waiting taken since =
+    record { session = session; window = record { acked = acked; waiting = waiting; taken = taken; since = since } }
+
+-- the key of ^x
+abbrev pub x_key : List ℕ
+x_key = 120 ∷ 0 ∷ []
+
+-- the run over all keys of a list that has no pair
+abbrev pub whole_run : Run
+whole_run = record { span = record { lo = []; hi = 255 ∷ [] }; pairs = [] }
+
+-- its block
+abbrev pub whole_block : List ℕ
+whole_block = 1 ∷ 0 ∷ 0 ∷ 0 ∷ 1 ∷ 255 ∷ 0 ∷ 0 ∷ []
+
+-- the session fetched ^x: it was sent the run over all keys, which is noted
+abbrev pub fetched : DataState
+fetched =
+    record welcomed {
+      windows = window_at 2 0 (Block (head 2 0 0) whole_block ∷ []) 1 0 ∷ [];
+      noted = record { session = 2; span = whole_run.span } ∷ [];
+    }
+
+-- the update with this running number sets ^x to 5
+abbrev pub set_x : ℕ → Up
+set_x w = Update w 0 0 (Set x_key (53 ∷ []))
+
+-- it set ^x, which drops the run
+abbrev pub updated : DataState
+updated =
+    record fetched {
+      order = Epoch 1 ∷ Opened 2 1 ∷ Updated 2 1 0 0 (Set x_key (53 ∷ [])) ∷ [];
+      windows = window_at 2 1 (Drop (head 3 1 0) [] (255 ∷ []) ∷ []) 2 0 ∷ [];
+      noted = [];
+    }
+
+-- connection 8 is accepted while connection 7 is there
 abbrev pub accepted_more : DataState
 accepted_more = record welcomed { conns = record { number = 7; role = Bound 2 } ∷ record { number = 8; role = New } ∷ [] }
