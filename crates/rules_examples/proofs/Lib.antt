@@ -1,3 +1,4 @@
 mod Keys
 mod HelloCases
 mod ItemCases
+mod ResumeCases

@@ -1,3 +1,4 @@
 pub mod Servers
 pub mod HelloExamples
 pub mod ItemExamples
+pub mod ResumeExamples
