@@ -2,3 +2,5 @@ mod Keys
 mod HelloCases
 mod ItemCases
 mod ResumeCases
+mod LockCases
+mod RoundCases
