@@ -4,3 +4,4 @@ mod ItemCases
 mod ResumeCases
 mod LockCases
 mod RoundCases
+mod AnswerCases

@@ -19,9 +19,9 @@ abbrev pub noted_more : DataState
 noted_more =
     record fetched {
       noted =
-        record { session = 2; span = whole_run.span } ∷
-        record { session = 2; span = record { lo = 121 ∷ []; hi = 122 ∷ [] } } ∷
-        record { session = 2; span = record { lo = 120 ∷ []; hi = 121 ∷ [] } } ∷ [];
+          record { session = 2; span = whole_run.span } ∷
+          record { session = 2; span = record { lo = 121 ∷ []; hi = 122 ∷ [] } } ∷
+          record { session = 2; span = record { lo = 120 ∷ []; hi = 121 ∷ [] } } ∷ [];
     }
 
 -- the connection of the session was ended at the moment 4
@@ -45,11 +45,11 @@ UpdateExamples =
     DataStep fetched 4 (Frame 7 (up 2 1 (set_x 1))) (outs (frame_on 7 2 2 (Drop (head 3 1 0) [] (255 ∷ [])) ∷ []) [] (Enter 0 (entries.Update 2 1 0 0 (Set x_key (53 ∷ []))) ∷ [])) updated
     -- two spans of one session: the first Drop carries the length before the entry
     × DataStep noted_more 4 (Frame 7 (up 2 1 (set_x 1)))
-        (outs (frame_on 7 2 2 (Drop (head 2 0 0) [] (255 ∷ [])) ∷ frame_on 7 3 2 (Drop (head 3 1 0) (120 ∷ []) (121 ∷ [])) ∷ []) [] (Enter 0 (entries.Update 2 1 0 0 (Set x_key (53 ∷ []))) ∷ []))
-        (record updated {
-          windows = window_at 2 1 (Drop (head 2 0 0) [] (255 ∷ []) ∷ Drop (head 3 1 0) (120 ∷ []) (121 ∷ []) ∷ []) 2 0 ∷ [];
-          noted = record { session = 2; span = record { lo = 121 ∷ []; hi = 122 ∷ [] } } ∷ [];
-        })
+    (outs (frame_on 7 2 2 (Drop (head 2 0 0) [] (255 ∷ [])) ∷ frame_on 7 3 2 (Drop (head 3 1 0) (120 ∷ []) (121 ∷ [])) ∷ []) [] (Enter 0 (entries.Update 2 1 0 0 (Set x_key (53 ∷ []))) ∷ []))
+    (record updated {
+      windows = window_at 2 1 (Drop (head 2 0 0) [] (255 ∷ []) ∷ Drop (head 3 1 0) (120 ∷ []) (121 ∷ []) ∷ []) 2 0 ∷ [];
+      noted = record { session = 2; span = record { lo = 121 ∷ []; hi = 122 ∷ [] } } ∷ [];
+    })
     -- fits: it isn't the next
     × ((c : Sofar) → TakesItem (begun fetched) 2 2 (entries.Update 2 2 0 0 (Set x_key (53 ∷ []))) c → ⊥)
     × DataStep fetched 4 (Frame 7 (up 2 1 (set_x 2))) (outs [] (7 ∷ []) (Broke 1 0 Server 4 ∷ [])) (cut_off fetched)
@@ -67,4 +67,4 @@ UpdateExamples =
     × DataStep fetched 4 (Frame 9 (up 2 1 (set_x 1))) (outs [] [] []) fetched
     -- its save
     × DataStep updated 4 (Saved 3) (outs (frame_on 7 3 2 (Ack (head 3 1 1)) ∷ []) [] (Synced 0 3 ∷ []))
-        (record updated { synced = 3; windows = window_at 2 1 (Drop (head 3 1 0) [] (255 ∷ []) ∷ Ack (head 3 1 1) ∷ []) 2 0 ∷ [] })
+    (record updated { synced = 3; windows = window_at 2 1 (Drop (head 3 1 0) [] (255 ∷ []) ∷ Ack (head 3 1 1) ∷ []) 2 0 ∷ [] })

@@ -4,3 +4,4 @@ pub mod ItemExamples
 pub mod ResumeExamples
 pub mod LockExamples
 pub mod RoundExamples
+pub mod AnswerExamples

@@ -66,46 +66,46 @@ since n = record waiting { windows = window_at 2 1 [] 70 n ∷ [] }
 abbrev pub AskExamples : Type 0
 AskExamples =
     DataStep welcomed 0 (Frame 7 (up 1 0 (Ask 1 0 Exclusive a_key)))
-        (outs (frame_on 7 1 1 (Granted (head 2 0 0) 1 2) ∷ []) [] (Grant 0 2 0 Exclusive a_key 2 ∷ [])) held
+    (outs (frame_on 7 1 1 (Granted (head 2 0 0) 1 2) ∷ []) [] (Grant 0 2 0 Exclusive a_key 2 ∷ [])) held
     -- it conflicts with a hold
     × DataStep held 0 (Frame 7 (up 2 1 (Ask 2 1 Exclusive a_key))) (outs [] [] []) waiting
     -- it conflicts with an earlier request, but the asker has a hold of the very name
     × DataStep waiting 0 (Frame 7 (up 3 1 (Ask 3 0 Exclusive a_key)))
-        (outs (frame_on 7 2 3 (Granted (head 2 0 0) 3 2) ∷ []) [] (Grant 0 2 0 Exclusive a_key 2 ∷ []))
-        (record waiting {
-          windows = window_at 2 1 (Granted (head 2 0 0) 3 2 ∷ []) 3 0 ∷ [];
-          locks = record { holds = holds 0 2 2 ∷ []; requests = asks 1 2 ∷ []; granted = asks 0 1 ∷ asks 0 3 ∷ [] };
-        })
+    (outs (frame_on 7 2 3 (Granted (head 2 0 0) 3 2) ∷ []) [] (Grant 0 2 0 Exclusive a_key 2 ∷ []))
+    (record waiting {
+      windows = window_at 2 1 (Granted (head 2 0 0) 3 2 ∷ []) 3 0 ∷ [];
+      locks = record { holds = holds 0 2 2 ∷ []; requests = asks 1 2 ∷ []; granted = asks 0 1 ∷ asks 0 3 ∷ [] };
+    })
     -- its Grant waits for the save, and leaves before the Ack
     × DataStep updated 0 (Frame 7 (up 3 2 (Ask 1 0 Exclusive a_key))) (outs [] [] (Grant 0 2 0 Exclusive a_key 3 ∷ [])) gated
     × DataStep gated 0 (Saved 3) (outs (frame_on 7 3 3 (Granted (head 3 1 1) 1 3) ∷ frame_on 7 4 3 (Ack (head 3 1 1)) ∷ []) [] (Synced 0 3 ∷ []))
-        (record gated { synced = 3; windows = window_at 2 2 (Granted (head 3 1 1) 1 3 ∷ Ack (head 3 1 1) ∷ []) 3 0 ∷ []; replies = [] })
+    (record gated { synced = 3; windows = window_at 2 2 (Granted (head 3 1 1) 1 3 ∷ Ack (head 3 1 1) ∷ []) 3 0 ∷ []; replies = [] })
 
 -- a lock is given up or cancelled
 abbrev pub FreeExamples : Type 0
 FreeExamples =
     DataStep waiting 0 (Frame 7 (up 3 1 (Unlock 0 Exclusive a_key)))
-        (outs (frame_on 7 2 3 (Granted (head 2 0 0) 2 2) ∷ []) [] (Free 0 2 0 Exclusive a_key ∷ Grant 0 2 1 Exclusive a_key 2 ∷ [])) handed
+    (outs (frame_on 7 2 3 (Granted (head 2 0 0) 2 2) ∷ []) [] (Free 0 2 0 Exclusive a_key ∷ Grant 0 2 1 Exclusive a_key 2 ∷ [])) handed
     -- it isn't held
     × DataStep waiting 0 (Frame 7 (up 3 1 (Unlock 1 Exclusive a_key))) (outs [] [] []) (record waiting { windows = window_at 2 1 [] 3 2 ∷ [] })
     -- a request that waits is cancelled
     × DataStep waiting 0 (Frame 7 (up 3 1 (Cancel 2))) (outs [] [] (Free 0 2 1 Exclusive a_key ∷ []))
-        (record waiting {
-          windows = window_at 2 1 [] 3 2 ∷ [];
-          locks = record { holds = holds 0 1 2 ∷ []; requests = []; granted = asks 0 1 ∷ [] };
-        })
+    (record waiting {
+      windows = window_at 2 1 [] 3 2 ∷ [];
+      locks = record { holds = holds 0 1 2 ∷ []; requests = []; granted = asks 0 1 ∷ [] };
+    })
     -- a Cancel comes after the Grant left
     × DataStep handed 0 (Frame 7 (up 4 1 (Cancel 2))) (outs [] [] (Free 0 2 1 Exclusive a_key ∷ []))
-        (record handed {
-          windows = window_at 2 1 (Granted (head 2 0 0) 2 2 ∷ []) 4 1 ∷ [];
-          locks = record { holds = []; requests = []; granted = asks 0 1 ∷ [] };
-        })
+    (record handed {
+      windows = window_at 2 1 (Granted (head 2 0 0) 2 2 ∷ []) 4 1 ∷ [];
+      locks = record { holds = []; requests = []; granted = asks 0 1 ∷ [] };
+    })
     -- a ticket whose hold is gone
     × DataStep handed 0 (Frame 7 (up 4 1 (Cancel 1))) (outs [] [] [])
-        (record handed {
-          windows = window_at 2 1 (Granted (head 2 0 0) 2 2 ∷ []) 4 1 ∷ [];
-          locks = record { holds = holds 1 1 2 ∷ []; requests = []; granted = asks 1 2 ∷ [] };
-        })
+    (record handed {
+      windows = window_at 2 1 (Granted (head 2 0 0) 2 2 ∷ []) 4 1 ∷ [];
+      locks = record { holds = holds 1 1 2 ∷ []; requests = []; granted = asks 1 2 ∷ [] };
+    })
     -- no such ticket; the sixty-fourth message without a frame is acknowledged by itself, and none before
     × DataStep (since 62) 0 (Frame 7 (up 71 1 (Cancel 9))) (outs [] [] []) (record waiting { windows = window_at 2 1 [] 71 63 ∷ [] })
     × DataStep (since 63) 0 (Frame 7 (up 71 1 (Cancel 9))) (outs (frame_on 7 0 71 Bare ∷ []) [] []) (record waiting { windows = window_at 2 1 [] 71 0 ∷ [] })

@@ -59,7 +59,7 @@ ResumeExamples =
     × DataStep fetched 3 (Broken 9) (outs [] [] []) fetched
     -- a Recover of an end that took nothing: the Block is sent again
     × DataStep accepted_again 5 (Frame 8 (up 0 0 (Recover 1 2 1 0 2)))
-        (outs (frame_on 8 0 1 (Welcome 2 1 2 (head 2 0 0) 1) ∷ frame_on 8 1 1 (Block (head 2 0 0) whole_block) ∷ []) [] []) resumed
+    (outs (frame_on 8 0 1 (Welcome 2 1 2 (head 2 0 0) 1) ∷ frame_on 8 1 1 (Block (head 2 0 0) whole_block) ∷ []) [] []) resumed
     -- of one that took it
     × DataStep accepted_again 5 (Frame 8 (up 0 1 (Recover 1 2 1 1 2))) (outs (frame_on 8 0 1 (Welcome 2 1 2 (head 2 0 0) 1) ∷ []) [] []) resumed
     -- of one that took more than was sent
@@ -84,7 +84,7 @@ ResumeExamples =
     × ((c : Sofar) → TakesGone (begun accepted_again) 8 1 2 1 2 c → ⊥)
     -- a later Hello or Recover ends its connection
     × DataStep resumed 5 (Frame 8 (up 0 0 (Recover 1 2 1 0 2))) (outs [] (8 ∷ []) (Broke 1 0 Server 5 ∷ []))
-        (record resumed { conns = []; links = set (replicate 256 Free) 1 (Trouble 5) })
+    (record resumed { conns = []; links = set (replicate 256 Free) 1 (Trouble 5) })
 
 -- a Recover of a closed session
 abbrev pub GoneExamples : Type 0
@@ -97,7 +97,7 @@ GoneExamples =
     × DataStep given_up 5 (Frame 9 (up 1 7 Done)) (outs [] [] []) given_up
     -- its Close is saved: the locks go, the Reset leaves, and the Welcome waits for its own place
     × DataStep given_up 5 (Saved 3) (outs (frame_on 9 0 0 (Reset 2 3) ∷ []) [] (Synced 0 3 ∷ Release 0 2 ∷ []))
-        (record given_up { synced = 3; replies = record { at = 4; says = NewWelcome 8 4 } ∷ [] })
+    (record given_up { synced = 3; replies = record { at = 4; says = NewWelcome 8 4 } ∷ [] })
     -- all is saved: both leave, in the order in which they were made
     × DataStep given_up 5 (Saved 4) (outs (frame_on 8 0 0 (Welcome 4 1 4 (head 4 0 0) 0) ∷ frame_on 9 0 0 (Reset 2 3) ∷ []) [] (Synced 0 4 ∷ Release 0 2 ∷ []))
-        (record given_up { synced = 4; replies = [] })
+    (record given_up { synced = 4; replies = [] })

@@ -123,9 +123,9 @@ overdue =
       replies = record { at = 5; says = ResetOf 3 2 5 } ∷ [];
     }
 
--- the session was done, its connection ended, and the round goes on
+-- the session is done and its connection ended, and the round is to end
 abbrev pub away : DataState
-away = record told { conns = [] }
+away = record told { conns = []; round = Some (record { awaited = []; due = 70 }) }
 
 -- a start and its round
 abbrev pub RoundExamples : Type 0
@@ -135,12 +135,12 @@ RoundExamples =
     × DataStep reached 20 (Frame 3 (up 0 0 (Recover 1 2 1 0 3))) (outs [] [] []) returned
     -- once more before its Welcome left, on a newer connection: the older one is cut, and its Welcome with it
     × DataStep (record returned { conns = record { number = 3; role = Bound 2 } ∷ record { number = 4; role = New } ∷ [] }) 20 (Frame 4 (up 0 0 (Recover 1 2 1 0 4)))
-        (outs [] (3 ∷ []) [])
-        (record returned {
-          dials = set (replicate 256 0) 1 4;
-          conns = record { number = 4; role = Bound 2 } ∷ [];
-          replies = record { at = 4; says = EpochWelcome 4 2 3 } ∷ [];
-        })
+    (outs [] (3 ∷ []) [])
+    (record returned {
+      dials = set (replicate 256 0) 1 4;
+      conns = record { number = 4; role = Bound 2 } ∷ [];
+      replies = record { at = 4; says = EpochWelcome 4 2 3 } ∷ [];
+    })
     -- the Epoch is saved: the Welcome leaves
     × DataStep returned 20 (Saved 4) (outs (frame_on 3 0 0 (Welcome 2 2 3 (head 4 1 1) 0) ∷ []) [] (Synced 0 4 ∷ [])) told
     -- a Claim
@@ -167,22 +167,13 @@ TickExamples =
     × DataStep told 70 Tick (outs [] [] (Shut 0 2 (shuts.Round 70) ∷ [])) overdue
     -- a Reset leaves once the Close is saved, and the round is over
     × DataStep overdue 71 (Saved 5) (outs (frame_on 3 0 0 (Reset 2 5) ∷ []) [] (Synced 0 5 ∷ Release 0 2 ∷ Back 0 ∷ []))
-        (record overdue { synced = 5; round = None; replies = [] })
-    -- a session that isn't connected when the round is over
-    × DataStep (record overdue { order = journal; synced = 3; links = second (Recovering 70); conns = []; replies = [] }) 71 (Saved 3)
-        (outs [] [] (Back 0 ∷ Broke 1 0 Server 71 ∷ []))
-        (record overdue {
-          order = journal;
-          synced = 3;
-          links = second (Trouble 71);
-          conns = [];
-          windows = window_at 2 0 (IsNormal (head 3 1 1) ∷ []) 0 0 ∷ [];
-          round = None;
-          replies = [];
-        })
+    (record overdue { synced = 5; round = None; replies = [] })
+    -- the round ends for a session that isn't connected
+    × DataStep away 71 (Saved 4) (outs [] [] (Back 0 ∷ Broke 1 0 Server 71 ∷ []))
+    (record away { links = second (Trouble 71); windows = window_at 2 0 (IsNormal (head 4 1 1) ∷ []) 0 0 ∷ []; round = None })
     -- an end that is broken for less than the time, and for the time
     × DataStep broken 62 Tick (outs [] [] []) broken
     × DataStep broken 63 Tick (outs [] [] (Shut 0 2 (shuts.Trouble 63) ∷ []))
-        (record broken { order = Epoch 1 ∷ Opened 2 1 ∷ Closed 2 ∷ []; links = second Free; windows = []; noted = [] })
+    (record broken { order = Epoch 1 ∷ Opened 2 1 ∷ Closed 2 ∷ []; links = second Free; windows = []; noted = [] })
     -- an end that isn't
     × DataStep fetched 1000 Tick (outs [] [] []) fetched
