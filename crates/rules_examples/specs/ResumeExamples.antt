@@ -5,6 +5,7 @@ use Rattle.plain_orders.specs.declared.causes.PairEnd.TheVariants.{Server}
 use Rattle.link_states.specs.declared.data_link.DataLink.TheVariants.{Free, Normal, Trouble}
 use Rattle.ecp_messages.specs.declared.down.Down.TheVariants.{Welcome, Reset, Block}
 use Rattle.ecp_messages.specs.declared.up.Up.TheVariants.{Recover, Done}
+use Rattle.data_rules.specs.declared.limits.TheConstants.{APP_LIMIT}
 use Rattle.data_rules.specs.declared.data_in.DataIn.TheVariants.{Frame, Connected, Broken, Saved}
 use Rattle.data_rules.specs.declared.rows.Role.TheVariants.{New, Bound, Closing}
 use Rattle.data_rules.specs.declared.rows.Says.TheVariants.{NewWelcome, ResetOf}
@@ -17,7 +18,7 @@ use Rattle.rules_examples.specs.HelloExamples.{replaced}
 
 -- the connection of the session that fetched ^x ended at the moment 3
 abbrev pub broken : DataState
-broken = record fetched { conns = []; links = set (replicate 256 Free) 1 (Trouble 3) }
+broken = record fetched { conns = []; links = set (replicate APP_LIMIT Free) 1 (Trouble 3) }
 
 -- connection 8 was accepted then
 abbrev pub accepted_again : DataState
@@ -28,8 +29,8 @@ abbrev pub resumed : DataState
 resumed =
     record fetched {
       conns = record { number = 8; role = Bound 2 } ∷ [];
-      dials = set (replicate 256 0) 1 2;
-      links = set (replicate 256 Free) 1 Normal;
+      dials = set (replicate APP_LIMIT 0) 1 2;
+      links = set (replicate APP_LIMIT Free) 1 Normal;
     }
 
 -- connection 8 was accepted before connection 7 ended
@@ -45,7 +46,7 @@ abbrev pub given_up : DataState
 given_up =
     record accepted_late {
       conns = record { number = 8; role = Bound 4 } ∷ record { number = 9; role = Closing 2 } ∷ [];
-      dials = set (replicate 256 0) 1 3;
+      dials = set (replicate APP_LIMIT 0) 1 3;
       replies = record { at = 4; says = NewWelcome 8 4 } ∷ record { at = 3; says = ResetOf 9 2 3 } ∷ [];
     }
 
@@ -84,7 +85,7 @@ ResumeExamples =
     × ((c : Sofar) → TakesGone (begun accepted_again) 8 1 2 1 2 c → ⊥)
     -- a later Hello or Recover ends its connection
     × DataStep resumed 5 (Frame 8 (up 0 0 (Recover 1 2 1 0 2))) (outs [] (8 ∷ []) (Broke 1 0 Server 5 ∷ []))
-    (record resumed { conns = []; links = set (replicate 256 Free) 1 (Trouble 5) })
+    (record resumed { conns = []; links = set (replicate APP_LIMIT Free) 1 (Trouble 5) })
 
 -- a Recover of a closed session
 abbrev pub GoneExamples : Type 0

@@ -12,6 +12,7 @@ use Rattle.link_states.specs.declared.data_link.DataLink.TheVariants.{Free, Norm
 use Rattle.ecp_messages.specs.declared.down.Down.TheVariants.{Welcome, Reset, Normal as IsNormal}
 use Rattle.ecp_messages.specs.declared.up.Up.TheVariants.{Hello, Recover, Claim, Done}
 use Rattle.end_words.specs.Windows.{fresh}
+use Rattle.data_rules.specs.declared.limits.TheConstants.{APP_LIMIT}
 use Rattle.data_rules.specs.declared.data_in.DataIn.TheVariants.{Frame, Tick, Saved}
 use Rattle.data_rules.specs.declared.rows.Role.TheVariants.{New, Waiting, Bound, Closing}
 use Rattle.data_rules.specs.declared.rows.Says.TheVariants.{NewWelcome, EpochWelcome, ResetOf}
@@ -29,7 +30,7 @@ journal = Epoch 1 ∷ Opened 2 1 ∷ Update 2 1 0 0 (Set x_key (53 ∷ [])) ∷ 
 
 -- the ends of the application servers, where the first has none and the second is in this state
 abbrev pub second : DataLink → List DataLink
-second link = set (replicate 256 Free) 1 link
+second link = set (replicate APP_LIMIT Free) 1 link
 
 -- data server 0 started from it at the moment 10
 abbrev pub restarted : DataState
@@ -40,7 +41,7 @@ restarted =
       order = Epoch 1 ∷ Opened 2 1 ∷ Update 2 1 0 0 (Set x_key (53 ∷ [])) ∷ Epoch 2 ∷ [];
       synced = 3;
       links = second (Recovering 70);
-      dials = replicate 256 0;
+      dials = replicate APP_LIMIT 0;
       conns = [];
       callers = [];
       windows = [];
@@ -58,11 +59,15 @@ reached = record restarted { conns = record { number = 3; role = New } ∷ [] }
 abbrev pub returned : DataState
 returned =
     record restarted {
-      dials = set (replicate 256 0) 1 3;
+      dials = set (replicate APP_LIMIT 0) 1 3;
       conns = record { number = 3; role = Bound 2 } ∷ [];
       windows = record { session = 2; window = fresh } ∷ [];
       replies = record { at = 4; says = EpochWelcome 3 2 3 } ∷ [];
     }
+
+-- connection 4 was accepted then
+abbrev pub reached_again : DataState
+reached_again = record returned { conns = record { number = 3; role = Bound 2 } ∷ record { number = 4; role = New } ∷ [] }
 
 -- the Epoch is saved
 abbrev pub told : DataState
@@ -73,7 +78,7 @@ abbrev pub claimed_x : DataState
 claimed_x =
     record told {
       windows = window_at 2 0 [] 1 1 ∷ [];
-      locks = record { holds = record { who = record { session = 2; job = 0 }; name = x_key; mode = Exclusive; count = 2; at = 3 } ∷ []; requests = []; granted = [] };
+      locks = record no_locks { holds = record { who = record { session = 2; job = 0 }; name = x_key; mode = Exclusive; count = 2; at = 3 } ∷ [] };
     }
 
 -- the round is over
@@ -93,7 +98,7 @@ called = record claimed_x { conns = record { number = 3; role = Bound 2 } ∷ re
 abbrev pub called_on : DataState
 called_on =
     record called {
-      dials = set (set (replicate 256 0) 1 3) 0 1;
+      dials = set (set (replicate APP_LIMIT 0) 1 3) 0 1;
       conns = record { number = 3; role = Bound 2 } ∷ record { number = 4; role = Waiting } ∷ [];
       callers = record { conn = 4; app = 0 } ∷ [];
     }
@@ -134,10 +139,10 @@ RoundExamples =
     -- a Recover
     × DataStep reached 20 (Frame 3 (up 0 0 (Recover 1 2 1 0 3))) (outs [] [] []) returned
     -- once more before its Welcome left, on a newer connection: the older one is cut, and its Welcome with it
-    × DataStep (record returned { conns = record { number = 3; role = Bound 2 } ∷ record { number = 4; role = New } ∷ [] }) 20 (Frame 4 (up 0 0 (Recover 1 2 1 0 4)))
+    × DataStep reached_again 20 (Frame 4 (up 0 0 (Recover 1 2 1 0 4)))
     (outs [] (3 ∷ []) [])
     (record returned {
-      dials = set (replicate 256 0) 1 4;
+      dials = set (replicate APP_LIMIT 0) 1 4;
       conns = record { number = 4; role = Bound 2 } ∷ [];
       replies = record { at = 4; says = EpochWelcome 4 2 3 } ∷ [];
     })
