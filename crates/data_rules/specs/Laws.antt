@@ -6,7 +6,10 @@ use Rattle.data_rules.specs.declared.data_in.DataIn.{DataIn}
 use Rattle.data_rules.specs.declared.data_in.DataIn.TheVariants.{Frame, Connected, Broken, Tick, Saved}
 use Rattle.data_rules.specs.declared.data_outs.DataOuts.{DataOuts}
 use Rattle.data_rules.specs.DataState.{DataState}
-use Rattle.data_rules.specs.Puts.{Sofar}
+use Rattle.ecp_messages.specs.declared.down.Down.{Down}
+use Rattle.end_words.specs.Windows.{Window}
+use Rattle.end_words.specs.Laws.{WindowsAgree}
+use Rattle.data_rules.specs.Puts.{Sofar, body_of}
 use Rattle.data_rules.specs.Messages.{TakesFetch}
 use Rattle.data_rules.specs.Step.{DataStep}
 
@@ -46,3 +49,7 @@ abbrev pub FetchIsDetermined : Type 0
 FetchIsDetermined =
     (b c other : Sofar) (session : ℕ) (key : List ℕ) (t : TakesFetch b session key c) (u : TakesFetch b session key other) →
     t.run ≡ u.run → c ≡ other
+
+-- The window of a session is the window that keeps the bodies of its messages.
+abbrev pub SessionWindowsAgree : Type 0
+SessionWindowsAgree = (w : Window Down) → WindowsAgree Down body_of w
