@@ -29,6 +29,8 @@ gone_examples = (
   record { taken = _; takes = inl (inr (inr (record { its = refl; later = omega arith; is_closed = refl; begun = omega arith; at = 3; closed = refl; after = refl }))); after = refl },
   (λ c takes. absurd (cc (takes.is_live))),
   (λ c takes. absurd (cc (takes.is_live))),
+  (λ c takes. omega (arith, takes.begun)),
+  record { taken = _; takes = inr (record { refused = record { why = inr (inr (omega arith)) }; ended = record { after = refl } }); after = refl },
   record { taken = _; takes = record { after = refl }; after = refl },
   refl,
   refl,

@@ -47,6 +47,9 @@ HelloExamples =
     × (DataMay accepted (Connected 7) → ⊥)
     -- a Hello
     × DataStep accepted 0 (Frame 7 (up 0 0 (Hello 1 1))) (outs [] [] (Enter 0 (Opened 2 1) ∷ [])) greeted
+    -- a frame that is none: a numbered message has no number
+    × DataMay accepted (Frame 7 (up 1 0 Done))
+    × (DataMay accepted (Frame 7 (up 0 0 Done)) → ⊥)
     -- another message comes first
     × DataStep accepted 0 (Frame 7 (up 1 0 Done)) (outs [] (7 ∷ []) []) began
     -- the Epoch is saved: nothing leaves

@@ -94,6 +94,9 @@ GoneExamples =
     -- is_live
     × ((c : Sofar) → TakesResume (begun accepted_late) 9 5 1 2 1 0 3 c → ⊥)
     × ((c : Sofar) → TakesReturn (begun accepted_late) 9 5 1 2 0 3 c → ⊥)
+    -- begun
+    × ((c : Sofar) → TakesGone (begun accepted_late) 9 1 2 2 3 c → ⊥)
+    × DataStep accepted_late 5 (Frame 9 (up 0 0 (Recover 1 2 2 0 3))) (outs [] (9 ∷ []) []) replaced
     -- what still comes on its connection changes nothing
     × DataStep given_up 5 (Frame 9 (up 1 7 Done)) (outs [] [] []) given_up
     -- its Close is saved: the locks go, the Reset leaves, and the Welcome waits for its own place
