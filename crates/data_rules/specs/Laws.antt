@@ -11,6 +11,7 @@ use Rattle.end_words.specs.Windows.{Window}
 use Rattle.end_words.specs.Laws.{WindowsAgree}
 use Rattle.data_rules.specs.Puts.{Sofar, body_of}
 use Rattle.data_rules.specs.Messages.{TakesFetch}
+use Rattle.data_rules.specs.Frames.{TakesFirst}
 use Rattle.data_rules.specs.Step.{DataStep}
 
 -- a Fetch, which any run that covers its key may answer
@@ -53,3 +54,7 @@ FetchIsDetermined =
 -- The window of a session is the window that keeps the bodies of its messages.
 abbrev pub SessionWindowsAgree : Type 0
 SessionWindowsAgree = (w : Window Down) → WindowsAgree Down body_of w
+
+-- A first frame on a connection is taken or refused, whatever it says.
+abbrev pub FirstIsAnswered : Type 0
+FirstIsAnswered = (m : Up) (b : Sofar) (conn now : ℕ) → (c : Sofar) × TakesFirst m b conn now c
