@@ -15,7 +15,7 @@ use Rattle.data_rules.specs.Frames.{EndsOldHello, EndsNoRecover}
 use Rattle.data_rules.specs.Laws.{FirstIsAnswered}
 
 -- one number is at most another, or above it
-low_or_high : (a b : ℕ) → (a ≤ b) ⊎ (b < a)
+pub low_or_high : (a b : ℕ) → (a ≤ b) ⊎ (b < a)
 low_or_high a b = go (cases_lt b a)
   where
     go : (b < a) ⊎ (a ≤ b) → (a ≤ b) ⊎ (b < a)
@@ -23,7 +23,7 @@ low_or_high a b = go (cases_lt b a)
     go (inr low) = inl low
 
 -- a truth value is one of the two
-either : (t : Bool) → (t ≡ true) ⊎ (t ≡ false)
+pub either : (t : Bool) → (t ≡ true) ⊎ (t ≡ false)
 either true = inl refl
 either false = inr refl
 

@@ -1,4 +1,4 @@
-ghost use Rattle.data_rules.specs.Laws.{FetchIsDetermined, FirstIsAnswered, SessionWindowsAgree, StepIsDetermined};
+ghost use Rattle.data_rules.specs.Laws.{FetchIsDetermined, FirstIsAnswered, SessionWindowsAgree, StepIsDetermined, StepIsThere};
 
 /// But for a Fetch, the state, the moment and the input determine what a step makes.
 pub fn a_step_is_determined()
@@ -18,4 +18,9 @@ pub fn a_session_window_keeps_what_its_bodies_do()
 /// A first frame on a connection is taken or refused, whatever it says.
 pub fn a_first_frame_is_answered()
     ensures { FirstIsAnswered }
+{}
+
+/// An input that may come and leaves no choice has an outcome.
+pub fn a_step_is_there()
+    ensures { StepIsThere }
 {}
