@@ -1,0 +1,33 @@
+-- Where entries stand in an order, the first being at 1.
+use Rattle.std.specs.Prelude.{ℕ, Bool, ◌+◌, if◌then◌else◌, List, [], ◌∷◌, Option, Some, None}
+use Rattle.plain_orders.specs.declared.entry.Entry.{Entry}
+use Rattle.plain_orders.specs.declared.entry.Entry.TheVariants.{Epoch, Opened, Closed, Update, Commit, Rollback}
+use Rattle.plain_orders.specs.Entries.{closes}
+use Rattle.plain_orders.specs.ItemEntries.{is_item_at}
+
+-- the place of the first entry that a test finds, so many standing before
+abbrev pub place_from : (Entry → Bool) → ℕ → List Entry → Option ℕ
+place_from test k [] = None
+place_from test k (e ∷ es) = if test e then Some (k + 1) else place_from test (k + 1) es
+
+-- the place of a session's Close
+abbrev pub close_place : List Entry → ℕ → Option ℕ
+close_place es session = place_from (closes session) 0 es
+
+-- the place of a session's item with this running number
+abbrev pub item_place : List Entry → ℕ → ℕ → Option ℕ
+item_place es session w = place_from (is_item_at session w) 0 es
+
+-- the place of the last Epoch, where it was this before, so many standing before
+abbrev pub epoch_place_from : ℕ → ℕ → List Entry → ℕ
+epoch_place_from found k [] = found
+epoch_place_from found k (Epoch number ∷ es) = epoch_place_from (k + 1) (k + 1) es
+epoch_place_from found k (Opened session app ∷ es) = epoch_place_from found (k + 1) es
+epoch_place_from found k (Closed session ∷ es) = epoch_place_from found (k + 1) es
+epoch_place_from found k (Update session w job txn op ∷ es) = epoch_place_from found (k + 1) es
+epoch_place_from found k (Commit session w job txn ∷ es) = epoch_place_from found (k + 1) es
+epoch_place_from found k (Rollback session w job txn ∷ es) = epoch_place_from found (k + 1) es
+
+-- the place of the last Epoch
+abbrev pub epoch_place : List Entry → ℕ
+epoch_place es = epoch_place_from 0 0 es
