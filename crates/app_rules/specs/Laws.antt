@@ -1,0 +1,37 @@
+-- What the steps of an application server's ends leave as it was, and how far they are determined.
+use Rattle.std.specs.Prelude.{◌≡◌, ◌≢◌, ℕ, length, Option, Some, None, IfSome}
+use Rattle.app_rules.specs.declared.app_in.AppIn.{AppIn}
+use Rattle.app_rules.specs.declared.app_in.AppIn.TheVariants.{Frame, Connected, NoWay, Broken, Join, Tick}
+use Rattle.app_rules.specs.declared.app_outs.AppOuts.{AppOuts}
+use Rattle.app_rules.specs.AppState.{AppState}
+use Rattle.app_rules.specs.Works.{end_at}
+use Rattle.app_rules.specs.AppStep.{AppStep}
+
+-- the data server that an input names; a tick names none
+abbrev pub named_by : AppIn → Option ℕ
+named_by (Frame d down) = Some d
+named_by (Connected d) = Some d
+named_by (NoWay d fails_before fails_after) = Some d
+named_by (Broken d) = Some d
+named_by (Join d) = Some d
+named_by Tick = None
+
+-- the same application server, with as many ends
+pub record IsSameApp (a b : AppState) : Type 0 where
+  pub app : b.app ≡ a.app
+  pub times : b.times ≡ a.times
+  pub ends : length b.ends ≡ length a.ends
+
+-- each end but that with this data server is as it was
+abbrev pub KeepsOthers : AppState → AppState → ℕ → Type 0
+KeepsOthers a b d = (e : ℕ) → e ≢ d → end_at b e ≡ end_at a e
+
+-- a step leaves all ends but that with the data server which its input names
+abbrev pub StepsAtOneEnd : Type 0
+StepsAtOneEnd = (old new : AppState) (now : ℕ) (input : AppIn) (outs : AppOuts)
+    → AppStep old now input outs new → IsSameApp old new × IfSome (named_by input) (KeepsOthers old new)
+
+-- the state, the moment and the input decide what a step puts, writes and leaves
+abbrev pub StepsAlike : Type 0
+StepsAlike = (old new other : AppState) (now : ℕ) (input : AppIn) (outs other_outs : AppOuts)
+    → AppStep old now input outs new → AppStep old now input other_outs other → (other ≡ new) × (other_outs ≡ outs)
