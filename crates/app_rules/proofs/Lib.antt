@@ -1,3 +1,4 @@
 pub mod OneEnd
 pub mod StepLaws
 pub mod Alike
+pub mod JobAlike

@@ -1,11 +1,15 @@
--- What the steps of an application server's ends leave as it was, and how far they are determined.
+-- What the steps of an application server's ends leave as it was, and that these steps and those of its jobs are determined.
 use Rattle.std.specs.Prelude.{◌≡◌, ◌≢◌, ℕ, length, Option, Some, None, IfSome}
 use Rattle.app_rules.specs.declared.app_in.AppIn.{AppIn}
 use Rattle.app_rules.specs.declared.app_in.AppIn.TheVariants.{Frame, Connected, NoWay, Broken, Join, Tick}
 use Rattle.app_rules.specs.declared.app_outs.AppOuts.{AppOuts}
 use Rattle.app_rules.specs.AppState.{AppState}
 use Rattle.app_rules.specs.Works.{end_at}
+use Rattle.app_job.specs.declared.command.Command.{Command}
+use Rattle.app_job.specs.declared.answer.Answer.{Answer}
 use Rattle.app_rules.specs.AppStep.{AppStep}
+use Rattle.app_rules.specs.JobState.{JobState}
+use Rattle.app_rules.specs.JobStep.{JobStep}
 
 -- the data server that an input names; a tick names none
 abbrev pub named_by : AppIn → Option ℕ
@@ -35,3 +39,9 @@ StepsAtOneEnd = (old new : AppState) (now : ℕ) (input : AppIn) (outs : AppOuts
 abbrev pub StepsAlike : Type 0
 StepsAlike = (old new other : AppState) (now : ℕ) (input : AppIn) (outs other_outs : AppOuts)
     → AppStep old now input outs new → AppStep old now input other_outs other → (other ≡ new) × (other_outs ≡ outs)
+
+-- the same of a job's step, its line and its command
+abbrev pub JobStepsAlike : Type 0
+JobStepsAlike = (a new other : AppState) (j job other_job : JobState) (now line : ℕ) (command : Command) (answer other_answer : Answer) (outs other_outs : AppOuts)
+    → JobStep a j now line command answer outs new job → JobStep a j now line command other_answer other_outs other other_job
+    → (other ≡ new) × (other_outs ≡ outs) × (other_job ≡ job) × (other_answer ≡ answer)
