@@ -1,27 +1,25 @@
 -- The state, the moment and the input decide what a step puts, writes and leaves.
-use Rattle.std.proofs.Common.{◌≡◌, ◌≢◌, ◌⊎◌, ◌<◌, ℕ, Bool, true, false, List, [], ◌∷◌, refl, sym, subst, ap, ◌∙◌, length, Result, Ok, Err, inl, inr, arith}
+use Rattle.std.proofs.Common.{◌≡◌, ◌⊎◌, ◌<◌, ℕ, Bool, true, false, sym, ap, ◌∙◌, Result, Ok, Err, inl, inr, arith}
 use Rattle.std.specs.Prelude.{nat_le}
 use Rattle.std.proofs.lemmas.Bool.{le-leb}
 use Rattle.ecp_messages.specs.declared.down.Down.{Down}
 use Rattle.ecp_messages.specs.declared.down.Down.TheVariants.{Welcome, Reset, Block, Drop, Ack, Grant, Answer, Normal, Bare}
 use Rattle.ecp_messages.specs.declared.down.DownFrame.{DownFrame}
 use Rattle.ecp_messages.specs.declared.front.Front.{Front}
-use Rattle.subscript_keys.specs.declared.run.Run.{Run}
 use Rattle.block_bytes.proofs.OneRun.{one_run}
 use Rattle.link_window.specs.declared.window.Taken.{Taken}
 use Rattle.link_window.specs.declared.window.Taken.TheVariants.{Fresh, Repeat}
 use Rattle.link_window.specs.declared.window.WindowError.{WindowError}
 use Rattle.end_words.specs.Windows.{answers}
-use Rattle.app_rules.specs.declared.app_in.AppIn.{AppIn}
 use Rattle.app_rules.specs.declared.app_in.AppIn.TheVariants.{Frame, Connected, NoWay, Broken, Join, Tick}
 use Rattle.app_rules.specs.declared.app_outs.AppOuts.{AppOuts}
 use Rattle.app_rules.specs.declared.line.Line.TheVariants.{Greeting, Asking}
 use Rattle.app_rules.specs.AppState.{AppState}
 use Rattle.app_rules.specs.Works.{Sofar, begun, sets, end_at, session_at, body_of}
 use Rattle.app_rules.specs.Delivering.{with_run}
-use Rattle.app_rules.specs.Welcoming.{TakesWelcome, Meets, GoesOn, LearnsEpoch, EndsWelcome, IsAsked}
-use Rattle.app_rules.specs.Downs.{Delivers, KeepsRun, HasNoRun, TakesNumbered, TakesFresh, EndsFresh, TakesHeaded, TakesAck, TakesBare, TakesFrame, TakesReset, EndsReset, settled, joined, took, falls}
-use Rattle.app_rules.specs.AppStep.{AppStep, made}
+use Rattle.app_rules.specs.Welcoming.{TakesWelcome, Meets, GoesOn, LearnsEpoch, EndsWelcome}
+use Rattle.app_rules.specs.Downs.{Delivers, HasNoRun, TakesNumbered, TakesFresh, EndsFresh, TakesHeaded, TakesAck, TakesBare, TakesFrame, settled, joined, falls}
+use Rattle.app_rules.specs.AppStep.{made}
 use Rattle.app_rules.specs.Laws.{StepsAlike}
 
 as_one : {b c x : Sofar} → b ≡ x → c ≡ x → c ≡ b

@@ -1,5 +1,5 @@
 -- The state, the moment, the line and the command decide what a job's step puts, writes, leaves and answers.
-use Rattle.std.proofs.Common.{◌≡◌, ℕ, Bool, true, false, List, [], ◌∷◌, ◌++◌, refl, sym, subst, ap, ◌∙◌, length, drop, Option, Some, None, append_assoc}
+use Rattle.std.proofs.Common.{◌≡◌, ℕ, Bool, true, false, List, ◌++◌, refl, sym, ap, ◌∙◌, length, drop, Option, Some, None, append_assoc}
 use Rattle.std.proofs.lemmas.List.{append_cancel_left}
 use Rattle.subscript_keys.specs.declared.sub.Sub.{Sub}
 use Rattle.subscript_keys.specs.Key.{sub_bytes}
@@ -9,16 +9,13 @@ use Rattle.plain_orders.proofs.NodeKeys.{under_rest}
 use Rattle.app_job.specs.Sites.{Site}
 use Rattle.app_job.specs.declared.command.Command.{Command}
 use Rattle.app_job.specs.declared.command.Command.TheVariants.{Set, Kill, Get, Shape, Next, Incr, Lock, Unlock, Start, Commit, Rollback, Sync}
-use Rattle.app_job.specs.declared.answer.Answer.{Answer}
 use Rattle.app_job.specs.declared.refusal.Refusal.{Refusal}
-use Rattle.app_rules.specs.declared.app_outs.AppOuts.{AppOuts}
-use Rattle.app_rules.specs.AppState.{AppState}
-use Rattle.app_rules.specs.JobState.{JobState, Work, Turn}
+use Rattle.app_rules.specs.JobState.{Work, Turn}
 use Rattle.app_rules.specs.Refusing.{refusal_of}
 use Rattle.app_rules.specs.Issuing.{is_up, uses, has_own}
-use Rattle.app_rules.specs.Reading.{Walk, Walked, NextsFound, NextsWalked, NextsNow, next_walk, nexts, caches, found_key}
+use Rattle.app_rules.specs.Reading.{Walk, Walked, NextsFound, NextsWalked, next_walk, nexts, caches, found_key}
 use Rattle.app_rules.specs.Reading.Walked.{Needs, Finds, Ends}
-use Rattle.app_rules.specs.JobStep.{NextsFree, NextsUp, Does, Turns, JobStep, ended, work_of}
+use Rattle.app_rules.specs.JobStep.{NextsFree, NextsUp, Does, Turns, ended, work_of}
 use Rattle.app_rules.specs.Laws.{JobStepsAlike}
 
 as_one : {X : Type 0} {b c x : X} → b ≡ x → c ≡ x → c ≡ b

@@ -1,7 +1,6 @@
 -- A step changes the end with one data server.
-use Rattle.std.proofs.Common.{◌≡◌, ◌≢◌, ◌⊎◌, ℕ, Bool, true, false, List, [], ◌∷◌, refl, ◌∙◌, length, Result, Ok, Err}
+use Rattle.std.proofs.Common.{ℕ, Bool, true, false, List, [], ◌∷◌, refl, ◌∙◌}
 use Rattle.std.proofs.lemmas.List.{length-set, get_or-set_other}
-use Rattle.plain_orders.specs.declared.act.Act.{Act}
 use Rattle.ecp_messages.specs.declared.up.Up.{Up}
 use Rattle.app_rules.specs.AppState.{AppState, AppEnd, no_end}
 use Rattle.std.specs.Prelude.{nat_le}
@@ -11,7 +10,7 @@ use Rattle.link_states.specs.declared.app_link.AppLink.TheVariants.{NotConnected
 use Rattle.end_words.specs.Windows.{owes_bare}
 use Rattle.app_rules.specs.declared.line.Line.{Line}
 use Rattle.app_rules.specs.declared.line.Line.TheVariants.{Apart, Trying, Greeting, Asking, Joined}
-use Rattle.app_rules.specs.Works.{Sofar, with_end, end_at, session_at, becomes, sets, cuts, tells, tells_if, puts, puts_all, is_joined, is_apart, with_window, with_line, tries, tries_if}
+use Rattle.app_rules.specs.Works.{Sofar, with_end, end_at, session_at, becomes, cuts, tells, tells_if, puts, puts_all, is_joined, is_apart, with_line, tries, tries_if}
 use Rattle.app_rules.specs.Losing.{breaks, broken, broken_from, ends_it, tries_when, ticks_trouble, ticks_from, joins_from, recovers, connected_from, connected, with_dial, failed_from, failed}
 use Rattle.app_rules.specs.Welcoming.{sends_again, settles_unless}
 use Rattle.app_rules.specs.Delivering.{goes_normal, to_put_again}

@@ -1,5 +1,5 @@
 -- What the steps of an application server's ends leave as it was, and how far they are determined.
-use Rattle.std.proofs.Common.{◌≡◌, ◌≢◌, ◌⊎◌, ℕ, Bool, true, false, List, [], ◌∷◌, refl, sym, subst, ap, ◌∙◌, length, Result, Ok, Err, inl, inr}
+use Rattle.std.proofs.Common.{◌≡◌, ◌≢◌, ℕ, Bool, true, false, List, [], ◌∷◌, refl, sym, subst, ◌∙◌, length, Result, Ok, Err, inl, inr}
 use Rattle.std.specs.List.{range_with_len}
 use Rattle.ecp_messages.specs.declared.down.Down.{Down}
 use Rattle.ecp_messages.specs.declared.down.Down.TheVariants.{Welcome, Reset, Block, Drop, Ack, Grant, Answer, Normal, Bare}
@@ -9,15 +9,12 @@ use Rattle.link_window.specs.declared.window.Taken.{Taken}
 use Rattle.link_window.specs.declared.window.Taken.TheVariants.{Fresh, Repeat}
 use Rattle.link_window.specs.declared.window.WindowError.{WindowError}
 use Rattle.end_words.specs.Windows.{answers, resent}
-use Rattle.app_rules.specs.declared.app_in.AppIn.{AppIn}
 use Rattle.app_rules.specs.declared.app_in.AppIn.TheVariants.{Frame, Connected, NoWay, Broken, Join, Tick}
-use Rattle.app_rules.specs.declared.app_outs.AppOuts.{AppOuts}
 use Rattle.app_rules.specs.AppState.{AppState}
 use Rattle.app_rules.specs.Works.{Sofar, begun, end_at, session_at, body_of, synced_up}
 use Rattle.app_rules.specs.Losing.{ticks, ticks_from}
 use Rattle.app_rules.specs.Welcoming.{TakesWelcome, told_puts}
-use Rattle.app_rules.specs.Downs.{Delivers, TakesNumbered, TakesHeaded, TakesAck, TakesBare, TakesFrame, settled, joined}
-use Rattle.app_rules.specs.AppStep.{AppStep}
+use Rattle.app_rules.specs.Downs.{Delivers, TakesNumbered, TakesHeaded, TakesAck, TakesBare, TakesFrame, joined}
 use Rattle.app_rules.specs.Laws.{IsSameApp, StepsAtOneEnd}
 use Rattle.app_rules.proofs.OneEnd.{IsOne, one_same, one_then, one_end, one_puts_all, one_sends_again, one_ends_it, one_broken, one_joins, one_ticks_from, one_connected, one_failed, one_settles, one_goes_normal, one_settled}
 
