@@ -137,7 +137,7 @@ parts a b p q e = (ap (λ s. s.state) e, ap (λ s. s.outs) e)
 pub steps_alike : StepsAlike
 steps_alike old new other now (Frame d down) outs other_outs x y =
     parts new other outs other_outs
-      (as_one x.after (y.after ∙ ap (settled d) (frame_alike down.message (begun old) d now down x.taken y.taken x.takes y.takes)))
+    (as_one x.after (y.after ∙ ap (settled d) (frame_alike down.message (begun old) d now down x.taken y.taken x.takes y.takes)))
 steps_alike old new other now (Connected d) outs other_outs x y = parts new other outs other_outs (as_one x y)
 steps_alike old new other now (NoWay d before after) outs other_outs x y = parts new other outs other_outs (as_one x y)
 steps_alike old new other now (Broken d) outs other_outs x y = parts new other outs other_outs (as_one x y)

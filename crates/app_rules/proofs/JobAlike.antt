@@ -72,10 +72,9 @@ turns_alike None command now w t u g h = does_alike command now w t u g h
 
 pub job_steps_alike : JobStepsAlike
 job_steps_alike a new other j job other_job now line command answer other_answer outs other_outs x y =
-    let e : y.turn ≡ x.turn = turns_alike (refusal_of command a j (work_of a j now line).at) command now (work_of a j now line) x.turn y.turn x.turns y.turns in
-    (
+    let e : y.turn ≡ x.turn = turns_alike (refusal_of command a j (work_of a j now line).at) command now (work_of a j now line) x.turn y.turn x.turns y.turns in (
       as_one x.app (y.app ∙ ap (λ t. (ended t).ends.state) e),
       as_one x.puts (y.puts ∙ ap (λ t. (ended t).ends.outs) e),
       as_one x.job (y.job ∙ ap (λ t. (ended t).job) e),
-      as_one x.answered (y.answered ∙ ap (λ t. t.answer) e)
+      as_one x.answered (y.answered ∙ ap (λ t. t.answer) e),
     )

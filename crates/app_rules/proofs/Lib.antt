@@ -2,3 +2,4 @@ pub mod OneEnd
 pub mod StepLaws
 pub mod Alike
 pub mod JobAlike
+pub mod Waits

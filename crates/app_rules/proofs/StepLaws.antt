@@ -25,7 +25,7 @@ welcome_one : (b : Sofar) (d now session epoch kept : ℕ) (front : Front) (take
 welcome_one b d now session epoch kept front taken c (inl h) = is_one b c _ d h.after (one_then (one_end d _ b.state) (one_end d _ _))
 welcome_one b d now session epoch kept front taken c (inr (inl h)) =
     is_one b c _ d h.after
-      (one_then (one_end d _ b.state) (one_then (one_end d _ _) (one_then (one_sends_again d (resent (session_at b.state d).window taken) _) (one_settles (session_at b.state d).normal_due d now _))))
+    (one_then (one_end d _ b.state) (one_then (one_end d _ _) (one_then (one_sends_again d (resent (session_at b.state d).window taken) _) (one_settles (session_at b.state d).normal_due d now _))))
 welcome_one b d now session epoch kept front taken c (inr (inr (inl h))) =
     is_one b c _ d h.after (one_then (one_end d _ b.state) (one_then (one_end d _ _) (one_puts_all d (told_puts front.w (synced_up front.s (session_at b.state d))) _)))
 welcome_one b d now session epoch kept front taken c (inr (inr (inr h))) = is_one b c _ d h.after (one_ends_it d now b)

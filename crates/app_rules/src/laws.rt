@@ -1,4 +1,5 @@
 ghost use Rattle.app_rules.specs.Laws.{JobStepsAlike, StepsAlike, StepsAtOneEnd};
+ghost use Rattle.app_rules.specs.Waiting.{WaitsForTheFirst};
 
 /// A step of an application server's ends leaves all of them but that with the data server which its input names.
 pub fn a_step_changes_one_end()
@@ -15,4 +16,10 @@ pub fn a_step_is_determined()
 /// subscript that a next finds is known by the key that it stands in.
 pub fn a_job_step_is_determined()
     ensures { JobStepsAlike }
+{}
+
+/// A command that isn't refused waits with the first of its reasons that holds of its application server's ends and
+/// of its job, and is over where none does.
+pub fn a_command_waits_for_the_first_reason()
+    ensures { WaitsForTheFirst }
 {}
