@@ -3,3 +3,5 @@ pub mod StepLaws
 pub mod Alike
 pub mod JobAlike
 pub mod Waits
+pub mod Kept
+pub mod JobKept

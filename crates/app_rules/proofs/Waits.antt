@@ -1,5 +1,5 @@
 -- A command that isn't refused waits with the first of its reasons that holds.
-use Rattle.std.proofs.Common.{◌≡◌, ℕ, Bool, true, false, not, ◌&&◌, ◌+◌, List, [], ◌∷◌, refl, sym, subst, ap, ◌∙◌, Option, Some, None, is_some, if◌then◌else◌, map, ℤ}
+use Rattle.std.proofs.Common.{◌≡◌, ℕ, Bool, true, false, not, ◌&&◌, List, [], ◌∷◌, refl, sym, subst, Option, Some, None, is_some, if◌then◌else◌, map, ℤ}
 use Rattle.std.specs.List.{find, list_all}
 use Rattle.subscript_keys.specs.declared.run.Run.{Run}
 use Rattle.subscript_keys.specs.declared.sub.Sub.{Sub}
@@ -14,7 +14,6 @@ use Rattle.app_job.specs.Sites.{Site}
 use Rattle.app_job.specs.declared.command.Command.{Command}
 use Rattle.app_job.specs.declared.command.Command.TheVariants.{Set, Kill, Get, Shape, Next, Incr, Lock, Unlock, Start, Commit, Rollback, Sync}
 use Rattle.app_job.specs.declared.refusal.Refusal.{Refusal}
-use Rattle.app_job.specs.declared.answer.Answer.{Answer}
 use Rattle.app_job.specs.declared.answer.Answer.TheVariants as answers
 use Rattle.app_job.specs.declared.why.Why.{Why}
 use Rattle.app_job.specs.declared.why.Why.TheVariants as why
@@ -24,14 +23,14 @@ use Rattle.app_rules.specs.declared.session_parts.Ended.{Ended}
 use Rattle.app_rules.specs.declared.session_parts.Syncing.{Syncing}
 use Rattle.app_rules.specs.declared.session_parts.Told.{Told}
 use Rattle.app_rules.specs.declared.session_parts.Updated.{Updated}
-use Rattle.app_rules.specs.JobState.{JobState, Work, Turn}
+use Rattle.app_rules.specs.JobState.{Work, Turn}
 use Rattle.app_rules.specs.Refusing.{refusal_of}
-use Rattle.app_rules.specs.Issuing.{at_normal, at_up, is_up, is_full, has_own, own_ops, pair_session, queues, changes, unless_full, unless_own, uses_if, waits_state, waits, adds, adds_by, increments, says_sum, says_told, told_at}
-use Rattle.app_rules.specs.Reading.{Walk, Walked, walks, holds_below, cache_of, has_value, get_turn, gets_own, gets_from, shape_turn, shapes_now, shapes_walked, caches, next_walk, NextsFound, NextsWalked, NextsNow}
+use Rattle.app_rules.specs.Issuing.{at_normal, at_up, is_up, is_full, has_own, own_ops, pair_session, queues, changes, unless_full, unless_own, uses_if, waits, adds, adds_by, increments, says_sum, says_told, told_at}
+use Rattle.app_rules.specs.Reading.{Walk, Walked, walks, holds_below, cache_of, has_value, get_turn, gets_own, gets_from, shape_turn, shapes_now, shapes_walked, caches, next_walk, NextsWalked}
 use Rattle.app_rules.specs.Reading.Walked.{Needs, Finds, Ends}
-use Rattle.app_rules.specs.Locking.{asks, by_grant, waits_grant, is_due, ask_of_job, locks_by, locks_now, lock_turn, unlock_turn}
-use Rattle.app_rules.specs.Ending.{HowEnded, living, living_backs, has_room, are_up, ends_txn, ends_when, ends_by, by_ends, after_put, awaits_put, awaits_ends, hears_ends, answers_ends, is_up_end, is_told_end, is_inner, end_turn, commit_at, commit_turn, rollback_turn, sync_of_job, by_sync, by_synced, sync_turn, syncs, place_of}
-use Rattle.app_rules.specs.JobStep.{NextsFree, NextsUp, Does, Turns, JobStep, is_waiting, work_of}
+use Rattle.app_rules.specs.Locking.{asks, by_grant, waits_grant, is_due, ask_of_job, locks_by, locks_now, lock_turn}
+use Rattle.app_rules.specs.Ending.{HowEnded, living, living_backs, has_room, are_up, ends_txn, ends_when, ends_by, by_ends, after_put, awaits_put, awaits_ends, hears_ends, answers_ends, is_up_end, is_told_end, is_inner, commit_at, sync_of_job, by_sync, by_synced, sync_turn, syncs, place_of}
+use Rattle.app_rules.specs.JobStep.{NextsFree, NextsUp, Does, Turns, is_waiting, work_of}
 use Rattle.app_rules.specs.Waiting.{WaitReason, WaitsFor, WaitsForTheFirst, first_why, off, full, own, unread, needs_node, needs_key, shape_needs, next_needs, is_granted, ungranted, unanswered, is_sum, is_sum_told, incr_why, any_off, any_full, is_awaited, put_why, end_why, sync_why, why_of}
 
 state_waits : (up : Bool) (d : ℕ) (f : Work → Turn) (w : Work) (rest : List WaitReason) → ((o : Option ℕ) → WaitsFor (first_why rest) (f (uses_if o d w)).answer)

@@ -35,6 +35,17 @@ abbrev pub StepsAtOneEnd : Type 0
 StepsAtOneEnd = (old new : AppState) (now : ℕ) (input : AppIn) (outs : AppOuts)
     → AppStep old now input outs new → IsSameApp old new × IfSome (named_by input) (KeepsOthers old new)
 
+-- the same job, which counts as many data servers
+pub record IsSameJob (a b : JobState) : Type 0 where
+  pub index : b.index ≡ a.index
+  pub app : b.app ≡ a.app
+  pub used : length b.used ≡ length a.used
+
+-- a job's step keeps who and how many they are
+abbrev pub JobStepsKeep : Type 0
+JobStepsKeep = (a new : AppState) (j job : JobState) (now line : ℕ) (command : Command) (answer : Answer) (outs : AppOuts)
+    → JobStep a j now line command answer outs new job → IsSameApp a new × IsSameJob j job
+
 -- the state, the moment and the input decide what a step puts, writes and leaves
 abbrev pub StepsAlike : Type 0
 StepsAlike = (old new other : AppState) (now : ℕ) (input : AppIn) (outs other_outs : AppOuts)

@@ -4,7 +4,6 @@ use Rattle.std.specs.List.{find, list_all}
 use Rattle.subscript_keys.specs.declared.sub.Sub.{Sub}
 use Rattle.subscript_keys.specs.Span.{span_hi}
 use Rattle.plain_orders.specs.Own.{touches_own}
-use Rattle.plain_orders.specs.declared.mode.Mode.{Mode}
 use Rattle.ecp_messages.specs.declared.about.About.{About}
 use Rattle.ecp_messages.specs.declared.about.About.TheVariants.{Counted, NotWhole, Range, Committed, RolledBack, Synced}
 use Rattle.app_job.specs.declared.command.Command.{Command}

@@ -1,9 +1,14 @@
-ghost use Rattle.app_rules.specs.Laws.{JobStepsAlike, StepsAlike, StepsAtOneEnd};
+ghost use Rattle.app_rules.specs.Laws.{JobStepsAlike, JobStepsKeep, StepsAlike, StepsAtOneEnd};
 ghost use Rattle.app_rules.specs.Waiting.{WaitsForTheFirst};
 
 /// A step of an application server's ends leaves all of them but that with the data server which its input names.
 pub fn a_step_changes_one_end()
     ensures { StepsAtOneEnd }
+{}
+
+/// A job's step keeps its application server, how many ends that has, and how many data servers the job counts.
+pub fn a_job_step_keeps_what_it_stands_on()
+    ensures { JobStepsKeep }
 {}
 
 /// The state, the moment and the input decide what a step puts, writes and leaves: a block's run is known by its
