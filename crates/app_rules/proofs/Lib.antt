@@ -5,3 +5,5 @@ pub mod JobAlike
 pub mod Waits
 pub mod Kept
 pub mod JobKept
+pub mod Few
+pub mod Alone
