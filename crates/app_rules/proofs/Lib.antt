@@ -7,3 +7,4 @@ pub mod Kept
 pub mod JobKept
 pub mod Few
 pub mod Alone
+pub mod AloneSteps
