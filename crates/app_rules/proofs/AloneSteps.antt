@@ -1,26 +1,20 @@
 -- What happens at one end reads nothing of the others.
-use Rattle.std.proofs.Common.{◌≡◌, ◌<◌, ◌+◌, ℕ, Bool, true, false, List, [], ◌∷◌, ◌++◌, refl, sym, subst, ap, ◌∙◌, length, Some, None}
-use Rattle.std.specs.Prelude.{nat_le}
-use Rattle.plain_orders.specs.declared.layout.Times.{Times}
+use Rattle.std.proofs.Common.{◌≡◌, ℕ, Bool, true, false, List, [], ◌∷◌, refl, sym, subst, ap, ◌∙◌}
 use Rattle.plain_orders.specs.declared.act.Act.TheVariants.{Broke, Lose, Mended}
 use Rattle.plain_orders.specs.declared.causes.PairEnd.TheVariants as ends
 use Rattle.plain_orders.specs.declared.causes.Loss.TheVariants as losses
-use Rattle.plain_orders.specs.declared.refused.LinkName.TheVariants as names
-use Rattle.plain_orders.specs.Times.{until}
 use Rattle.link_states.specs.declared.app_link.AppLink.{AppLink}
 use Rattle.link_states.specs.declared.app_link.AppLink.TheVariants.{NotConnected, Normal, Trouble, Recovery}
 use Rattle.link_states.specs.declared.link_event.LinkEvent.{LinkEvent}
 use Rattle.link_states.specs.declared.link_event.LinkEvent.TheVariants.{Ended, Connected as ConnectedEvent, ConnectFailed, Settled}
-use Rattle.link_states.specs.Tables.{app_next}
 use Rattle.ecp_messages.specs.declared.up.Up.{Up}
 use Rattle.ecp_messages.specs.declared.up.Up.TheVariants.{Hello, Recover, Bare}
-use Rattle.app_job.specs.declared.reason.Reason.TheVariants as reasons
 use Rattle.end_words.specs.Windows.{owes_bare}
 use Rattle.app_rules.specs.declared.line.Line.{Line}
 use Rattle.app_rules.specs.declared.line.Line.TheVariants.{Apart, Trying, Greeting, Asking, Joined}
-use Rattle.app_rules.specs.AppState.{AppState, AppEnd, Session}
-use Rattle.app_rules.specs.Works.{Sofar, end_at, session_of, session_at, becomes, happens, sets, writes, connects, cuts, frames, frame_to, with_event, with_line, is_joined, is_apart, tells, tries, tries_if, puts_all}
-use Rattle.app_rules.specs.Losing.{breaks, broken, broken_from, ends_it, loses, without_session, joins_from, recovers, greets, connected_from, connected, with_dial, with_failure, no_way, failed_from, failed}
+use Rattle.app_rules.specs.AppState.{AppEnd}
+use Rattle.app_rules.specs.Works.{Sofar, end_at, session_of, session_at, becomes, happens, sets, cuts, frame_to, with_event, with_line, is_joined, is_apart, tells, tries, tries_if, puts_all}
+use Rattle.app_rules.specs.Losing.{breaks, broken, broken_from, ends_it, joins_from, recovers, greets, connected_from, connected, with_dial, with_failure, no_way, failed_from, failed}
 use Rattle.app_rules.specs.Welcoming.{sends_again, settles_unless}
 use Rattle.app_rules.specs.Delivering.{goes_normal, with_all_put, to_put_again}
 use Rattle.app_rules.specs.Downs.{bares_if, bares_joined, settled, joined}
@@ -29,13 +23,13 @@ use Rattle.app_rules.proofs.Alone.{IsLike, like_writes, like_cuts, like_connects
 pub like_event : (d now : ℕ) (event : LinkEvent) (b c : Sofar) → IsLike b c d → IsLike (happens d now event b) (happens d now event c) d
 like_event d now event b c l =
     like_becomes d (with_event b.state now event) (with_event c.state now event) b c
-      (ap (λ t. with_event (record c.state { times = t }) now event (end_at c.state d)) l.state.times ∙ ap (with_event b.state now event) l.state.same_end) l
+    (ap (λ t. with_event (record c.state { times = t }) now event (end_at c.state d)) l.state.times ∙ ap (with_event b.state now event) l.state.same_end) l
 
 pub like_breaks : (d now : ℕ) (b c : Sofar) → IsLike b c d → IsLike (breaks d now b) (breaks d now c) d
 like_breaks d now b c l =
     like_event d now Ended _ _
-      (like_writes (Broke b.state.app d ends.App now) (Broke c.state.app d ends.App now) _ _ (ap (λ a. Broke a d ends.App now) l.state.app)
-        (like_change d (with_line Apart) b c l))
+    (like_writes (Broke b.state.app d ends.App now) (Broke c.state.app d ends.App now) _ _ (ap (λ a. Broke a d ends.App now) l.state.app)
+    (like_change d (with_line Apart) b c l))
 
 like_broken_from : (x y : Line) (d now : ℕ) (b c : Sofar) → y ≡ x → IsLike b c d → IsLike (broken_from x d now b) (broken_from y d now c) d
 like_broken_from x y d now b c e l = subst (λ z. IsLike (broken_from x d now b) (broken_from z d now c) d) (sym e) (by x)
@@ -74,8 +68,8 @@ like_joins x y d b c e l = subst (λ z. IsLike (joins_from x d b) (joins_from z 
 like_greets : (d : ℕ) (b c : Sofar) → IsLike b c d → IsLike (greets d b) (greets d c) d
 like_greets d b c l =
     like_frames (frame_to d 0 0 (Hello b.state.app (end_at b.state d).dial)) (frame_to d 0 0 (Hello c.state.app (end_at c.state d).dial)) _ _
-      (ap (λ a. frame_to d 0 0 (Hello a (end_at c.state d).dial)) l.state.app ∙ ap (λ x. frame_to d 0 0 (Hello b.state.app x.dial)) l.state.same_end)
-      (like_change d (with_line Greeting) b c l)
+    (ap (λ a. frame_to d 0 0 (Hello a (end_at c.state d).dial)) l.state.app ∙ ap (λ x. frame_to d 0 0 (Hello b.state.app x.dial)) l.state.same_end)
+    (like_change d (with_line Greeting) b c l)
 
 -- the same Recover
 recover_of : ℕ → AppEnd → Up
@@ -88,10 +82,10 @@ like_recovers : (d now : ℕ) (b c : Sofar) → IsLike b c d → IsLike (recover
 unfolding recover_of
 like_recovers d now b c l =
     like_tells_two d 0 (recover_of b.state.app (end_at b.state d)) (recover_of c.state.app (end_at c.state d)) _ _
-      (ap (λ a. recover_of a (end_at c.state d)) l.state.app ∙ ap (recover_of b.state.app) l.state.same_end)
-      (like_change d (with_line Asking) _ _
-        (like_event d now ConnectedEvent _ _
-          (like_writes (Mended b.state.app d) (Mended c.state.app d) b c (ap (λ a. Mended a d) l.state.app) l)))
+    (ap (λ a. recover_of a (end_at c.state d)) l.state.app ∙ ap (recover_of b.state.app) l.state.same_end)
+    (like_change d (with_line Asking) _ _
+    (like_event d now ConnectedEvent _ _
+    (like_writes (Mended b.state.app d) (Mended c.state.app d) b c (ap (λ a. Mended a d) l.state.app) l)))
 
 like_connected_from : (x y : AppLink) (d now : ℕ) (b c : Sofar) → y ≡ x → IsLike b c d → IsLike (connected_from x d now b) (connected_from y d now c) d
 like_connected_from x y d now b c e l = subst (λ z. IsLike (connected_from x d now b) (connected_from z d now c) d) (sym e) (by x)
@@ -105,13 +99,13 @@ like_connected_from x y d now b c e l = subst (λ z. IsLike (connected_from x d 
 pub like_connected : (d now : ℕ) (b c : Sofar) → IsLike b c d → IsLike (connected d now b) (connected d now c) d
 like_connected d now b c l =
     like_connected_from (end_at b.state d).link (end_at c.state d).link d now (becomes d with_dial b) (becomes d with_dial c)
-      (ap (λ x. x.link) l.state.same_end) (like_change d with_dial b c l)
+    (ap (λ x. x.link) l.state.same_end) (like_change d with_dial b c l)
 
 like_no_way : (d before after : ℕ) (b c : Sofar) → IsLike b c d → IsLike (no_way d before after b) (no_way d before after c) d
 like_no_way d before after b c l =
     like_change d (with_failure before after) _ _
-      (like_writes (Lose b.state.app d (losses.NoWay before after)) (Lose c.state.app d (losses.NoWay before after)) b c
-        (ap (λ a. Lose a d (losses.NoWay before after)) l.state.app) l)
+    (like_writes (Lose b.state.app d (losses.NoWay before after)) (Lose c.state.app d (losses.NoWay before after)) b c
+    (ap (λ a. Lose a d (losses.NoWay before after)) l.state.app) l)
 
 like_failed_from : (x y : AppLink) (d before after now : ℕ) (b c : Sofar) → y ≡ x → IsLike b c d → IsLike (failed_from x d before after now b) (failed_from y d before after now c) d
 like_failed_from x y d before after now b c e l = subst (λ z. IsLike (failed_from x d before after now b) (failed_from z d before after now c) d) (sym e) (by x)
@@ -125,7 +119,7 @@ like_failed_from x y d before after now b c e l = subst (λ z. IsLike (failed_fr
 pub like_failed : (d before after now : ℕ) (b c : Sofar) → IsLike b c d → IsLike (failed d before after now b) (failed d before after now c) d
 like_failed d before after now b c l =
     like_failed_from (end_at b.state d).link (end_at c.state d).link d before after now (becomes d (with_line Apart) b) (becomes d (with_line Apart) c)
-      (ap (λ x. x.link) l.state.same_end) (like_change d (with_line Apart) b c l)
+    (ap (λ x. x.link) l.state.same_end) (like_change d (with_line Apart) b c l)
 
 pub like_sends_again : (d : ℕ) (ms : List (ℕ × Up)) (b c : Sofar) → IsLike b c d → IsLike (sends_again d ms b) (sends_again d ms c) d
 like_sends_again d [] b c l = l
@@ -140,7 +134,7 @@ like_settles false false d now b c e l = like_event d now Settled b c l
 pub like_goes_normal : (d now : ℕ) (b c : Sofar) → IsLike b c d → IsLike (goes_normal d now b) (goes_normal d now c) d
 like_goes_normal d now b c l =
     subst (λ ms. IsLike (goes_normal d now b) (puts_all d ms (happens d now Settled (sets d with_all_put c))) d) (sym (ap (λ x. to_put_again (session_of x)) l.state.same_end))
-      (like_puts_all d (to_put_again (session_at b.state d)) _ _ (like_event d now Settled _ _ (like_sets d with_all_put b c l)))
+    (like_puts_all d (to_put_again (session_at b.state d)) _ _ (like_event d now Settled _ _ (like_sets d with_all_put b c l)))
 
 like_bares_if : (t u : Bool) (d : ℕ) (b c : Sofar) → u ≡ t → IsLike b c d → IsLike (bares_if t d b) (bares_if u d c) d
 like_bares_if true true d b c e l = like_tells d 0 0 Bare b c refl l

@@ -1,5 +1,5 @@
 -- An application server's ends stay few.
-use Rattle.std.proofs.Common.{◌≡◌, ◌<◌, ◌^◌, ℕ, subst, sym}
+use Rattle.std.proofs.Common.{◌<◌, ◌^◌, subst, sym}
 use Rattle.std.proofs.lemmas.List.{length-replicate}
 use Rattle.app_rules.specs.AppState.{no_end}
 use Rattle.app_rules.specs.Laws.{FewEndsStay}

@@ -8,3 +8,4 @@ pub mod JobKept
 pub mod Few
 pub mod Alone
 pub mod AloneSteps
+pub mod AloneFrames

@@ -52,7 +52,7 @@ pub record FewEndsStay : Type 0 where
   pub first : (app servers : ℕ) (times : Times) → servers < 2 ^ 8 → HasFewEnds (started app servers times)
   pub steps : (old new : AppState) (now : ℕ) (input : AppIn) (outs : AppOuts) → AppStep old now input outs new → HasFewEnds old → HasFewEnds new
   pub job_steps : (a new : AppState) (j job : JobState) (now line : ℕ) (command : Command) (answer : Answer) (outs : AppOuts)
-    → JobStep a j now line command answer outs new job → HasFewEnds a → HasFewEnds new
+      → JobStep a j now line command answer outs new job → HasFewEnds a → HasFewEnds new
 
 -- two states of an application server in which its end with this data server is one
 pub record IsAlikeAt (a b : AppState) (d : ℕ) : Type 0 where
