@@ -7,17 +7,19 @@ use Rattle.app_job.specs.declared.refusal.Refusal.TheVariants as refusals
 use Rattle.app_job.specs.declared.reason.Reason.TheVariants as reasons
 use Rattle.plain_orders.specs.declared.refused.LinkName.TheVariants as names
 use Rattle.app_rules.specs.AppState.{no_end}
+use Rattle.ecp_messages.specs.declared.about.About.TheVariants.{Counted, Synced}
+use Rattle.std.specs.Prelude.{pos}
 use Rattle.app_rules.specs.Works.{begun, sets}
 use Rattle.app_rules.specs.Refusing.{refuses}
-use Rattle.app_rules.specs.Issuing.{changes}
+use Rattle.app_rules.specs.Issuing.{changes, increments}
 use Rattle.app_rules.specs.Reading.{get_turn}
 use Rattle.app_rules.specs.Locking.{lock_turn, unlock_turn}
 use Rattle.app_rules.specs.Ending.{start_turn, commit_turn, rollback_turn, sync_turn}
-use Rattle.app_rules.specs.Delivering.{with_drop, with_grant}
-use Rattle.app_rules.specs.Downs.{took}
+use Rattle.app_rules.specs.Delivering.{with_drop, with_grant, with_answer}
+use Rattle.app_rules.specs.Downs.{took, acknowledged}
 use Rattle.app_rules.specs.JobStep.{work_of}
 use Rattle.app_examples.specs.Apps.{app_with, head, x, joined, joined_with, unused, issued, broken_with, new_job, user, lost_end}
-use Rattle.app_examples.specs.JobExamples.{GetExamples, LockExamples, TransactionExamples, begun_at, fetching, asking, cancelled, granted, within, inner, holding_back, cached, ticketed, waiter}
+use Rattle.app_examples.specs.JobExamples.{AnswerExamples, adding, counted, adder, syncing, synced, GetExamples, LockExamples, TransactionExamples, begun_at, fetching, asking, cancelled, granted, within, inner, holding_back, cached, ticketed, waiter}
 
 pub get_examples : GetExamples
 get_examples = (
@@ -104,4 +106,30 @@ transaction_examples = (
   },
   record { turn = refuses refusals.RollbackOnly (Get x) (work_of (app_with lost_end) (record inner { used = None ∷ [] }) 106 3); turns = refl; answered = refl; app = refl; puts = refl; job = refl },
   record { turn = rollback_turn (work_of (app_with lost_end) (record inner { used = None ∷ [] }) 106 3); turns = refl; answered = refl; app = refl; puts = refl; job = refl },
+)
+
+pub answer_examples : AnswerExamples
+answer_examples = (
+  record { turn = increments 0 (120 ∷ 0 ∷ []) (pos 5) (work_of (app_with joined) user 4 3); turns = refl; answered = refl; app = refl; puts = refl; job = refl },
+  record {
+    taken = sets 0 (with_answer Counted 1 3 (pos 11)) (sets 0 (took 1 1 (head 3 1 1)) (begun (app_with (joined_with adding))));
+    takes = inl (record { ahead = refl; made = refl });
+    after = refl;
+  },
+  record { turn = increments 0 (120 ∷ 0 ∷ []) (pos 5) (work_of (app_with (joined_with counted)) adder 6 3); turns = refl; answered = refl; app = refl; puts = refl; job = refl },
+  record { taken = acknowledged 0 1 (begun (app_with (joined_with counted))); takes = refl; after = refl },
+  record { turn = sync_turn 0 (work_of (app_with joined) user 4 3); turns = refl; answered = refl; app = refl; puts = refl; job = refl },
+  record {
+    taken = sets 0 (with_answer Synced 1 2 (pos 0)) (sets 0 (took 1 1 (head 2 0 0)) (begun (app_with (ticketed syncing))));
+    takes = inl (record { ahead = refl; made = refl });
+    after = refl;
+  },
+  record {
+    turn = sync_turn 0 (work_of (app_with (ticketed synced)) (record user { progress = Some (begun_at 4) }) 6 3);
+    turns = refl;
+    answered = refl;
+    app = refl;
+    puts = refl;
+    job = refl;
+  },
 )

@@ -1,7 +1,7 @@
 -- Examples of the commands of a job; and of steps that are refused since one condition fails: it is named above each.
 use Rattle.std.specs.Prelude.{ℕ, ◌^◌, [], ◌∷◌, Some, None, true, false, pos}
 use Rattle.subscript_keys.specs.declared.run.Run.{Run}
-use Rattle.plain_orders.specs.declared.act.Act.TheVariants.{Issue, Read, Granted, GiveUp, Quit, Level, Done as DoneAct, Refused as RefusedAct}
+use Rattle.plain_orders.specs.declared.act.Act.TheVariants.{Issue, Read, Granted, GiveUp, Quit, Level, Reached, Counted as CountedAct, Done as DoneAct, Refused as RefusedAct}
 use Rattle.plain_orders.specs.declared.item.Item.TheVariants as items
 use Rattle.plain_orders.specs.declared.op.Op.TheVariants as ops
 use Rattle.plain_orders.specs.declared.mode.Mode.TheVariants.{Exclusive}
@@ -11,8 +11,9 @@ use Rattle.plain_orders.specs.declared.refused.ReasonName.TheVariants as short
 use Rattle.plain_orders.specs.declared.refused.Refused.TheVariants as words
 use Rattle.plain_orders.specs.declared.via.Via.TheVariants.{Own, Cached}
 use Rattle.ecp_messages.specs.declared.up.Up.{Up}
-use Rattle.ecp_messages.specs.declared.up.Up.TheVariants.{Update, Fetch, Ask, Cancel, Commit as CommitUp, Unlock as UnlockUp}
+use Rattle.ecp_messages.specs.declared.up.Up.TheVariants.{Update, Add, Fetch, Ask, Cancel, Sync as SyncUp, Commit as CommitUp, Unlock as UnlockUp}
 use Rattle.ecp_messages.specs.declared.down.Down.TheVariants as downs
+use Rattle.ecp_messages.specs.declared.about.About.TheVariants.{Counted, Synced}
 use Rattle.app_job.specs.declared.command.Command.TheVariants.{Set, Get, Incr, Lock, Unlock, Start, Commit, Rollback, Sync}
 use Rattle.app_job.specs.declared.answer.Answer.TheVariants as answers
 use Rattle.app_job.specs.declared.reason.Reason.TheVariants as reasons
@@ -198,3 +199,69 @@ TransactionExamples =
     -- a rollback, with no living session
     × JobStep (app_with lost_end) (record inner { used = None ∷ [] }) 106 3 Rollback answers.Done (outs [] [] [] (Level 0 3 0 ∷ DoneAct 0 3 ∷ [])) (app_with lost_end)
     (record new_job { txn = 1 })
+
+-- an increment of ^x by 5, as its message
+abbrev pub add_x : Up
+add_x = Add 1 0 (120 ∷ 0 ∷ []) (pos 5)
+
+-- it is on its way
+abbrev pub adding : Session
+adding =
+    record unused {
+      window = record { acked = 0; waiting = add_x ∷ []; taken = 0; since = 0 };
+      issued = 1;
+      queue = record { w = 1; message = add_x; job = 0 } ∷ [];
+      owed = record { w = 1; message = add_x; job = 0; awaited = true } ∷ [];
+    }
+
+-- its Answer was taken: 11 at position 3
+abbrev pub counted : Session
+counted =
+    record adding {
+      n = 3;
+      w = 1;
+      window = record { acked = 1; waiting = []; taken = 1; since = 1 };
+      queue = [];
+      owed = [];
+      told = record { w = 1; job = 0; about = Counted; at = 3; sum = pos 11 } ∷ [];
+    }
+
+-- the job waits for it
+abbrev pub adder : JobState
+adder = record user { progress = Some (record (begun_at 4) { added = Some 1 }) }
+
+-- a Sync is unanswered
+abbrev pub syncing : Session
+syncing =
+    record unused {
+      window = record { acked = 0; waiting = SyncUp 1 ∷ []; taken = 0; since = 0 };
+      syncs = record { ticket = 1; job = 0; put = true; at = None } ∷ [];
+    }
+
+-- it is answered
+abbrev pub synced : Session
+synced =
+    record syncing {
+      window = record { acked = 1; waiting = []; taken = 1; since = 1 };
+      syncs = record { ticket = 1; job = 0; put = true; at = Some 2 } ∷ [];
+    }
+
+-- an increment and a sync, with their Answers
+abbrev pub AnswerExamples : Type 0
+AnswerExamples =
+    -- an increment
+    JobStep (app_with joined) user 4 3 (Incr x (pos 5)) (answers.Waiting why.Reply)
+    (outs (up 1 0 add_x ∷ []) [] [] (Issue 0 3 0 1 (items.Op (ops.Add (120 ∷ 0 ∷ []) (pos 5))) ∷ [])) (app_with (joined_with adding)) adder
+    -- its Answer
+    × AppStep (app_with (joined_with adding)) 5 (Frame 0 (down 1 1 (downs.Answer (head 3 1 1) Counted 0 1 3 (pos 11)))) (outs [] [] [] []) (app_with (joined_with counted))
+    × JobStep (app_with (joined_with counted)) adder 6 3 (Incr x (pos 5)) (answers.Counted (pos 11) 3) (outs [] [] [] (CountedAct 0 3 0 3 (pos 11) ∷ []))
+    (app_with (joined_with (record counted { told = [] }))) user
+    -- it comes again, and only its count of what was taken is looked at
+    × AppStep (app_with (joined_with counted)) 5 (Frame 0 (down 1 1 (downs.Answer (head 3 1 1) Counted 0 1 3 (pos 11)))) (outs [] [] [] []) (app_with (joined_with counted))
+    -- a sync
+    × JobStep (app_with joined) user 4 3 (Sync 0) (answers.Waiting why.Reply) (outs (up 1 0 (SyncUp 1) ∷ []) [] [] []) (app_with (ticketed syncing))
+    (record user { progress = Some (begun_at 4) })
+    -- its Answer
+    × AppStep (app_with (ticketed syncing)) 5 (Frame 0 (down 1 1 (downs.Answer (head 2 0 0) Synced 0 1 2 (pos 0)))) (outs [] [] [] []) (app_with (ticketed synced))
+    × JobStep (app_with (ticketed synced)) (record user { progress = Some (begun_at 4) }) 6 3 (Sync 0) answers.Done
+    (outs [] [] [] (Reached 0 3 0 2 ∷ DoneAct 0 3 ∷ [])) (app_with (ticketed (record synced { syncs = [] }))) user

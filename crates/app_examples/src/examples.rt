@@ -1,5 +1,5 @@
 ghost use Rattle.app_examples.specs.EndExamples.{EpochExamples, HelloExamples, RecoverExamples};
-ghost use Rattle.app_examples.specs.JobExamples.{GetExamples, LockExamples, TransactionExamples};
+ghost use Rattle.app_examples.specs.JobExamples.{AnswerExamples, GetExamples, LockExamples, TransactionExamples};
 
 /// A first connection, and its Welcome.
 pub fn hello_examples()
@@ -29,4 +29,9 @@ pub fn lock_examples()
 /// Transactions, an unlock that is held back, and the refusals in their order.
 pub fn transaction_examples()
     ensures { TransactionExamples }
+{}
+
+/// An increment and a sync, with their Answers.
+pub fn answer_examples()
+    ensures { AnswerExamples }
 {}

@@ -29,8 +29,7 @@ pub record Shown : Type 0 where
   pub front : Option Front
   pub runs : List Run
 
--- what a job knew of a data server after its last step: the session that the pair had, whether it had a loss to be told of, and its
--- own Sets and Kills that hadn't entered
+-- what a job knew of a data server: the pair's session, whether it had a loss to be told of, and its own updates that hadn't entered
 pub record Known : Type 0 where
   pub session : Option ℕ
   pub has_loss : Bool
