@@ -1,0 +1,11 @@
+pub mod OneEnd
+pub mod StepLaws
+pub mod Alike
+pub mod JobAlike
+pub mod Waits
+pub mod Kept
+pub mod JobKept
+pub mod Few
+pub mod Alone
+pub mod AloneSteps
+pub mod AloneFrames
