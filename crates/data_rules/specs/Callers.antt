@@ -4,8 +4,7 @@ use Rattle.std.specs.List.{find}
 use Rattle.std.specs.Option.{option_map}
 use Rattle.plain_orders.specs.declared.causes.ShutCause.TheVariants as shuts
 use Rattle.plain_orders.specs.Entries.{live, live_session, last_epoch}
-use Rattle.plain_orders.specs.Sessions.{app_in}
-use Rattle.plain_orders.specs.Sessions.{place_of_epoch}
+use Rattle.plain_orders.specs.Sessions.{app_in, place_of_epoch}
 use Rattle.link_states.specs.declared.link_event.LinkEvent.TheVariants.{Replaced, Resumed}
 use Rattle.ecp_messages.specs.declared.down.Down.{Down}
 use Rattle.ecp_messages.specs.declared.down.Down.TheVariants.{Welcome}
@@ -24,6 +23,7 @@ use Rattle.data_rules.specs.Opening.{opens}
 abbrev pub dial_of : DataState → ℕ → ℕ
 dial_of d app = get_or d.dials app 0
 
+-- with this as the greatest dial taken from the application server
 abbrev pub with_dial : ℕ → ℕ → DataState → DataState
 with_dial app dial d = record d { dials = set d.dials app dial }
 
@@ -32,9 +32,11 @@ abbrev pub replaces : Option ℕ → ℕ → ℕ → Sofar → Sofar
 replaces None app now b = b
 replaces (Some session) app now b = becomes (with_event app now Replaced) (closes session shuts.Replaced b)
 
+-- a Hello of the application server
 abbrev pub is_caller : ℕ → Caller → Bool
 is_caller app c = c.app == app
 
+-- the connection of a Hello that waits
 abbrev pub caller_conn : Caller → ℕ
 caller_conn c = c.conn
 
@@ -57,6 +59,7 @@ calls app dial conn now b =
     is_let_in (is_some b.state.round) app conn now
     (replaces (live_session b.state.order app) app now (becomes (with_dial app dial) b))
 
+-- a Hello whose dial is no less than those taken before
 pub record TakesHello (b : Sofar) (conn now app dial : ℕ) (c : Sofar) : Type 0 where
   pub later : dial_of b.state app ≤ dial
   pub after : c ≡ calls app dial conn now b
@@ -79,6 +82,7 @@ goes_on session conn taken b =
 abbrev pub resumed : ℕ → ℕ → ℕ → ℕ → DataState → DataState
 resumed app session conn now d = with_event app now Resumed (with_role conn (Bound session) d)
 
+-- the dial counts, an older connection of the session is cut, and the session has the new one
 abbrev pub resumes : ℕ → ℕ → ℕ → ℕ → ℕ → Sofar → Sofar
 resumes app session dial conn now b =
     becomes (resumed app session conn now) (drops_conn (conn_of b.state session) (becomes (with_dial app dial) b))
@@ -91,7 +95,11 @@ pub record TakesResume (b : Sofar) (conn now app session epoch taken dial : ℕ)
   pub same : epoch ≡ last_epoch b.state.order
   pub after : c ≡ goes_on session conn taken (resumes app session dial conn now b)
 
--- a live session, in an older epoch: both ends number from 1 again, and the Welcome leaves once this epoch is synced
+-- the session goes on in a new epoch: both ends number from 1 again, and the Welcome leaves once the Epoch is synced
+abbrev pub comes_again : ℕ → ℕ → ℕ → Sofar → Sofar
+comes_again session conn kept b = replies (epoch_place b.state.order) (EpochWelcome conn session kept) (becomes (with_window session fresh) b)
+
+-- a live session, in an older epoch; so many entries stand before the first Epoch that its other end wasn't told
 pub record TakesReturn (b : Sofar) (conn now app session epoch dial : ℕ) (c : Sofar) : Type 0 where
   pub its : app_in b.state.order session ≡ Some app
   pub later : dial_of b.state app ≤ dial
@@ -99,13 +107,14 @@ pub record TakesReturn (b : Sofar) (conn now app session epoch dial : ℕ) (c : 
   pub older : epoch < last_epoch b.state.order
   pub kept : ℕ
   pub known : place_of_epoch epoch 0 b.state.order ≡ Some kept
-  pub after : c ≡ replies (epoch_place b.state.order) (EpochWelcome conn session kept) (becomes (with_window session fresh) (resumes app session dial conn now b))
+  pub after : c ≡ comes_again session conn kept (resumes app session dial conn now b)
 
--- a closed session, which is answered once its Close is synced
-pub record TakesGone (b : Sofar) (conn app session dial : ℕ) (c : Sofar) : Type 0 where
+-- a closed session, in an epoch that is begun: it is answered once its Close is synced
+pub record TakesGone (b : Sofar) (conn app session epoch dial : ℕ) (c : Sofar) : Type 0 where
   pub its : app_in b.state.order session ≡ Some app
   pub later : dial_of b.state app ≤ dial
   pub is_closed : live b.state.order session ≡ false
+  pub begun : epoch ≤ last_epoch b.state.order
   pub at : ℕ
   pub closed : close_place b.state.order session ≡ Some at
   pub after : c ≡ replies at (ResetOf conn session at) (becomes (λ d. with_role conn (Closing session) (with_dial app dial d)) b)
@@ -113,8 +122,9 @@ pub record TakesGone (b : Sofar) (conn app session dial : ℕ) (c : Sofar) : Typ
 -- a Recover
 abbrev pub TakesRecover : Sofar → ℕ → ℕ → ℕ → ℕ → ℕ → ℕ → ℕ → Sofar → Type 0
 TakesRecover b conn now app session epoch taken dial c =
-    TakesResume b conn now app session epoch taken dial c ⊎ TakesReturn b conn now app session epoch dial c ⊎ TakesGone b conn app session dial c
+    TakesResume b conn now app session epoch taken dial c ⊎ TakesReturn b conn now app session epoch dial c
+    ⊎ TakesGone b conn app session epoch dial c
 
--- a Recover that is refused: it names no session of its application server, or its dial is old, or its live session's epoch isn't begun
+-- a Recover that is refused: it names no session of its application server, or its dial is old, or its epoch isn't begun
 pub record IsNoRecover (d : DataState) (app session epoch dial : ℕ) : Type 0 where
-  pub why : (app_in d.order session ≡ Some app → ⊥) ⊎ (dial < dial_of d app) ⊎ ((live d.order session ≡ true) × (last_epoch d.order < epoch))
+  pub why : (app_in d.order session ≡ Some app → ⊥) ⊎ (dial < dial_of d app) ⊎ (last_epoch d.order < epoch)

@@ -17,12 +17,15 @@ use Rattle.data_rules.specs.DataState.{DataState}
 use Rattle.data_rules.specs.declared.rows.Role.TheVariants.{New, Waiting, Bound, Closing}
 use Rattle.data_rules.specs.Puts.{Sofar, becomes, writes, cuts, says_on, without_replies}
 
+-- the connection has this number
 abbrev pub is_conn : ℕ → Conn → Bool
 is_conn number c = c.number == number
 
+-- the connection has another number
 abbrev pub is_other_conn : ℕ → Conn → Bool
 is_other_conn number c = not (c.number == number)
 
+-- what a connection is for
 abbrev pub role_in : Conn → Role
 role_in c = c.role
 
@@ -30,15 +33,19 @@ role_in c = c.role
 abbrev pub role_of : DataState → ℕ → Option Role
 role_of d number = option_map role_in (find (is_conn number) d.conns)
 
+-- the connection with this number is for this, others stay as they are
 abbrev pub with_role_if : ℕ → Role → Conn → Conn
 with_role_if number role c = if c.number == number then record c { role = role } else c
 
+-- a connection is for this from now on
 abbrev pub with_role : ℕ → Role → DataState → DataState
 with_role number role d = record d { conns = map (with_role_if number role) d.conns }
 
+-- a connection more, on which nothing was taken
 abbrev pub with_conn : ℕ → DataState → DataState
 with_conn number d = record d { conns = d.conns ++ record { number = number; role = New } ∷ [] }
 
+-- the Hello came on another connection
 abbrev pub is_other_caller : ℕ → Caller → Bool
 is_other_caller number c = not (c.conn == number)
 
@@ -52,6 +59,7 @@ without_conn number d =
 abbrev pub link_of : DataState → ℕ → DataLink
 link_of d app = get_or d.links app Free
 
+-- an application server's end is in this state
 abbrev pub with_link : ℕ → DataLink → DataState → DataState
 with_link app link d = record d { links = set d.links app link }
 
@@ -59,6 +67,7 @@ with_link app link d = record d { links = set d.links app link }
 abbrev pub with_event : ℕ → ℕ → LinkEvent → DataState → DataState
 with_event app now event d = with_link app (data_next d.times now (link_of d app) event) d
 
+-- the end is Normal
 abbrev pub is_normal : DataLink → Bool
 is_normal Free = false
 is_normal Normal = true
@@ -70,6 +79,7 @@ abbrev pub breaks_if : Bool → ℕ → ℕ → Sofar → Sofar
 breaks_if true app now b = writes (Broke app b.state.server ends.Server now) b
 breaks_if false app now b = b
 
+-- an application server's end lost its connection
 abbrev pub end_breaks : Option ℕ → ℕ → Sofar → Sofar
 end_breaks None now b = b
 end_breaks (Some app) now b = becomes (with_event app now Ended) (breaks_if (is_normal (link_of b.state app)) app now b)
@@ -90,7 +100,7 @@ leaves_conn number now b = loses_conn (role_of b.state number) now (becomes (wit
 abbrev pub ends_conn : ℕ → ℕ → Sofar → Sofar
 ends_conn number now b = cuts number (leaves_conn number now b)
 
--- a newer connection takes the place of this one, whose end stays as it is
+-- a newer connection takes the place of this one, if there is one, and the state of its end stays
 abbrev pub drops_conn : Option ℕ → Sofar → Sofar
 drops_conn None b = b
 drops_conn (Some number) b = cuts number (becomes (without_conn number) b)

@@ -41,6 +41,7 @@ abbrev pub breaks_unless : Bool → ℕ → ℕ → Sofar → Sofar
 breaks_unless true app now b = b
 breaks_unless false app now b = writes (Broke app b.state.server ends.Server now) b
 
+-- the round is over for one end, whose session is told
 abbrev pub comes_back : ℕ → ℕ → ℕ → Sofar → Sofar
 comes_back app session now b =
     puts session (Normal (head_of b.state session))
@@ -56,10 +57,12 @@ come_back (x ∷ xs) now b = come_back xs now (comes_back x.app x.session now b)
 abbrev pub all_apps : List ℕ
 all_apps = range_with_len 0 256
 
+-- an end more, where it has a live session
 abbrev pub with_end : Option ℕ → ℕ → List LiveEnd → List LiveEnd
 with_end None app xs = xs
 with_end (Some session) app xs = record { app = app; session = session } ∷ xs
 
+-- those of these ends that have a live session
 abbrev pub ends_among : List ℕ → List Entry → List LiveEnd
 ends_among [] es = []
 ends_among (app ∷ apps) es = with_end (live_session es app) app (ends_among apps es)
@@ -68,6 +71,7 @@ ends_among (app ∷ apps) es = with_end (live_session es app) app (ends_among ap
 abbrev pub live_ends : List Entry → List LiveEnd
 live_ends es = ends_among all_apps es
 
+-- no round is on, and no Hello waits
 abbrev pub without_round : DataState → DataState
 without_round d = record d { round = None; callers = [] }
 
@@ -81,6 +85,7 @@ abbrev pub is_round_over : DataState → Option Round → Bool
 is_round_over d None = false
 is_round_over d (Some r) = is_over r && not (list_any is_close (drop d.synced d.order))
 
+-- the round ends or goes on
 abbrev pub round_ends_if : Bool → ℕ → Sofar → Sofar
 round_ends_if true now b = round_ends b.state.callers now b
 round_ends_if false now b = b

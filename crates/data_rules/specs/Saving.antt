@@ -1,12 +1,11 @@
 -- More of the order is synced, and the clock ticks.
-use Rattle.std.specs.Prelude.{ℕ, Bool, true, false, List, [], ◌∷◌, length, take, drop, nat_lt, Option, Some, None}
+use Rattle.std.specs.Prelude.{ℕ, Bool, true, false, List, [], ◌∷◌, length, take, drop, nat_lt}
 use Rattle.std.specs.List.{filter, list_any}
 use Rattle.plain_orders.specs.declared.entry.Entry.{Entry}
 use Rattle.plain_orders.specs.declared.entry.Entry.TheVariants.{Epoch, Opened, Closed, Update, Commit, Rollback}
 use Rattle.plain_orders.specs.declared.act.Act.TheVariants.{Synced, Release}
 use Rattle.plain_orders.specs.declared.causes.ShutCause.{ShutCause}
 use Rattle.plain_orders.specs.declared.causes.ShutCause.TheVariants as shuts
-use Rattle.plain_orders.specs.Entries.{live_session}
 use Rattle.plain_orders.specs.ItemEntries.{is_item_of}
 use Rattle.plain_orders.specs.Sessions.{live_sessions}
 use Rattle.link_states.specs.declared.data_link.DataLink.{DataLink}
@@ -14,6 +13,7 @@ use Rattle.link_states.specs.declared.data_link.DataLink.TheVariants.{Free, Norm
 use Rattle.link_states.specs.declared.link_event.LinkEvent.TheVariants.{Ticked}
 use Rattle.link_states.specs.Tables.{data_next}
 use Rattle.ecp_messages.specs.declared.down.Down.TheVariants.{Ack}
+use Rattle.data_rules.specs.declared.rows.LiveEnd.{LiveEnd}
 use Rattle.data_rules.specs.DataState.{DataState}
 use Rattle.data_rules.specs.LockWords.{without_session}
 use Rattle.data_rules.specs.Puts.{Sofar, becomes, writes, puts, head_of}
@@ -21,7 +21,7 @@ use Rattle.data_rules.specs.Leaving.{flushed}
 use Rattle.data_rules.specs.Granting.{locks_become}
 use Rattle.data_rules.specs.Conns.{link_of, with_event}
 use Rattle.data_rules.specs.Closing.{closes}
-use Rattle.data_rules.specs.Opening.{all_apps, rounds}
+use Rattle.data_rules.specs.Opening.{live_ends, rounds}
 use Rattle.data_rules.specs.Messages.{is_awaited}
 
 -- the locks of a session go whose Close is synced
@@ -39,7 +39,7 @@ closed_in (Update session w job txn op ∷ es) = closed_in es
 closed_in (Commit session w job txn ∷ es) = closed_in es
 closed_in (Rollback session w job txn ∷ es) = closed_in es
 
--- those of each of these sessions
+-- the locks of each of these sessions, in this order
 abbrev pub releases_all : List ℕ → Sofar → Sofar
 releases_all [] b = b
 releases_all (session ∷ sessions) b = releases_all sessions (releases session b)
@@ -48,6 +48,7 @@ releases_all (session ∷ sessions) b = releases_all sessions (releases session 
 abbrev pub has_item_of : List Entry → ℕ → Bool
 has_item_of part session = list_any (is_item_of session) part
 
+-- an Ack to a session
 abbrev pub acks_one : ℕ → Sofar → Sofar
 acks_one session b = puts session (Ack (head_of b.state session)) b
 
@@ -79,13 +80,14 @@ saves closed acked upto now b =
     (becomes (λ d. record d { synced = upto })
     (writes_synced (nat_lt b.state.synced upto) upto b)))))
 
--- why a tick closes a session in this state
+-- why a tick closes a session whose end is in this state
 abbrev pub cause_of : DataLink → ℕ → ShutCause
 cause_of Free now = shuts.Trouble now
 cause_of Normal now = shuts.Trouble now
 cause_of (Trouble broke) now = shuts.Trouble now
 cause_of (Recovering due) now = shuts.Round now
 
+-- the end has no session
 abbrev pub is_free : DataLink → Bool
 is_free Free = true
 is_free Normal = false
@@ -111,14 +113,15 @@ ticks_end true app session now b =
     (closes_late (is_free (data_next b.state.times now (link_of b.state app) Ticked)) session now (cause_of (link_of b.state app) now) b)
 ticks_end false app session now b = b
 
-abbrev pub ticks_session : ℕ → Option ℕ → ℕ → Sofar → Sofar
-ticks_session app None now b = b
-ticks_session app (Some session) now b = ticks_end (hears_tick (link_of b.state app) (is_awaited b.state session)) app session now b
+-- a tick at the end of a live session
+abbrev pub ticks_one : LiveEnd → ℕ → Sofar → Sofar
+ticks_one x now b = ticks_end (hears_tick (link_of b.state x.app) (is_awaited b.state x.session)) x.app x.session now b
 
--- the ends with a live session, in the order of their indexes
-abbrev pub ticks : List ℕ → ℕ → Sofar → Sofar
+-- at several, in this order
+abbrev pub ticks : List LiveEnd → ℕ → Sofar → Sofar
 ticks [] now b = b
-ticks (app ∷ apps) now b = ticks apps now (ticks_session app (live_session b.state.order app) now b)
+ticks (x ∷ xs) now b = ticks xs now (ticks_one x now b)
 
+-- at all that have a live session, by index
 abbrev pub ticks_all : ℕ → Sofar → Sofar
-ticks_all now b = ticks all_apps now b
+ticks_all now b = ticks (live_ends b.state.order) now b

@@ -4,7 +4,9 @@ use Rattle.plain_orders.specs.declared.entry.Entry.{Entry}
 use Rattle.plain_orders.specs.declared.entry.Entry.TheVariants.{Epoch}
 use Rattle.plain_orders.specs.declared.layout.Times.{Times}
 use Rattle.plain_orders.specs.Entries.{last_epoch}
-use Rattle.plain_orders.specs.Sessions.{live_sessions, app_in}
+use Rattle.plain_orders.specs.Sessions.{live_sessions}
+use Rattle.plain_orders.specs.Ordered.{IsOrdered}
+use Rattle.plain_orders.specs.declared.limits.TheConstants.{START_EPOCH_LIMIT}
 use Rattle.link_states.specs.declared.data_link.DataLink.TheVariants.{Free, Recovering}
 use Rattle.plain_orders.specs.Times.{until}
 use Rattle.ecp_messages.specs.declared.up.UpFrame.{UpFrame}
@@ -12,11 +14,13 @@ use Rattle.ecp_messages.specs.Ups.{IsUpFrame}
 use Rattle.data_rules.specs.declared.data_in.DataIn.{DataIn}
 use Rattle.data_rules.specs.declared.data_in.DataIn.TheVariants.{Frame, Connected, Broken, Tick, Saved}
 use Rattle.data_rules.specs.declared.data_outs.DataOuts.{DataOuts}
+use Rattle.data_rules.specs.declared.rows.LiveEnd.{LiveEnd}
 use Rattle.data_rules.specs.DataState.{DataState}
 use Rattle.data_rules.specs.LockWords.{no_locks}
 use Rattle.data_rules.specs.RoundWords.{Round}
 use Rattle.data_rules.specs.Puts.{Sofar, begun, becomes}
 use Rattle.data_rules.specs.Conns.{role_of, with_conn, with_link, leaves_conn}
+use Rattle.data_rules.specs.Opening.{live_ends}
 use Rattle.data_rules.specs.Frames.{TakesFrame, settled}
 use Rattle.data_rules.specs.Saving.{part_saved, closed_in, savers, saves, ticks_all}
 
@@ -26,15 +30,15 @@ made new outs = record { state = new; outs = outs }
 
 -- a frame, and what follows each
 pub record FrameStep (b : Sofar) (now conn : ℕ) (up : UpFrame) (c : Sofar) : Type 0 where
-  pub behind : Sofar
-  pub takes : TakesFrame (role_of b.state conn) b conn now up behind
-  pub after : c ≡ settled conn now behind
+  pub taken : Sofar
+  pub takes : TakesFrame (role_of b.state conn) b conn now up taken
+  pub after : c ≡ settled conn now taken
 
 -- a save
 abbrev pub saved : ℕ → ℕ → Sofar → Sofar
 saved upto now b = saves (closed_in (part_saved b.state upto)) (savers b.state.order (part_saved b.state upto)) upto now b
 
--- What an input makes.
+-- What an input makes of the state and the outputs so far.
 abbrev pub Makes : Sofar → ℕ → DataIn → Sofar → Type 0
 Makes b now (Frame conn up) c = FrameStep b now conn up c
 Makes b now (Connected conn) c = c ≡ becomes (with_conn conn) b
@@ -42,7 +46,7 @@ Makes b now (Broken conn) c = c ≡ leaves_conn conn now b
 Makes b now Tick c = c ≡ ticks_all now b
 Makes b now (Saved upto) c = c ≡ saved upto now b
 
--- What a step makes.
+-- What a step makes: from no outputs to those of the step.
 abbrev pub DataStep : DataState → ℕ → DataIn → DataOuts → DataState → Type 0
 DataStep old now input outs new = Makes (begun old) now input (made new outs)
 
@@ -59,21 +63,17 @@ DataMay d (Broken conn) = ⊤
 DataMay d Tick = ⊤
 DataMay d (Saved upto) = SavedMay d upto
 
--- the end of each live session awaits it
-abbrev pub recovering_if : Option ℕ → ℕ → DataState → DataState
-recovering_if None due d = d
-recovering_if (Some app) due d = with_link app (Recovering due) d
-
-abbrev pub recovering : List ℕ → ℕ → DataState → DataState
+-- these ends await their sessions
+abbrev pub recovering : List LiveEnd → ℕ → DataState → DataState
 recovering [] due d = d
-recovering (session ∷ sessions) due d = recovering sessions due (recovering_if (app_in d.order session) due d)
+recovering (x ∷ xs) due d = recovering xs due (with_link x.app (Recovering due) d)
 
 -- a round where a session is live
 abbrev pub round_of : List ℕ → ℕ → Option Round
 round_of [] due = None
 round_of (session ∷ sessions) due = Some (record { awaited = session ∷ sessions; due = due })
 
--- a data server without connections, with the next Epoch at the end of what its journal held
+-- a data server without connections and sessions, with the next Epoch at the end of what its journal held
 abbrev pub with_epoch : ℕ → Times → List Entry → DataState
 with_epoch server times entries =
     record {
@@ -92,9 +92,18 @@ with_epoch server times entries =
       replies = [];
     }
 
--- A data server starts: it enters the next Epoch, and a round begins where a session is live.
+-- a data server that starts: it enters the next Epoch, and a round begins where a session is live
 abbrev pub started : ℕ → Times → List Entry → ℕ → DataState
 started server times entries now =
-    record (recovering (live_sessions entries) (until now times.round) (with_epoch server times entries)) {
+    record (recovering (live_ends entries) (until now times.round) (with_epoch server times entries)) {
       round = round_of (live_sessions entries) (until now times.round);
     }
+
+-- What a start needs: what the journal held is an ordered list or nothing, with no epoch above that from which a server starts.
+pub record StartMay (entries : List Entry) : Type 0 where
+  pub ordered : IsOrdered entries
+  pub low : last_epoch entries ≤ START_EPOCH_LIMIT
+
+-- What a start makes: it puts nothing and writes nothing.
+abbrev pub DataStart : ℕ → Times → List Entry → ℕ → DataOuts → DataState → Type 0
+DataStart server times entries now outs new = made new outs ≡ begun (started server times entries now)

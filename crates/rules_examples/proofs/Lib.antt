@@ -1,0 +1,3 @@
+mod Keys
+mod HelloCases
+mod ItemCases
