@@ -20,6 +20,7 @@ use Rattle.app_rules.specs.JobState.{JobState, Work, Turn, turn, on, in_job}
 use Rattle.app_rules.specs.Refusing.{is_ask_of, quits, says_no}
 use Rattle.app_rules.specs.Issuing.{waits, when_normal, when_up}
 
+-- two modes are one
 abbrev pub is_same_mode : Mode → Mode → Bool
 is_same_mode Exclusive Exclusive = true
 is_same_mode Exclusive Shared = false
@@ -30,6 +31,7 @@ is_same_mode Shared Shared = true
 abbrev pub is_lane : ℕ → Mode → List ℕ → Held → Bool
 is_lane job mode key h = h.job == job && is_same_mode mode h.mode && pointwise nat_eq key h.key
 
+-- the job holds the name in the mode
 abbrev pub is_held : Session → ℕ → Mode → List ℕ → Bool
 is_held s job mode key = list_any (is_lane job mode key) s.held
 
@@ -48,6 +50,7 @@ lowered job mode key (h ∷ hs) =
 abbrev pub with_ticket : AppEnd → AppEnd
 with_ticket e = record e { ticket = e.ticket + 1 }
 
+-- an Ask more that a command waits for
 abbrev pub with_ask : ℕ → ℕ → Mode → List ℕ → Session → Session
 with_ask ticket job mode key s =
     record s { asks = s.asks ++ record { ticket = ticket; job = job; mode = mode; key = key; put = true; at = None } ∷ [] }
@@ -64,9 +67,11 @@ abbrev pub asks_if_none : Option Asked → ℕ → Mode → List ℕ → Work �
 asks_if_none None d mode key w = asks d mode key w
 asks_if_none (Some a) d mode key w = w
 
+-- the Ask of the job's command, where one is there
 abbrev pub ask_of_job : Work → ℕ → Option Asked
 ask_of_job w d = find (is_ask_of w.job.index) (session_at w.ends.state d).asks
 
+-- the job holds the name once more
 abbrev pub with_held : ℕ → Mode → List ℕ → ℕ → Session → Session
 with_held job mode key at s = record s { held = raised job mode key at s.held }
 
@@ -79,25 +84,31 @@ holds_now d mode key at w =
 abbrev pub times_out : ℕ → Mode → List ℕ → Work → Turn
 times_out d mode key w = turn (says_no words.LockTimeout (quits d mode key w)) (answers.Refused LockTimeout)
 
+-- the time to wait is over, counted from the command's first step
 abbrev pub is_due : Option ℕ → ℕ → ℕ → Bool
 is_due None first now = false
 is_due (Some ticks) first now = nat_le (until first ticks) now
 
+-- by whether the time to wait is over
 abbrev pub waits_grant : Bool → ℕ → Mode → List ℕ → Work → Turn
 waits_grant true d mode key w = times_out d mode key w
 waits_grant false d mode key w = waits why.Grant w
 
+-- by whether a Grant was taken in this epoch
 abbrev pub by_grant : Option ℕ → ℕ → Mode → List ℕ → Option ℕ → ℕ → Work → Turn
 by_grant (Some at) d mode key wait now w = holds_now d mode key at w
 by_grant None d mode key wait now w = waits_grant (is_due wait w.at.first now) d mode key w
 
+-- by the Ask of the command
 abbrev pub by_ask : Option Asked → ℕ → Mode → List ℕ → Option ℕ → ℕ → Work → Turn
 by_ask None d mode key wait now w = waits why.Grant w
 by_ask (Some a) d mode key wait now w = by_grant a.at d mode key wait now w
 
+-- the lock of a command whose Ask was put
 abbrev pub asked_now : ℕ → Mode → List ℕ → Option ℕ → ℕ → Work → Turn
 asked_now d mode key wait now w = by_ask (ask_of_job w d) d mode key wait now w
 
+-- a lock at a Normal connection: the Ask first, where the command has none
 abbrev pub locks_now : ℕ → Mode → List ℕ → Option ℕ → ℕ → Work → Turn
 locks_now d mode key wait now w = asked_now d mode key wait now (asks_if_none (ask_of_job w d) d mode key w)
 
@@ -109,6 +120,7 @@ lock_turn at mode wait now w = when_normal at.server (locks_now at.server mode a
 abbrev pub done : Work → Turn
 done w = turn (on (writes (Done w.job.index w.at.line)) w) answers.Done
 
+-- the job holds the name once less
 abbrev pub without_held : ℕ → Mode → List ℕ → Session → Session
 without_held job mode key s = record s { held = lowered job mode key s.held }
 
@@ -124,6 +136,7 @@ abbrev pub gives_up_if : Bool → ℕ → Mode → List ℕ → Work → Work
 gives_up_if true d mode key w = gives_up d mode key w
 gives_up_if false d mode key w = w
 
+-- the job holds the name in the mode at this data server
 abbrev pub holds_it : Work → ℕ → Mode → List ℕ → Bool
 holds_it w d mode key = is_held (session_at w.ends.state d) w.job.index mode key
 
@@ -132,6 +145,7 @@ abbrev pub with_held_back : ℕ → ℕ → Mode → List ℕ → JobState → J
 with_held_back d session mode key j =
     record j { held_back = j.held_back ++ record { server = d; session = session; mode = mode; key = key } ∷ [] }
 
+-- an unlock of what isn't held is not held back
 abbrev pub holds_back_if : Bool → ℕ → Mode → List ℕ → Work → Work
 holds_back_if true d mode key w = in_job (with_held_back d (session_at w.ends.state d).number mode key) w
 holds_back_if false d mode key w = w

@@ -29,6 +29,7 @@ broken_from Greeting d now b = becomes d (with_line Apart) b
 broken_from Asking d now b = breaks d now b
 broken_from Joined d now b = breaks d now b
 
+-- the connection ended
 abbrev pub broken : ℕ → ℕ → Sofar → Sofar
 broken d now b = broken_from (end_at b.state d).line d now b
 
@@ -54,6 +55,7 @@ without_session state reason e =
       session = None;
     }
 
+-- the session with a data server is lost for this reason
 abbrev pub loses : ℕ → LinkName → Reason → Sofar → Sofar
 loses d state reason b = becomes d (without_session state reason) b
 
@@ -62,6 +64,7 @@ abbrev pub expires : ℕ → ℕ → ℕ → Sofar → Sofar
 expires d broke now b =
     loses d names.Trouble (reasons.Expired broke now) (writes (Lose b.state.app d (losses.Expired now)) b)
 
+-- a connection is tried, where this holds
 abbrev pub tries_when : Bool → ℕ → Sofar → Sofar
 tries_when true d b = tries d b
 tries_when false d b = b
@@ -71,6 +74,7 @@ abbrev pub ticks_trouble : Bool → ℕ → ℕ → ℕ → ℕ → Sofar → So
 ticks_trouble true d broke try_at now b = expires d broke now b
 ticks_trouble false d broke try_at now b = tries_when (nat_le try_at now) d b
 
+-- only an end in trouble waits for a moment
 abbrev pub ticks_from : AppLink → ℕ → ℕ → Sofar → Sofar
 ticks_from NotConnected d now b = b
 ticks_from Normal d now b = b
@@ -89,6 +93,7 @@ joins_from Normal d b = b
 joins_from (Trouble broke try_at) d b = tries d b
 joins_from Recovery d b = b
 
+-- a connection more was made
 abbrev pub with_dial : AppEnd → AppEnd
 with_dial e = record e { dial = e.dial + 1 }
 
@@ -109,6 +114,7 @@ connected_from Normal d now b = greets d b
 connected_from (Trouble broke try_at) d now b = recovers d now b
 connected_from Recovery d now b = greets d b
 
+-- a connection is there, and it is counted
 abbrev pub connected : ℕ → ℕ → Sofar → Sofar
 connected d now b = connected_from (end_at b.state d).link d now (becomes d with_dial b)
 
@@ -116,14 +122,17 @@ connected d now b = connected_from (end_at b.state d).link d now (becomes d with
 abbrev pub with_failure : ℕ → ℕ → AppEnd → AppEnd
 with_failure before after e = record e { failed = e.failed + 1; before = before; after = after }
 
+-- all jobs may be told of the attempt that failed
 abbrev pub no_way : ℕ → ℕ → ℕ → Sofar → Sofar
 no_way d before after b = becomes d (with_failure before after) (writes (Lose b.state.app d (losses.NoWay before after)) b)
 
+-- an attempt failed, by the state of the link; a job is told of it only where the pair has no session
 abbrev pub failed_from : AppLink → ℕ → ℕ → ℕ → ℕ → Sofar → Sofar
 failed_from NotConnected d before after now b = no_way d before after b
 failed_from Normal d before after now b = b
 failed_from (Trouble broke try_at) d before after now b = happens d now ConnectFailed b
 failed_from Recovery d before after now b = b
 
+-- an attempt failed: there is no connection, and none is tried
 abbrev pub failed : ℕ → ℕ → ℕ → ℕ → Sofar → Sofar
 failed d before after now b = failed_from (end_at b.state d).link d before after now (becomes d (with_line Apart) b)
