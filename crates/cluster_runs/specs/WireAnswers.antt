@@ -1,6 +1,6 @@
 -- Each session that was met, each epoch that was told and each answer that a job was given has a Welcome, a Grant or an Answer of its own
 -- that the application server took, with its numbers.
-use Rattle.std.specs.Prelude.{◌≡◌, ◌≤◌, ℕ, Bool, true, false, ◌==◌, ◌&&◌, ◌+◌, List, Option, Some, None, ℤ}
+use Rattle.std.specs.Prelude.{◌≤◌, ℕ, Bool, true, false, ◌==◌, ◌&&◌, ◌+◌, List, Option, Some, ℤ}
 use Rattle.std.specs.Ordering.{int_eq}
 use Rattle.plain_orders.specs.declared.act.Act.{Act}
 use Rattle.plain_orders.specs.declared.act.Act.TheVariants as act
@@ -11,7 +11,7 @@ use Rattle.ecp_messages.specs.declared.down.Down.{Down}
 use Rattle.ecp_messages.specs.declared.down.Down.TheVariants as down
 use Rattle.ecp_messages.specs.declared.about.About.{About}
 use Rattle.ecp_messages.specs.declared.about.About.TheVariants as about
-use Rattle.plain_runs.specs.Plain.{Plain, runs_on}
+use Rattle.plain_runs.specs.Plain.{runs_on}
 use Rattle.plain_runs.specs.Run.{state_after}
 use Rattle.cluster_runs.specs.Written.{written_while, has_session, is_told_of, acts_of, count_of}
 use Rattle.cluster_runs.specs.Sent.{Sent, Lane, Welcomed, lanes_of, downs_taken, taken_of}
