@@ -45,10 +45,12 @@ abbrev pub ups_from : ℕ → List UpFrame → List Up
 ups_from n [] = []
 ups_from n (f ∷ fs) = if f.seq == n + 1 then f.message ∷ ups_from (n + 1) fs else ups_from n fs
 
+-- the same downwards
 abbrev pub downs_from : ℕ → List DownFrame → List Down
 downs_from n [] = []
 downs_from n (f ∷ fs) = if f.seq == n + 1 then f.message ∷ downs_from (n + 1) fs else downs_from n fs
 
+-- it is of this session and order
 abbrev pub is_place : ℕ → ℕ → Option Place → Bool
 is_place session k None = false
 is_place session k (Some x) = x.session == session && x.order == k
@@ -58,18 +60,22 @@ abbrev pub carries : ℕ → ℕ → Option Connection → Bool
 carries session k None = false
 carries session k (Some c) = is_place session k c.its
 
+-- the frames that were put upwards on a connection, if it was made
 abbrev pub ups_put : Option Connection → List UpFrame
 ups_put None = []
 ups_put (Some c) = c.ups
 
+-- those of them that were taken
 abbrev pub ups_came : Option Connection → List UpFrame
 ups_came None = []
 ups_came (Some c) = take c.ups_taken c.ups
 
+-- the frames that were put downwards on it
 abbrev pub downs_put : Option Connection → List DownFrame
 downs_put None = []
 downs_put (Some c) = c.downs
 
+-- those of them that were taken
 abbrev pub downs_came : Option Connection → List DownFrame
 downs_came None = []
 downs_came (Some c) = take c.downs_taken c.downs
@@ -83,6 +89,7 @@ pub record IsLane (x : Lane) (its : List (Option Connection)) : Type 0 where
   pub downs_taken : IsFront (take x.down_taken x.down) (downs_from 0 (flat_map downs_came its))
   pub within : (x.up_taken ≤ length x.up) × (x.down_taken ≤ length x.down)
 
+-- a message is a Welcome of this session and epoch
 abbrev pub says_welcome : ℕ → ℕ → Down → Bool
 says_welcome session epoch (down.Welcome s e kept front taken) = s == session && e == epoch
 says_welcome session epoch m = false
@@ -91,9 +98,11 @@ says_welcome session epoch m = false
 abbrev pub is_welcome_of : ℕ → ℕ → DownFrame → Bool
 is_welcome_of session epoch f = says_welcome session epoch f.message
 
+-- a frame upwards has a number
 abbrev pub is_numbered_up : UpFrame → Bool
 is_numbered_up f = nat_lt 0 f.seq
 
+-- a frame downwards has a number
 abbrev pub is_numbered_down : DownFrame → Bool
 is_numbered_down f = nat_lt 0 f.seq
 
@@ -118,6 +127,7 @@ pub record IsNumbered (p : Plain) (net : Told) (holds_back : Bool) (app server n
   pub carried : IsConnection told c holds_back
   pub its : ItsIs p server c c.its
 
+-- the same, where the connection was made
 abbrev pub IfNumbered : Plain → Told → Bool → ℕ → ℕ → ℕ → Option Connection → Type 0
 IfNumbered p net holds_back app server n None = Unit {0}
 IfNumbered p net holds_back app server n (Some c) = IsNumbered p net holds_back app server n c
@@ -127,10 +137,12 @@ abbrev pub carriers : Sent → Option ℕ → ℕ → ℕ → ℕ → List (Opti
 carriers sent None server session k = []
 carriers sent (Some app) server session k = filter (carries session k) (connections_of sent app server)
 
+-- a message is a Hello
 abbrev pub says_hello : Up → Bool
 says_hello (up.Hello app dial) = true
 says_hello m = false
 
+-- a frame with a Hello
 abbrev pub is_hello : UpFrame → Bool
 is_hello f = says_hello f.message
 
@@ -139,10 +151,12 @@ abbrev pub hellos_in : Sent → ℕ → ℕ → List ℕ → ℕ
 hellos_in sent server app [] = 0
 hellos_in sent server app (k ∷ ks) = sent.hellos_at server k app + hellos_in sent server app ks
 
+-- what a message says, where it is a Welcome
 abbrev pub welcome_said : Down → List Welcomed
 welcome_said (down.Welcome session epoch kept front taken) = record { session = session; epoch = epoch; kept = kept } ∷ []
 welcome_said m = []
 
+-- the same of a frame
 abbrev pub welcome_in : DownFrame → List Welcomed
 welcome_in f = welcome_said f.message
 
@@ -152,4 +166,5 @@ pub record IsCarried (p : Plain) (sent : Sent) (net : Told) (holds_back : Bool) 
   pub lanes : (server session k : ℕ) → IsLane (sent.lane_at server session k) (carriers sent (app_in (order_at (p.server_at server) k) session) server session k)
   pub hellos : (app server : ℕ) → hellos_in sent server app (order_places p server) ≤ count_of is_hello (flat_map ups_came (connections_of sent app server))
   pub welcomes : (app server : ℕ) (x : Welcomed)
-      → count_of (is_same_welcome x) (sent.welcomes_at app server) ≤ count_of (is_same_welcome x) (flat_map welcome_in (flat_map downs_came (connections_of sent app server)))
+      → count_of (is_same_welcome x) (sent.welcomes_at app server)
+        ≤ count_of (is_same_welcome x) (flat_map welcome_in (flat_map downs_came (connections_of sent app server)))

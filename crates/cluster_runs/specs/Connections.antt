@@ -20,12 +20,15 @@ fresh_connection = record { ups = []; ups_taken = 0; downs = []; downs_taken = 0
 abbrev pub up_taken : Connection → Connection
 up_taken c = record c { ups_taken = c.ups_taken + 1; linked = true }
 
+-- the application end takes the next frame
 abbrev pub down_taken : Connection → Connection
 down_taken c = record c { downs_taken = c.downs_taken + 1 }
 
+-- the application end leaves
 abbrev pub app_leaves : Connection → Connection
 app_leaves c = record c { app_left = true }
 
+-- the data end leaves
 abbrev pub data_leaves : Connection → Connection
 data_leaves c = record c { data_left = true }
 
@@ -75,6 +78,7 @@ with_connection number e = record e { connection_at = λ n. if n == number then 
 abbrev pub at_each : (ℕ → ℕ → Connection → Connection) → Site → Site
 at_each f x = record x { end_at = λ a. record (x.end_at a) { connection_at = λ n. option_map (f a n) ((x.end_at a).connection_at n) } }
 
+-- what a data connection is linked to, if it was accepted
 abbrev pub link_in : Option DataConnection → Option Linked
 link_in None = None
 link_in (Some c) = c.link
@@ -83,6 +87,7 @@ link_in (Some c) = c.link
 abbrev pub link_of : Site → ℕ → Option Linked
 link_of x conn = link_in (x.connection_at conn)
 
+-- a link is to the application server's connection of this number
 abbrev pub is_link : ℕ → ℕ → Option Linked → Bool
 is_link app number None = false
 is_link app number (Some l) = l.app == app && l.dial == number
@@ -99,6 +104,7 @@ at_conn conn f x = record x { connection_at = λ n. if n == conn then option_map
 abbrev pub accepts : ℕ → Site → Site
 accepts conn x = record x { connection_at = λ n. if n == conn then Some (record { link = None; left = false }) else x.connection_at n }
 
+-- the first link, and the second where there is none
 abbrev pub link_else : Option Linked → Option Linked → Option Linked
 link_else None l = l
 link_else (Some x) l = Some x
@@ -107,6 +113,7 @@ link_else (Some x) l = Some x
 abbrev pub linked_if : Option Linked → DataConnection → DataConnection
 linked_if l c = record c { link = link_else c.link l }
 
+-- the data end has left it
 abbrev pub left : DataConnection → DataConnection
 left c = record c { left = true }
 
@@ -114,10 +121,12 @@ left c = record c { left = true }
 abbrev pub leaves_conn : ℕ → Site → Site
 leaves_conn conn x = at_conn conn left (at_link (link_of x conn) data_leaves x)
 
+-- it leaves several, in this order
 abbrev pub leaves_conns : List ℕ → Site → Site
 leaves_conns [] x = x
 leaves_conns (conn ∷ conns) x = leaves_conns conns (leaves_conn conn x)
 
+-- it leaves one of which it took something
 abbrev pub leaves_linked : Connection → Connection
 leaves_linked c = record c { data_left = if c.linked then true else c.data_left }
 
@@ -129,6 +138,7 @@ leaves_all x = at_each (λ a n c. leaves_linked c) (record x { connection_at = �
 abbrev pub is_out_on : Site → ℕ → ℕ → DownOut → Bool
 is_out_on x app number f = is_link app number (link_of x f.conn)
 
+-- the frame that is put
 abbrev pub down_of : DownOut → DownFrame
 down_of f = f.down
 
@@ -136,9 +146,11 @@ down_of f = f.down
 abbrev pub hears_downs : List DownOut → Site → Site
 hears_downs frames x = at_each (λ a n c. with_downs x.past (map down_of (filter (is_out_on x a n) frames)) c) x
 
+-- a frame is put to this data server
 abbrev pub is_out_to : ℕ → UpOut → Bool
 is_out_to server f = f.server == server
 
+-- the frame that is put
 abbrev pub up_of : UpOut → UpFrame
 up_of f = f.up
 
@@ -146,6 +158,7 @@ up_of f = f.up
 abbrev pub ups_to : ℕ → List UpOut → List UpFrame
 ups_to server frames = map up_of (filter (is_out_to server) frames)
 
+-- it is this data server
 abbrev pub is_index : ℕ → ℕ → Bool
 is_index server n = n == server
 

@@ -58,9 +58,11 @@ with_lanes old new outs x = record x {
   lane_at = λ session k. if k == x.past then with_data_step old new outs.frames session (x.lane_at session k) else x.lane_at session k;
 }
 
+-- a Hello more, where one was taken in the current order
 abbrev pub with_hellos : DataIn → Site → Site
 with_hellos input x = record x { hellos_at = λ k app. if k == x.past then x.hellos_at k app + hellos_by input app else x.hellos_at k app }
 
+-- the data server, its order and the moment after a step
 abbrev pub with_node : ℕ → DataState → Site → Site
 with_node now d x = record x { node = Some d; order = Some d.order; now = now }
 
@@ -96,6 +98,7 @@ pub record BeginGoes (m : Machine) (server now : ℕ) (entries : List Entry) (ou
   pub after : new ≡ with_acts written (at_site server
       (λ x. with_node now (started server m.layout.times entries now) (record x { past = past_with x.order x.past })) m)
 
+-- the data server is down
 abbrev pub without_node : Site → Site
 without_node x = record x { node = None }
 
@@ -136,6 +139,7 @@ app_site app server outs old new m e x =
     at_told e.told (with_app_step (is_told_new old.session new.session) m (sent_before old.session) new.session (ups_to server outs.frames))
     (record x { end_at = put x.end_at app e })
 
+-- a frame of this data server shows its change, another shows none
 abbrev pub ShowsIf : Bool → Down → AppEnd → AppEnd → Shown → Shown → Type 0
 ShowsIf true m old new x y = ShowsEnd old.session new.session m greatest x y
 ShowsIf false m old new x y = y ≡ x
@@ -162,7 +166,8 @@ message_from server app_in.Tick = None
 abbrev pub input_site : ℕ → AppIn → AppOuts → AppState → (ℕ → Shown) → ℕ → Site → Site
 input_site app input outs new shown server x =
     app_site app server outs (x.end_at app).state (end_at new server) (message_from server input)
-    (app_end server outs (x.end_at app).state (end_at new server) (shown server) (message_from server input) (app_takes server input (x.end_at app).state.dial (x.end_at app)))
+    (app_end server outs (x.end_at app).state (end_at new server) (shown server) (message_from server input)
+        (app_takes server input (x.end_at app).state.dial (x.end_at app)))
     x
 
 -- a step of an application server's ends

@@ -17,8 +17,6 @@ use Rattle.data_rules.specs.declared.data_in.DataIn.TheVariants as data_in
 use Rattle.data_rules.specs.declared.rows.Noted.{Noted}
 use Rattle.data_rules.specs.declared.down_frames.DownOut.{DownOut}
 use Rattle.data_rules.specs.Puts.{window_of, conn_of}
-use Rattle.app_rules.specs.declared.app_in.AppIn.{AppIn}
-use Rattle.app_rules.specs.declared.app_in.AppIn.TheVariants as app_in
 use Rattle.app_rules.specs.AppState.{Session}
 use Rattle.cluster_runs.specs.Sent.{Lane, Place, Connection, Welcomed}
 use Rattle.cluster_runs.specs.Written.{is_number, count_of}
@@ -35,6 +33,7 @@ given_since n w = drop (n - w.acked) w.waiting
 abbrev pub is_noted_of : ℕ → Noted → Bool
 is_noted_of session n = n.session == session
 
+-- the span of a note
 abbrev pub span_of : Noted → Span
 span_of n = n.span
 
@@ -64,6 +63,7 @@ downs_given false old new session = given_since (sent (window_of old session)) (
 abbrev pub is_closed_by : DataState → DataState → ℕ → Bool
 is_closed_by old new session = live old.order session && not (live new.order session)
 
+-- an acknowledgement by itself
 abbrev pub is_bare_down : Down → Bool
 is_bare_down down.Bare = true
 is_bare_down m = false
@@ -85,6 +85,7 @@ abbrev pub hellos_on : Up → ℕ → ℕ
 hellos_on (up.Hello a dial) app = if a == app then 1 else 0
 hellos_on m app = 0
 
+-- how many an input brings
 abbrev pub hellos_by : DataIn → ℕ → ℕ
 hellos_by (data_in.Frame conn frame) app = hellos_on frame.message app
 hellos_by (data_in.Connected conn) app = 0
@@ -101,14 +102,17 @@ is_told_new None (Some t) = true
 is_told_new (Some s) None = false
 is_told_new (Some s) (Some t) = not (s.epoch == t.epoch)
 
+-- how many a session had sent, where there was one
 abbrev pub sent_before : Option Session → ℕ
 sent_before None = 0
 sent_before (Some s) = sent s.window
 
+-- an acknowledgement by itself
 abbrev pub is_bare_up : Up → Bool
 is_bare_up up.Bare = true
 is_bare_up m = false
 
+-- a frame with one
 abbrev pub is_bare_frame : UpFrame → Bool
 is_bare_frame f = is_bare_up f.message
 
@@ -129,23 +133,17 @@ abbrev pub front_said : Down → Front
 front_said (down.Welcome session epoch kept front taken) = front
 front_said m = record { n = 0; w = 0; s = 0 }
 
+-- what a Welcome says of its session
 abbrev pub said : Down → List Welcomed
 said (down.Welcome session epoch kept front taken) = record { session = session; epoch = epoch; kept = kept } ∷ []
 said m = []
 
--- the message that an input brings
-abbrev pub message_in : AppIn → Option Down
-message_in (app_in.Frame server frame) = Some frame.message
-message_in (app_in.Connected server) = None
-message_in (app_in.NoWay server fails_before fails_after) = None
-message_in (app_in.Broken server) = None
-message_in (app_in.Join server) = None
-message_in app_in.Tick = None
-
+-- the same of a message, if one came
 abbrev pub said_by : Option Down → List Welcomed
 said_by None = []
 said_by (Some m) = said m
 
+-- its front, if one came
 abbrev pub front_by : Option Down → Front
 front_by None = record { n = 0; w = 0; s = 0 }
 front_by (Some m) = front_said m
@@ -156,6 +154,7 @@ with_app_step begins m n None frames x = x
 with_app_step true m n (Some t) frames x = with_bares frames (begins_lane (front_by m) t x)
 with_app_step false m n (Some t) frames x = with_bares frames (goes_on n t x)
 
+-- whose messages a connection carries, if it was made
 abbrev pub its_of : Option Connection → Option Place
 its_of None = None
 its_of (Some c) = c.its

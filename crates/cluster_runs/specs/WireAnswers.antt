@@ -32,9 +32,11 @@ abbrev pub is_told_so : ℕ → ℕ → Welcomed → Act → Bool
 is_told_so app server x (act.Told a d s epoch kept) = a == app && d == server && s == x.session && epoch == x.epoch && kept == x.kept
 is_told_so app server x a = false
 
+-- a Welcome of this session
 abbrev pub is_welcome_to : ℕ → Welcomed → Bool
 is_welcome_to session x = x.session == session
 
+-- a Welcome with the same numbers
 abbrev pub is_same_welcome : Welcomed → Welcomed → Bool
 is_same_welcome x y = x.session == y.session && x.epoch == y.epoch && x.kept == y.kept
 
@@ -48,6 +50,7 @@ abbrev pub is_granted : ℕ → ℕ → ℕ → Act → Bool
 is_granted job server at (act.Granted j line d n) = j == job && d == server && n == at
 is_granted job server at a = false
 
+-- an Ask of this job
 abbrev pub is_ask_of : ℕ → Option Up → Bool
 is_ask_of job (Some (up.Ask ticket j mode key)) = j == job
 is_ask_of job m = false
@@ -61,6 +64,7 @@ is_grant_to ups job at m = false
 pub record GrantsServe (acts : List Act) (server : ℕ) (x : Lane) : Type 0 where
   pub granted : (job at : ℕ) → count_of (is_granted job server at) acts ≤ count_of (is_grant_to x.up job at) (downs_taken x)
 
+-- both are about the same
 abbrev pub is_same_about : About → About → Bool
 is_same_about about.Counted about.Counted = true
 is_same_about about.NotWhole about.NotWhole = true
@@ -102,6 +106,8 @@ pub record AnswersServe (l : Layout) (acts : List Act) (app server : ℕ) (taken
 -- the acts of an application server's jobs are among those written while its pair had the session
 pub record JobsHaveCauses (l : Layout) (trail : List Act) (sent : Sent) : Type 0 where
   pub welcomes : (app server : ℕ) → WelcomesServe trail app server (sent.welcomes_at app server)
-  pub grants : (app server session k : ℕ) → GrantsServe (acts_of l app (written_while l trail (is_told_of app server session k))) server (sent.lane_at server session k)
+  pub grants : (app server session k : ℕ)
+      → GrantsServe (acts_of l app (written_while l trail (is_told_of app server session k))) server (sent.lane_at server session k)
   pub answers : (app server session : ℕ)
-      → AnswersServe l (acts_of l app (written_while l trail (has_session app server session))) app server (taken_of (lanes_of (state_after l trail) sent server session))
+      → AnswersServe l (acts_of l app (written_while l trail (has_session app server session))) app server
+          (taken_of (lanes_of (state_after l trail) sent server session))

@@ -36,11 +36,13 @@ abbrev pub is_enter_open : ℕ → ℕ → Act → Bool
 is_enter_open server app (act.Enter d e) = d == server && is_open_of app e
 is_enter_open server app a = false
 
+-- a Hello is the cause
 abbrev pub is_replaced : ShutCause → Bool
 is_replaced (shuts.Trouble time) = false
 is_replaced shuts.Replaced = true
 is_replaced (shuts.Round time) = false
 
+-- it is this application server
 abbrev pub is_app : ℕ → Option ℕ → Bool
 is_app app None = false
 is_app app (Some a) = a == app
@@ -55,6 +57,7 @@ pub record HellosServe (acts : List Act) (order : List Entry) (server app hellos
   pub opens : count_of (is_enter_open server app) acts ≤ hellos
   pub shuts : count_of (is_shut_replaced server app order) acts ≤ hellos
 
+-- the round is the cause
 abbrev pub is_round : ShutCause → Bool
 is_round (shuts.Trouble time) = false
 is_round shuts.Replaced = false
@@ -65,6 +68,7 @@ abbrev pub is_shut_round : ℕ → ℕ → Act → Bool
 is_shut_round server session (act.Shut d s cause) = d == server && s == session && is_round cause
 is_shut_round server session a = false
 
+-- a Done
 abbrev pub is_done : Up → Bool
 is_done up.Done = true
 is_done m = false
@@ -76,5 +80,6 @@ pub record NoneWasDone (acts : List Act) (server session : ℕ) (x : Lane) : Typ
 -- What a data server wrote has its causes, in each order.
 pub record ServersHaveCauses (l : Layout) (trail : List Act) (sent : Sent) : Type 0 where
   pub locks : (server session k : ℕ) → LocksHaveCauses (acts_in l trail server k) server session (sent.lane_at server session k)
-  pub hellos : (server k app : ℕ) → HellosServe (acts_in l trail server k) (order_at ((state_after l trail).server_at server) k) server app (sent.hellos_at server k app)
+  pub hellos : (server k app : ℕ)
+      → HellosServe (acts_in l trail server k) (order_at ((state_after l trail).server_at server) k) server app (sent.hellos_at server k app)
   pub undone : (server session k : ℕ) → NoneWasDone (acts_in l trail server k) server session (sent.lane_at server session k)

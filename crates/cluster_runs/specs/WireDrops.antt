@@ -40,15 +40,19 @@ pub record Notes : Type 0 where
   pub saved : Bool
   pub closed : Bool
 
+-- a header on an order, while so much of the whole is synced
 abbrev pub head : List Entry → List Entry → ℕ → ℕ → Front
 head order whole synced session = record { n = length order; w = count order session; s = count (take synced whole) session }
 
+-- some of these spans meets it
 abbrev pub is_met : List Span → Span → Bool
 is_met spans span = list_any (meets span) spans
 
+-- none of these spans meets it
 abbrev pub is_unmet : List Span → Span → Bool
 is_unmet spans span = not (is_met spans span)
 
+-- nothing follows
 abbrev pub is_last : List Span → Bool
 is_last [] = true
 is_last (x ∷ xs) = false
@@ -73,9 +77,11 @@ with_entry t session e =
       due = drops_of t.order (t.order ++ e ∷ []) t.synced session (filter (is_met (entry_spans (fold t.order) e)) t.noted);
     }
 
+-- an entry is appended
 abbrev pub appended : Notes → ℕ → Entry → Notes
 appended t session e = with_entry (without_notes (closes session e) t) session e
 
+-- so many entries are synced
 abbrev pub saved_upto : Notes → ℕ → ℕ → Notes
 saved_upto t session n =
     record t { synced = n; saved = t.saved || list_any (is_item_of session) (drop t.synced (take n t.order)) }
@@ -102,6 +108,7 @@ pub record AcksSaved (t u : Notes) : Type 0 where
   pub none_due : t.due ≡ []
   pub after : u ≡ record t { saved = false }
 
+-- any other message leaves all as it is
 pub record PutsOther (t u : Notes) : Type 0 where
   pub none_due : t.due ≡ []
   pub after : u ≡ t
@@ -183,6 +190,7 @@ notes_after began before = record {
 abbrev pub began_with : List Entry → List Entry
 began_with order = take (epoch_place order) order
 
+-- a Block
 abbrev pub is_block : Down → Bool
 is_block (down.Block front block) = true
 is_block m = false
@@ -193,6 +201,7 @@ pub record BlockCovers (block key : List ℕ) : Type 0 where
   pub its : IsBlockOf run block
   pub covers_it : covers key run ≡ true
 
+-- a Block covers a key
 abbrev pub Covers : Down → List ℕ → Type 0
 Covers (down.Block front block) key = BlockCovers block key
 Covers m key = ⊥
@@ -219,4 +228,5 @@ pub record PutsRight (session : ℕ) (acts : List Act) (server : ℕ) (began : L
 -- in each session and order
 abbrev pub EachPutsRight : Layout → List Act → Sent → Type 0
 EachPutsRight l trail sent = (server session k : ℕ)
-    → PutsRight session (written_while l trail (has_order server k)) server (began_with (order_at ((state_after l trail).server_at server) k)) (sent.lane_at server session k)
+    → PutsRight session (written_while l trail (has_order server k)) server
+        (began_with (order_at ((state_after l trail).server_at server) k)) (sent.lane_at server session k)

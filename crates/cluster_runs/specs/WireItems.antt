@@ -22,6 +22,7 @@ pub record Numbered : Type 0 where
   pub txn : ℕ
   pub item : Item
 
+-- the same from its parts
 abbrev pub numbered : ℕ → ℕ → ℕ → Item → Numbered
 numbered w job txn item = record { w = w; job = job; txn = txn; item = item }
 

@@ -20,6 +20,7 @@ written_while l trail test = written_from l test start trail
 abbrev pub has_order : ℕ → ℕ → Plain → Bool
 has_order server k p = current (p.server_at server) == k
 
+-- it is this number
 abbrev pub is_number : ℕ → Option ℕ → Bool
 is_number n None = false
 is_number n (Some m) = m == n
@@ -73,10 +74,12 @@ job_of (act.Lose app server loss) = None
 job_of (act.Died app) = None
 job_of (act.Tick time) = None
 
+-- a job of this application server
 abbrev pub is_of_app : Layout → ℕ → Option ℕ → Bool
 is_of_app l app None = false
 is_of_app l app (Some job) = runs_on l app job
 
+-- an act of such a job
 abbrev pub is_act_of : Layout → ℕ → Act → Bool
 is_act_of l app a = is_of_app l app (job_of a)
 
