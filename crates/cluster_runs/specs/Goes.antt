@@ -23,7 +23,7 @@ use Rattle.app_rules.specs.AppState.{AppState, AppEnd}
 use Rattle.app_rules.specs.AppStep.{AppStep}
 use Rattle.app_rules.specs.JobState.{JobState, with_used}
 use Rattle.app_rules.specs.JobStep.{JobStep}
-use Rattle.app_rules.specs.Looks.{Shown, Front, LookMay, ShowsEnd, view_of}
+use Rattle.app_rules.specs.Looks.{Shown, View, Front, LookMay, ShowsEnd, view_of}
 use Rattle.app_rules.specs.Works.{end_at}
 use Rattle.data_rules.specs.declared.data_in.DataIn.{DataIn}
 use Rattle.data_rules.specs.declared.data_in.DataIn.TheVariants as data_in
@@ -33,7 +33,7 @@ use Rattle.data_rules.specs.Step.{DataStep, started}
 use Rattle.cluster_runs.specs.declared.moves.Move.{Move}
 use Rattle.cluster_runs.specs.declared.moves.Move.TheVariants.{Step, Looked, App, Server, Begin, Halt, Die, Tick}
 use Rattle.cluster_runs.specs.declared.move_outs.MoveOuts.{MoveOuts}
-use Rattle.cluster_runs.specs.CoresState.{app_of_job}
+use Rattle.cluster_runs.specs.CoresState.{Begun, app_of_job}
 use Rattle.cluster_runs.specs.Moves.{named_dial}
 use Rattle.cluster_runs.specs.Sent.{Lane, Place}
 use Rattle.cluster_runs.specs.Steps.{no_outs, app_move_outs, data_move_outs, begun_with, raised, begin_act, greatest, ticked_shown}
@@ -170,6 +170,10 @@ input_site app input outs new shown server x =
         (app_takes server input (x.end_at app).state.dial (x.end_at app)))
     x
 
+-- each site after a step of an application server, and its moment
+abbrev pub at_app : ℕ → ℕ → (ℕ → Site → Site) → Machine → Machine
+at_app app now f m = record m { site_at = λ server. f server (m.site_at server); app_now_at = put m.app_now_at app now }
+
 -- a step of an application server's ends
 pub record AppGoes (m : Machine) (app now : ℕ) (input : AppIn) (outs : MoveOuts) (written : List Act) (new : Machine) : Type 0 where
   pub app_outs : AppOuts
@@ -179,10 +183,7 @@ pub record AppGoes (m : Machine) (app now : ℕ) (input : AppIn) (outs : MoveOut
   pub shows : (server : ℕ) → ShowsInput server input (end_state m app server) (end_at state server) ((m.site_at server).end_at app).shown (shown server)
   pub sent : outs ≡ app_move_outs None app_outs
   pub acts : written ≡ app_outs.acts
-  pub after : new ≡ with_acts written (record m {
-    site_at = λ server. input_site app input app_outs state shown server (m.site_at server);
-    app_now_at = put m.app_now_at app now;
-  })
+  pub after : new ≡ with_acts written (at_app app now (input_site app input app_outs state shown) m)
 
 -- a site after a step of a job: its end took nothing
 abbrev pub job_site : ℕ → AppOuts → AppState → ℕ → Site → Site
@@ -190,6 +191,14 @@ job_site app outs new server x =
     app_site app server outs (x.end_at app).state (end_at new server) None
     (app_end server outs (x.end_at app).state (end_at new server) (x.end_at app).shown None (x.end_at app))
     x
+
+-- a job after a step
+abbrev pub with_job : ℕ → JobState → Begun → Machine → Machine
+with_job job j b m = record m { job_at = put m.job_at job j; begun_at = put m.begun_at job b }
+
+-- what it knows after it
+abbrev pub with_view : ℕ → View → Machine → Machine
+with_view job v m = record m { view_at = put m.view_at job v }
 
 -- a step of a job
 pub record JobGoes (m : Machine) (app job now line : ℕ) (command : Command) (outs : MoveOuts) (written : List Act) (new : Machine) : Type 0 where
@@ -200,13 +209,8 @@ pub record JobGoes (m : Machine) (app job now line : ℕ) (command : Command) (o
   pub steps : JobStep (app_state m app) (m.job_at job) now line command answer app_outs state job_state
   pub sent : outs ≡ app_move_outs (Some answer) app_outs
   pub acts : written ≡ app_outs.acts
-  pub after : new ≡ with_acts written (record m {
-    site_at = λ server. job_site app app_outs state server (m.site_at server);
-    job_at = put m.job_at job job_state;
-    begun_at = put m.begun_at job (begun_with line command answer);
-    view_at = put m.view_at job (view_of state job_state);
-    app_now_at = put m.app_now_at app now;
-  })
+  pub after : new ≡ with_acts written (with_view job (view_of state job_state) (with_job job job_state (begun_with line command answer)
+      (at_app app now (job_site app app_outs state) m)))
 
 -- a look is answered from what is shown
 pub record LookGoes (m : Machine) (app job line : ℕ) (at : Target) (outs : MoveOuts) (written : List Act) (new : Machine) : Type 0 where
@@ -215,19 +219,20 @@ pub record LookGoes (m : Machine) (app job line : ℕ) (at : Target) (outs : Mov
   pub look : LookMay (m.view_at job) ((m.site_at at.server).end_at app).shown at.server at.key front run
   pub sent : outs ≡ record no_outs { answer = Some (answers.Value (value_at (pairs_of run) at.key) front.n Cached) }
   pub acts : written ≡ act.Read job line at.server front.n Cached (GetQuestion at.key (value_at (pairs_of run) at.key)) ∷ []
-  pub after : new ≡ with_acts written (record m {
-    job_at = put m.job_at job (with_used at.server (Some front.session) (m.job_at job));
-    begun_at = put m.begun_at job (record { line = line; waits = None });
-  })
+  pub after : new ≡ with_acts written (with_job job (with_used at.server (Some front.session) (m.job_at job)) (record { line = line; waits = None }) m)
+
+-- its connections are left
+abbrev pub dies : ℕ → Machine → Machine
+dies app m = record m {
+  site_at = λ server. at_each (λ a n c. if a == app then app_leaves c else c) (m.site_at server);
+  is_dead_at = put m.is_dead_at app true;
+}
 
 -- an application server is gone
 pub record DieGoes (m : Machine) (app : ℕ) (outs : MoveOuts) (written : List Act) (new : Machine) : Type 0 where
   pub sent : outs ≡ no_outs
   pub acts : written ≡ act.Died app ∷ []
-  pub after : new ≡ with_acts written (record m {
-    site_at = λ server. at_each (λ a n c. if a == app then app_leaves c else c) (m.site_at server);
-    is_dead_at = put m.is_dead_at app true;
-  })
+  pub after : new ≡ with_acts written (dies app m)
 
 -- a tick is written
 pub record TickGoes (m : Machine) (now : ℕ) (outs : MoveOuts) (written : List Act) (new : Machine) : Type 0 where
