@@ -9,6 +9,7 @@ use Rattle.plain_orders.specs.Sessions.{is_close}
 use Rattle.link_states.specs.declared.link_event.LinkEvent.TheVariants.{Opened, RoundOver}
 use Rattle.ecp_messages.specs.declared.down.Down.TheVariants.{Normal}
 use Rattle.end_words.specs.Windows.{fresh}
+use Rattle.data_rules.specs.declared.limits.TheConstants.{APP_LIMIT}
 use Rattle.data_rules.specs.declared.rows.Caller.{Caller}
 use Rattle.data_rules.specs.declared.rows.LiveEnd.{LiveEnd}
 use Rattle.plain_orders.specs.declared.entry.Entry.{Entry}
@@ -55,7 +56,7 @@ come_back (x ∷ xs) now b = come_back xs now (comes_back x.app x.session now b)
 
 -- the indexes that an application server may have
 abbrev pub all_apps : List ℕ
-all_apps = range_with_len 0 256
+all_apps = range_with_len 0 APP_LIMIT
 
 -- an end more, where it has a live session
 abbrev pub with_end : Option ℕ → ℕ → List LiveEnd → List LiveEnd

@@ -14,6 +14,7 @@ use Rattle.ecp_messages.specs.Ups.{IsUpFrame}
 use Rattle.data_rules.specs.declared.data_in.DataIn.{DataIn}
 use Rattle.data_rules.specs.declared.data_in.DataIn.TheVariants.{Frame, Connected, Broken, Tick, Saved}
 use Rattle.data_rules.specs.declared.data_outs.DataOuts.{DataOuts}
+use Rattle.data_rules.specs.declared.limits.TheConstants.{APP_LIMIT}
 use Rattle.data_rules.specs.declared.rows.LiveEnd.{LiveEnd}
 use Rattle.data_rules.specs.DataState.{DataState}
 use Rattle.data_rules.specs.LockWords.{no_locks}
@@ -81,8 +82,8 @@ with_epoch server times entries =
       times = times;
       order = entries ++ Epoch (last_epoch entries + 1) ∷ [];
       synced = length entries;
-      links = replicate 256 Free;
-      dials = replicate 256 0;
+      links = replicate APP_LIMIT Free;
+      dials = replicate APP_LIMIT 0;
       conns = [];
       callers = [];
       windows = [];

@@ -16,6 +16,8 @@ hello_examples = (
   refl,
   search rules,
   record { taken = calls 1 1 7 0 (begun accepted); takes = inl (record { later = omega arith; after = refl }); after = refl },
+  record { seq_fits = omega arith; ack_fits = omega arith; numbered = omega arith; fields = tt; sum = refl },
+  (λ may. omega (arith, may.numbered)),
   record { taken = ends_conn 7 0 (begun accepted); takes = record { after = refl }; after = refl },
   refl,
   record { no_less = omega arith; within = omega arith },

@@ -9,6 +9,7 @@ use Rattle.plain_orders.specs.Entries.{last_epoch}
 use Rattle.ecp_messages.specs.declared.down.Down.TheVariants.{Welcome}
 use Rattle.ecp_messages.specs.declared.up.Up.TheVariants.{Hello, Done}
 use Rattle.end_words.specs.Windows.{fresh}
+use Rattle.data_rules.specs.declared.limits.TheConstants.{APP_LIMIT}
 use Rattle.data_rules.specs.declared.data_in.DataIn.TheVariants.{Frame, Connected, Saved}
 use Rattle.data_rules.specs.declared.rows.Role.TheVariants.{Bound}
 use Rattle.data_rules.specs.declared.rows.Says.TheVariants.{NewWelcome}
@@ -23,7 +24,7 @@ abbrev pub replaced : DataState
 replaced =
     record welcomed {
       order = Epoch 1 ∷ Opened 2 1 ∷ Closed 2 ∷ Opened 4 1 ∷ [];
-      dials = set (replicate 256 0) 1 2;
+      dials = set (replicate APP_LIMIT 0) 1 2;
       conns = record { number = 8; role = Bound 4 } ∷ [];
       windows = record { session = 4; window = fresh } ∷ [];
       replies = record { at = 4; says = NewWelcome 8 4 } ∷ [];
@@ -46,6 +47,9 @@ HelloExamples =
     × (DataMay accepted (Connected 7) → ⊥)
     -- a Hello
     × DataStep accepted 0 (Frame 7 (up 0 0 (Hello 1 1))) (outs [] [] (Enter 0 (Opened 2 1) ∷ [])) greeted
+    -- a frame that is none: a numbered message has no number
+    × DataMay accepted (Frame 7 (up 1 0 Done))
+    × (DataMay accepted (Frame 7 (up 0 0 Done)) → ⊥)
     -- another message comes first
     × DataStep accepted 0 (Frame 7 (up 1 0 Done)) (outs [] (7 ∷ []) []) began
     -- the Epoch is saved: nothing leaves

@@ -13,6 +13,7 @@ use Rattle.ecp_messages.specs.declared.down.Down.{Down}
 use Rattle.ecp_messages.specs.declared.down.Down.TheVariants.{Block, Drop}
 use Rattle.ecp_messages.specs.declared.up.UpFrame.{UpFrame}
 use Rattle.end_words.specs.Windows.{fresh}
+use Rattle.data_rules.specs.declared.limits.TheConstants.{APP_LIMIT}
 use Rattle.data_rules.specs.declared.data_outs.DataOuts.{DataOuts}
 use Rattle.data_rules.specs.declared.down_frames.DownOut.{DownOut}
 use Rattle.data_rules.specs.declared.rows.Role.TheVariants.{New, Bound}
@@ -49,8 +50,8 @@ abbrev pub greeted : DataState
 greeted =
     record accepted {
       order = Epoch 1 ∷ Opened 2 1 ∷ [];
-      links = set (replicate 256 Free) 1 Normal;
-      dials = set (replicate 256 0) 1 1;
+      links = set (replicate APP_LIMIT Free) 1 Normal;
+      dials = set (replicate APP_LIMIT 0) 1 1;
       conns = record { number = 7; role = Bound 2 } ∷ [];
       windows = record { session = 2; window = fresh } ∷ [];
       replies = record { at = 2; says = NewWelcome 7 2 } ∷ [];
