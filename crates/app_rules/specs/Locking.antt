@@ -62,11 +62,6 @@ asks d mode key w =
     (on (sets d (with_ask ((end_at w.ends.state d).ticket + 1) w.job.index mode key))
     (on (becomes d with_ticket) w))
 
--- where the command has none yet
-abbrev pub asks_if_none : Option Asked → ℕ → Mode → List ℕ → Work → Work
-asks_if_none None d mode key w = asks d mode key w
-asks_if_none (Some a) d mode key w = w
-
 -- the Ask of the job's command, where one is there
 abbrev pub ask_of_job : Work → ℕ → Option Asked
 ask_of_job w d = find (is_ask_of w.job.index) (session_at w.ends.state d).asks
@@ -99,18 +94,14 @@ abbrev pub by_grant : Option ℕ → ℕ → Mode → List ℕ → Option ℕ �
 by_grant (Some at) d mode key wait now w = holds_now d mode key at w
 by_grant None d mode key wait now w = waits_grant (is_due wait w.at.first now) d mode key w
 
--- by the Ask of the command
-abbrev pub by_ask : Option Asked → ℕ → Mode → List ℕ → Option ℕ → ℕ → Work → Turn
-by_ask None d mode key wait now w = waits why.Grant w
-by_ask (Some a) d mode key wait now w = by_grant a.at d mode key wait now w
+-- by the Ask of the command, which is put where there is none; its Grant can't have been taken then
+abbrev pub locks_by : Option Asked → ℕ → Mode → List ℕ → Option ℕ → ℕ → Work → Turn
+locks_by None d mode key wait now w = by_grant None d mode key wait now (asks d mode key w)
+locks_by (Some a) d mode key wait now w = by_grant a.at d mode key wait now w
 
--- the lock of a command whose Ask was put
-abbrev pub asked_now : ℕ → Mode → List ℕ → Option ℕ → ℕ → Work → Turn
-asked_now d mode key wait now w = by_ask (ask_of_job w d) d mode key wait now w
-
--- a lock at a Normal connection: the Ask first, where the command has none
+-- a lock at a Normal connection
 abbrev pub locks_now : ℕ → Mode → List ℕ → Option ℕ → ℕ → Work → Turn
-locks_now d mode key wait now w = asked_now d mode key wait now (asks_if_none (ask_of_job w d) d mode key w)
+locks_now d mode key wait now w = locks_by (ask_of_job w d) d mode key wait now w
 
 -- A lock.
 abbrev pub lock_turn : Site → Mode → Option ℕ → ℕ → Work → Turn

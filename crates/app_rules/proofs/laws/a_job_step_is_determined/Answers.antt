@@ -1,0 +1,5 @@
+use Rattle.app_rules.proofs.JobAlike.{job_steps_alike as proof}
+use Rattle.app_rules.proofs.laws.a_job_step_is_determined.Goals as goal
+
+pub returns : goal.returns
+returns c = proof

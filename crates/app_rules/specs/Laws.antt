@@ -1,0 +1,58 @@
+-- What the steps of an application server's ends leave as it was, and that these steps and those of its jobs are determined.
+use Rattle.std.specs.Prelude.{◌≡◌, ◌≢◌, ℕ, length, Option, Some, None, IfSome}
+use Rattle.app_rules.specs.declared.app_in.AppIn.{AppIn}
+use Rattle.app_rules.specs.declared.app_in.AppIn.TheVariants.{Frame, Connected, NoWay, Broken, Join, Tick}
+use Rattle.app_rules.specs.declared.app_outs.AppOuts.{AppOuts}
+use Rattle.app_rules.specs.AppState.{AppState}
+use Rattle.app_rules.specs.Works.{end_at}
+use Rattle.app_job.specs.declared.command.Command.{Command}
+use Rattle.app_job.specs.declared.answer.Answer.{Answer}
+use Rattle.app_rules.specs.AppStep.{AppStep}
+use Rattle.app_rules.specs.JobState.{JobState}
+use Rattle.app_rules.specs.JobStep.{JobStep}
+
+-- the data server that an input names; a tick names none
+abbrev pub named_by : AppIn → Option ℕ
+named_by (Frame d down) = Some d
+named_by (Connected d) = Some d
+named_by (NoWay d fails_before fails_after) = Some d
+named_by (Broken d) = Some d
+named_by (Join d) = Some d
+named_by Tick = None
+
+-- the same application server, with as many ends
+pub record IsSameApp (a b : AppState) : Type 0 where
+  pub app : b.app ≡ a.app
+  pub times : b.times ≡ a.times
+  pub ends : length b.ends ≡ length a.ends
+
+-- each end but that with this data server is as it was
+abbrev pub KeepsOthers : AppState → AppState → ℕ → Type 0
+KeepsOthers a b d = (e : ℕ) → e ≢ d → end_at b e ≡ end_at a e
+
+-- a step leaves all ends but that with the data server which its input names
+abbrev pub StepsAtOneEnd : Type 0
+StepsAtOneEnd = (old new : AppState) (now : ℕ) (input : AppIn) (outs : AppOuts)
+    → AppStep old now input outs new → IsSameApp old new × IfSome (named_by input) (KeepsOthers old new)
+
+-- the same job, which counts as many data servers
+pub record IsSameJob (a b : JobState) : Type 0 where
+  pub index : b.index ≡ a.index
+  pub app : b.app ≡ a.app
+  pub used : length b.used ≡ length a.used
+
+-- a job's step keeps who and how many they are
+abbrev pub JobStepsKeep : Type 0
+JobStepsKeep = (a new : AppState) (j job : JobState) (now line : ℕ) (command : Command) (answer : Answer) (outs : AppOuts)
+    → JobStep a j now line command answer outs new job → IsSameApp a new × IsSameJob j job
+
+-- the state, the moment and the input decide what a step puts, writes and leaves
+abbrev pub StepsAlike : Type 0
+StepsAlike = (old new other : AppState) (now : ℕ) (input : AppIn) (outs other_outs : AppOuts)
+    → AppStep old now input outs new → AppStep old now input other_outs other → (other ≡ new) × (other_outs ≡ outs)
+
+-- the same of a job's step, its line and its command
+abbrev pub JobStepsAlike : Type 0
+JobStepsAlike = (a new other : AppState) (j job other_job : JobState) (now line : ℕ) (command : Command) (answer other_answer : Answer) (outs other_outs : AppOuts)
+    → JobStep a j now line command answer outs new job → JobStep a j now line command other_answer other_outs other other_job
+    → (other ≡ new) × (other_outs ≡ outs) × (other_job ≡ job) × (other_answer ≡ answer)

@@ -1,0 +1,30 @@
+ghost use Rattle.app_rules.specs.Laws.{JobStepsAlike, JobStepsKeep, StepsAlike, StepsAtOneEnd};
+ghost use Rattle.app_rules.specs.Waiting.{WaitsForTheFirst};
+
+/// A step of an application server's ends leaves all of them but that with the data server which its input names.
+pub fn a_step_changes_one_end()
+    ensures { StepsAtOneEnd }
+{}
+
+/// A job's step keeps its application server, how many ends that has, and how many data servers the job counts.
+pub fn a_job_step_keeps_what_it_stands_on()
+    ensures { JobStepsKeep }
+{}
+
+/// The state, the moment and the input decide what a step puts, writes and leaves: a block's run is known by its
+/// bytes.
+pub fn a_step_is_determined()
+    ensures { StepsAlike }
+{}
+
+/// The states, the moment, the line and the command decide what a job's step puts, writes, leaves and answers: the
+/// subscript that a next finds is known by the key that it stands in.
+pub fn a_job_step_is_determined()
+    ensures { JobStepsAlike }
+{}
+
+/// A command that isn't refused waits with the first of its reasons that holds of its application server's ends and
+/// of its job, and is over where none does.
+pub fn a_command_waits_for_the_first_reason()
+    ensures { WaitsForTheFirst }
+{}
