@@ -3,6 +3,7 @@ use Rattle.std.specs.Prelude.{◌≡◌, ℕ, Bool, true, false, ◌==◌, ◌&&
 use Rattle.plain_orders.specs.declared.act.Act.{Act}
 use Rattle.plain_orders.specs.declared.act.Act.TheVariants as act
 use Rattle.plain_orders.specs.declared.entry.Entry.{Entry}
+use Rattle.plain_orders.specs.declared.layout.Layout.{Layout}
 use Rattle.plain_orders.specs.declared.question.Question.TheVariants.{Get as GetQuestion}
 use Rattle.plain_orders.specs.declared.via.Via.TheVariants.{Cached}
 use Rattle.plain_orders.specs.PairMap.{value_at}
@@ -91,22 +92,29 @@ abbrev pub past_with : Option (List Entry) → ℕ → ℕ
 past_with None past = past
 past_with (Some order) past = past + 1
 
+-- a site after a start of its data server
+abbrev pub begun_site : Layout → ℕ → ℕ → List Entry → Site → Site
+begun_site l server now entries x = with_node now (started server l.times entries now) (record x { past = past_with x.order x.past })
+
 -- a data server starts
 pub record BeginGoes (m : Machine) (server now : ℕ) (entries : List Entry) (outs : MoveOuts) (written : List Act) (new : Machine) : Type 0 where
   pub sent : outs ≡ no_outs
   pub acts : written ≡ begin_act (m.site_at server).order server entries ∷ []
-  pub after : new ≡ with_acts written (at_site server
-      (λ x. with_node now (started server m.layout.times entries now) (record x { past = past_with x.order x.past })) m)
+  pub after : new ≡ with_acts written (at_site server (begun_site m.layout server now entries) m)
 
 -- the data server is down
 abbrev pub without_node : Site → Site
 without_node x = record x { node = None }
 
+-- a site after a halt of its data server
+abbrev pub halted_site : Site → Site
+halted_site x = leaves_all (without_node x)
+
 -- it loses its memory, and leaves its connections
 pub record HaltGoes (m : Machine) (server : ℕ) (outs : MoveOuts) (written : List Act) (new : Machine) : Type 0 where
   pub sent : outs ≡ no_outs
   pub acts : written ≡ []
-  pub after : new ≡ at_site server (λ x. leaves_all (without_node x)) m
+  pub after : new ≡ at_site server halted_site m
 
 -- an application server's step
 

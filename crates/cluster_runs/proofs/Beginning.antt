@@ -1,0 +1,80 @@
+-- The lists before any move show the machine before any move.
+use Rattle.std.proofs.Common.{◌≡◌, ◌<◌, ◌≤◌, ◌⊎◌, ℕ, sym, ap, ◌∙◌, subst, refl, inl, inr, zero, suc, arith}
+use Rattle.std.proofs.lemmas.List.{get_or-replicate, length-replicate, get_or_past}
+use Rattle.std.proofs.lemmas.List.FromFn.{get_or-map-range_with_len, length-map-range_with_len}
+use Rattle.std.specs.Prelude.{[], get_or, replicate, map, length, None, false}
+use Rattle.std.specs.List.{range_with_len}
+use Rattle.plain_orders.specs.declared.layout.Layout.{Layout}
+use Rattle.app_rules.specs.AppState.{AppState, no_end}
+use Rattle.app_rules.specs.Works.{end_at}
+use Rattle.app_rules.specs.Looks.{nothing_shown}
+use Rattle.cluster_runs.specs.CoresState.{start, app_at, new_app, no_app}
+use Rattle.cluster_runs.specs.Views.{shown_at}
+use Rattle.cluster_runs.specs.Machine.{begin}
+use Rattle.cluster_runs.specs.Mirrors.{IsApp, Mirrors}
+use Rattle.cluster_runs.specs.Laws.{BeginIsReached}
+
+below_or_not : (a b : ℕ) → (a < b) ⊎ (b ≤ a)
+below_or_not a zero = inr (omega arith)
+below_or_not zero (suc b) = inl (omega arith)
+below_or_not (suc a) (suc b) = elim (below_or_not a b) [
+  | inl below ↦ inl (omega arith)
+  | inr past ↦ inr (omega arith)
+]
+
+-- all elements of a list are the same, and so is what stands past its end
+same : {X : Type 0} (n i : ℕ) (x : X) → get_or (replicate n x) i x ≡ x
+same n i x = elim (below_or_not i n) [
+  | inl below ↦ get_or-replicate n i x x below
+  | inr past ↦ get_or_past (replicate n x) i x (subst (λ k. k ≤ i) (sym (length-replicate n x)) past)
+]
+
+app_there : (l : Layout) (app : ℕ) → app < l.apps → app_at (start l) app ≡ new_app l app
+app_there l app below = get_or-map-range_with_len (new_app l) 0 l.apps app app (no_app (start l) app) below (omega arith)
+
+app_past : (l : Layout) (app : ℕ) → l.apps ≤ app → app_at (start l) app ≡ no_app (start l) app
+app_past l app past =
+    get_or_past (map (new_app l) (range_with_len 0 l.apps)) app (no_app (start l) app) (subst (λ k. k ≤ app) (sym (length-map-range_with_len (new_app l) 0 l.apps)) past)
+
+is_app : (l : Layout) (app : ℕ) → app < l.apps → IsApp (start l) app
+is_app l app below = record {
+  its = ap (λ (a : AppState). a.app) (app_there l app below);
+  times = ap (λ (a : AppState). a.times) (app_there l app below);
+  whole = ap (λ (a : AppState). length a.ends) (app_there l app below) ∙ length-replicate l.servers no_end;
+}
+
+ends : (l : Layout) (app server : ℕ) → end_at (app_at (start l) app) server ≡ no_end
+ends l app server = elim (below_or_not app l.apps) [
+  | inl below ↦ ap (λ (a : AppState). end_at a server) (app_there l app below) ∙ same l.servers server no_end
+  | inr past ↦ ap (λ (a : AppState). end_at a server) (app_past l app past)
+]
+
+shown : (l : Layout) (app server : ℕ) → shown_at (start l) app server ≡ nothing_shown
+shown l app server = elim (below_or_not app l.apps) [
+  | inl below ↦ ap (λ xs. get_or xs server nothing_shown) (get_or-replicate l.apps app (replicate l.servers nothing_shown) [] below) ∙ same l.servers server nothing_shown
+  | inr past ↦ ap (λ xs. get_or xs server nothing_shown)
+      (get_or_past (replicate l.apps (replicate l.servers nothing_shown)) app [] (subst (λ k. k ≤ app) (sym (length-replicate l.apps (replicate l.servers nothing_shown))) past))
+]
+
+begin_shows : (l : Layout) → Mirrors (start l) (begin l)
+begin_shows l = record {
+  layout = refl;
+  nodes = λ server. same l.servers server None;
+  orders = λ server. same l.servers server None;
+  server_nows = λ server. same l.servers server 0;
+  accepted = λ server conn. refl;
+  apps = is_app l;
+  ends = ends l;
+  shown = shown l;
+  dials = λ app server number. refl;
+  jobs = λ job. refl;
+  begun = λ job. refl;
+  views = λ job. refl;
+  app_nows = λ app. same l.apps app 0;
+  dead = λ app. same l.apps app false;
+  clock = refl;
+  trail = refl;
+}
+
+pub begin_is_reached : BeginIsReached
+begin_is_reached l = (begin l, ([], refl), begin_shows l)

@@ -1,0 +1,2 @@
+mod OneSite
+mod Beginning
