@@ -21,7 +21,8 @@ use Rattle.data_rules.specs.LockWords.{no_locks}
 use Rattle.data_rules.specs.Puts.{Sofar, begun, no_outs, frame_on}
 use Rattle.data_rules.specs.Messages.{TakesClaim, TakesDone}
 use Rattle.data_rules.specs.Step.{DataStep, DataStart}
-use Rattle.rules_examples.specs.Servers.{times, up, outs, head, window_at, x_key, welcomed, fetched}
+use Rattle.rules_examples.specs.Servers.{times, up, outs, head, window_at, x_key, welcomed, fetched, set_x}
+use Rattle.rules_examples.specs.ItemExamples.{x_set}
 use Rattle.rules_examples.specs.ResumeExamples.{broken}
 
 -- what the journal holds: a session is open, and set ^x
@@ -157,6 +158,13 @@ RoundExamples =
     × ((c : Sofar) → TakesClaim (begun welcomed) 2 1 Exclusive 1 2 x_key c → ⊥)
     × ((c : Sofar) → TakesDone (begun welcomed) 2 c → ⊥)
     × DataStep welcomed 20 (Frame 7 (up 1 0 Done)) (outs [] (7 ∷ []) (Broke 1 0 Server 20 ∷ [])) (record welcomed { conns = []; links = second (Trouble 20) })
+    -- an item that stands, sent again, and one that doesn't
+    × DataStep claimed_x 20 (Frame 3 (up 2 0 (set_x 1))) (outs [] [] []) (record claimed_x { windows = window_at 2 0 [] 2 2 ∷ [] })
+    × DataStep claimed_x 20 (Frame 3 (up 2 0 (set_x 2))) (outs [] [] (Enter 0 (x_set 2) ∷ []))
+    (record claimed_x {
+      order = Epoch 1 ∷ Opened 2 1 ∷ x_set 1 ∷ Epoch 2 ∷ x_set 2 ∷ [];
+      windows = window_at 2 0 [] 2 2 ∷ [];
+    })
     -- Done: the round is over
     × DataStep claimed_x 20 (Frame 3 (up 2 0 Done)) (outs (frame_on 3 1 2 (IsNormal (head 4 1 1)) ∷ []) [] (Back 0 ∷ [])) back
     -- a Hello waits for that, and its session opens then
