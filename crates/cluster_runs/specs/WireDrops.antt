@@ -1,6 +1,6 @@
 -- The Drops that a data server puts to a session are those that its entries cause, and each Block, Ack and Bare has its cause.
 use Rattle.std.specs.Prelude.{◌≡◌, ◌≤◌, ℕ, Bool, true, false, ◌==◌, ◌||◌, ◌*◌, ◌-◌, not, if◌then◌else◌, List, [], ◌∷◌, ◌++◌, length, take, drop}
-use Rattle.std.specs.List.{filter, list_any}
+use Rattle.std.specs.List.{filter, flat_map, list_any}
 use Rattle.subscript_keys.specs.declared.run.Run.{Run}
 use Rattle.subscript_keys.specs.declared.span.Span.{Span}
 use Rattle.plain_orders.specs.declared.entry.Entry.{Entry}
@@ -167,13 +167,42 @@ synced_after synced (Appends e ∷ ts) = synced_after synced ts
 synced_after synced (Puts m ∷ ts) = synced_after synced ts
 synced_after synced (Saves n ∷ ts) = synced_after n ts
 
--- what an act changes of a data server's order
+-- what an act changes of a data server's order, or how much of it is synced
+abbrev pub changes_by : ℕ → Act → List Told
+changes_by d (act.Opened server es) = []
+changes_by d (act.Enter server entry) = if server == d then Appends entry ∷ [] else []
+changes_by d (act.Synced server number) = if server == d then Saves number ∷ [] else []
+changes_by d (act.Shut server session cause) = if server == d then Appends (entries.Closed session) ∷ [] else []
+changes_by d (act.Release server session) = []
+changes_by d (act.Met app server session) = []
+changes_by d (act.Told app server session epoch kept) = []
+changes_by d (act.Back server) = []
+changes_by d (act.Crash server kept) = []
+changes_by d (act.Issue job line server w item) = []
+changes_by d (act.Read job line server at via question) = []
+changes_by d (act.Grant server session job mode key at) = []
+changes_by d (act.Granted job line server at) = []
+changes_by d (act.GiveUp job line server mode key) = []
+changes_by d (act.Quit job line server mode key) = []
+changes_by d (act.Free server session job mode key) = []
+changes_by d (act.Counted job line server at sum) = []
+changes_by d (act.NotWhole job line server at) = []
+changes_by d (act.Range job line server at) = []
+changes_by d (act.Committed job line server at) = []
+changes_by d (act.RolledBack job line server at) = []
+changes_by d (act.Reached job line server at) = []
+changes_by d (act.Level job line level) = []
+changes_by d (act.Done job line) = []
+changes_by d (act.Refused job line refusal) = []
+changes_by d (act.Broke app server end time) = []
+changes_by d (act.Mended app server) = []
+changes_by d (act.Lose app server loss) = []
+changes_by d (act.Died app) = []
+changes_by d (act.Tick time) = []
+
+-- what some acts change of it
 abbrev pub changes_of : ℕ → List Act → List Told
-changes_of server [] = []
-changes_of server (act.Enter d e ∷ acts) = if d == server then Appends e ∷ changes_of server acts else changes_of server acts
-changes_of server (act.Shut d session cause ∷ acts) = if d == server then Appends (entries.Closed session) ∷ changes_of server acts else changes_of server acts
-changes_of server (act.Synced d n ∷ acts) = if d == server then Saves n ∷ changes_of server acts else changes_of server acts
-changes_of server (a ∷ acts) = changes_of server acts
+changes_of server acts = flat_map (changes_by server) acts
 
 -- what an order had when it began: all that was kept is synced, and its Epoch isn't
 abbrev pub notes_after : List Entry → List Told → Notes
