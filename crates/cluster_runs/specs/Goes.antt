@@ -175,7 +175,7 @@ abbrev pub input_site : ℕ → AppIn → AppOuts → AppState → (ℕ → Show
 input_site app input outs new shown server x =
     app_site app server outs (x.end_at app).state (end_at new server) (message_from server input)
     (app_end server outs (x.end_at app).state (end_at new server) (shown server) (message_from server input)
-        (app_takes server input (x.end_at app).state.dial (x.end_at app)))
+    (app_takes server input (x.end_at app).state.dial (x.end_at app)))
     x
 
 -- each site after a step of an application server, and its moment

@@ -110,4 +110,4 @@ pub record JobsHaveCauses (l : Layout) (trail : List Act) (sent : Sent) : Type 0
       → GrantsServe (acts_of l app (written_while l trail (is_told_of app server session k))) server (sent.lane_at server session k)
   pub answers : (app server session : ℕ)
       → AnswersServe l (acts_of l app (written_while l trail (has_session app server session))) app server
-          (taken_of (lanes_of (state_after l trail) sent server session))
+      (taken_of (lanes_of (state_after l trail) sent server session))

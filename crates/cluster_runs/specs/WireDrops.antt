@@ -258,4 +258,4 @@ pub record PutsRight (session : ℕ) (acts : List Act) (server : ℕ) (began : L
 abbrev pub EachPutsRight : Layout → List Act → Sent → Type 0
 EachPutsRight l trail sent = (server session k : ℕ)
     → PutsRight session (written_while l trail (has_order server k)) server
-        (began_with (order_at ((state_after l trail).server_at server) k)) (sent.lane_at server session k)
+    (began_with (order_at ((state_after l trail).server_at server) k)) (sent.lane_at server session k)

@@ -77,4 +77,4 @@ entered_in es = drop (epoch_place es) es
 abbrev pub TakenAreEntered : Plain → Sent → Type 0
 TakenAreEntered p sent = (server session k : ℕ)
     → map (as_entry session) (items_above (count (kept_in (order_at (p.server_at server) k)) session) (ups_taken (sent.lane_at server session k)))
-      ≡ filter (is_item_of session) (entered_in (order_at (p.server_at server) k))
+    ≡ filter (is_item_of session) (entered_in (order_at (p.server_at server) k))
