@@ -1,18 +1,22 @@
 -- The lists before any move show the machine before any move.
-use Rattle.std.proofs.Common.{◌≡◌, ◌<◌, ◌≤◌, ◌⊎◌, ℕ, sym, ap, ◌∙◌, subst, refl, inl, inr, zero, suc, arith}
+use Rattle.std.proofs.lemmas.Bool.{false≢true}
+use Rattle.std.proofs.Common.{Option, List, ◌≡◌, ◌<◌, ◌≤◌, ◌⊎◌, ℕ, sym, ap, ◌∙◌, subst, refl, inl, inr, zero, suc, arith}
 use Rattle.std.proofs.lemmas.List.{get_or-replicate, length-replicate, get_or_past}
 use Rattle.std.proofs.lemmas.List.FromFn.{get_or-map-range_with_len, length-map-range_with_len}
-use Rattle.std.specs.Prelude.{[], get_or, replicate, map, length, None, false}
+use Rattle.std.specs.Prelude.{is_some, [], get_or, replicate, map, length, None, false}
 use Rattle.std.specs.List.{range_with_len}
 use Rattle.plain_orders.specs.declared.layout.Layout.{Layout}
 use Rattle.app_rules.specs.AppState.{AppState, no_end}
 use Rattle.app_rules.specs.Works.{end_at}
 use Rattle.app_rules.specs.Looks.{nothing_shown}
-use Rattle.cluster_runs.specs.CoresState.{start, app_at, new_app, no_app}
+use Rattle.cluster_runs.specs.CoresState.{start, plain_server, app_at, new_app, no_app}
 use Rattle.cluster_runs.specs.Views.{shown_at}
 use Rattle.cluster_runs.specs.Machine.{begin}
 use Rattle.cluster_runs.specs.Mirrors.{IsApp, Mirrors}
-use Rattle.cluster_runs.specs.Laws.{BeginIsReached}
+use Rattle.cluster_runs.specs.Laws.{BeginIsReached, EachMayStart, NoneStepsFirst, NoneHaltsFirst}
+use Rattle.cluster_runs.specs.Moves.{EntriesMay, NodeMay}
+use Rattle.data_rules.specs.DataState.{DataState}
+use Rattle.plain_orders.specs.declared.entry.Entry.{Entry}
 
 below_or_not : (a b : ℕ) → (a < b) ⊎ (b ≤ a)
 below_or_not a zero = inr (omega arith)
@@ -78,3 +82,20 @@ begin_shows l = record {
 
 pub begin_is_reached : BeginIsReached
 begin_is_reached l = (begin l, ([], refl), begin_shows l)
+
+-- what may be done first
+
+pub each_may_start : EachMayStart
+each_may_start l server below = record {
+  known = below;
+  is_down = ap is_some (same l.servers server None);
+  now_may = record { clock = refl; no_less = subst (λ k. k ≤ 0) (sym (same l.servers server 0)) (omega arith) };
+  kept = subst (λ (o : Option (List Entry)). EntriesMay o (plain_server (start l) server).synced []) (sym (same l.servers server None)) tt;
+  low = omega arith;
+}
+
+pub none_steps_first : NoneStepsFirst
+none_steps_first l server now input may = subst (λ (o : Option DataState). NodeMay o input) (same l.servers server None) may.may
+
+pub none_halts_first : NoneHaltsFirst
+none_halts_first l server may = false≢true (sym (ap is_some (same l.servers server None)) ∙ may.is_up)

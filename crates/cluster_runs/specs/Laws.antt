@@ -1,11 +1,13 @@
 -- What the moves keep apart, and where they begin.
-use Rattle.std.specs.Prelude.{◌≡◌, ◌≢◌, ℕ, List}
+use Rattle.std.specs.Prelude.{◌≡◌, ◌≢◌, ◌<◌, ℕ, List, []}
 use Rattle.plain_orders.specs.declared.act.Act.{Act}
 use Rattle.plain_orders.specs.declared.entry.Entry.{Entry}
 use Rattle.plain_orders.specs.declared.layout.Layout.{Layout}
 use Rattle.data_rules.specs.declared.data_in.DataIn.{DataIn}
 use Rattle.cluster_runs.specs.declared.move_outs.MoveOuts.{MoveOuts}
+use Rattle.cluster_runs.specs.declared.moves.Move.TheVariants.{Server, Begin, Halt}
 use Rattle.cluster_runs.specs.CoresState.{start}
+use Rattle.cluster_runs.specs.Moves.{Allowed}
 use Rattle.cluster_runs.specs.Machine.{Machine}
 use Rattle.cluster_runs.specs.Goes.{ServerGoes, BeginGoes, HaltGoes}
 use Rattle.cluster_runs.specs.Reached.{CoresReached}
@@ -32,3 +34,15 @@ HaltChangesOne = (m : Machine) (server : ℕ) (outs : MoveOuts) (written : List 
 -- What programs keep before any move shows the machine before any move.
 abbrev pub BeginIsReached : Type 0
 BeginIsReached = (l : Layout) → CoresReached l (start l)
+
+-- Before any move each data server may start, with no entries.
+abbrev pub EachMayStart : Type 0
+EachMayStart = (l : Layout) (server : ℕ) → server < l.servers → Allowed (start l) (Begin server 0 [])
+
+-- Until then it makes no step.
+abbrev pub NoneStepsFirst : Type 0
+NoneStepsFirst = (l : Layout) (server now : ℕ) (input : DataIn) → Allowed (start l) (Server server now input) → ⊥
+
+-- Nor does it halt.
+abbrev pub NoneHaltsFirst : Type 0
+NoneHaltsFirst = (l : Layout) (server : ℕ) → Allowed (start l) (Halt server) → ⊥

@@ -1,4 +1,4 @@
-ghost use Rattle.cluster_runs.specs.Laws.{BeginChangesOne, BeginIsReached, HaltChangesOne, StepChangesOne};
+ghost use Rattle.cluster_runs.specs.Laws.{BeginChangesOne, BeginIsReached, EachMayStart, HaltChangesOne, NoneHaltsFirst, NoneStepsFirst, StepChangesOne};
 
 /// A step of a data server changes the site of no other.
 pub fn a_server_changes_one_site()
@@ -10,4 +10,11 @@ pub fn a_server_changes_one_site()
 /// What programs keep before any move is reached.
 pub fn the_beginning_is_reached()
     ensures { BeginIsReached }
+{}
+
+/// Each data server may start before any other move, and makes no step and no halt until it does.
+pub fn each_server_may_start()
+    ensures may { EachMayStart }
+    ensures no_step { NoneStepsFirst }
+    ensures no_halt { NoneHaltsFirst }
 {}
