@@ -9,10 +9,11 @@ use Rattle.plain_orders.specs.declared.layout.Layout.{Layout}
 use Rattle.app_rules.specs.AppState.{AppState, no_end}
 use Rattle.app_rules.specs.Works.{end_at}
 use Rattle.app_rules.specs.Looks.{nothing_shown}
-use Rattle.cluster_runs.specs.CoresState.{start, plain_server, app_at, new_app, no_app}
+use Rattle.cluster_runs.specs.CoresState.{start, plain_server, app_at, new_app, no_app, job_at, new_job}
 use Rattle.cluster_runs.specs.Views.{shown_at}
 use Rattle.cluster_runs.specs.Machine.{begin}
-use Rattle.cluster_runs.specs.Mirrors.{IsApp, Mirrors}
+use Rattle.app_rules.specs.JobState.{JobState, no_job}
+use Rattle.cluster_runs.specs.Mirrors.{IsApp, IsWhole, Mirrors}
 use Rattle.cluster_runs.specs.Laws.{BeginIsReached, EachMayStart, NoneStepsFirst, NoneHaltsFirst}
 use Rattle.cluster_runs.specs.Moves.{EntriesMay, NodeMay}
 use Rattle.data_rules.specs.DataState.{DataState}
@@ -60,9 +61,29 @@ shown l app server = elim (below_or_not app l.apps) [
       (get_or_past (replicate l.apps (replicate l.servers nothing_shown)) app [] (subst (λ k. k ≤ app) (sym (length-replicate l.apps (replicate l.servers nothing_shown))) past))
 ]
 
+job_there : (l : Layout) (job : ℕ) → job < length l.job_apps → job_at (start l) job ≡ new_job l job
+job_there l job below = get_or-map-range_with_len (new_job l) 0 (length l.job_apps) job job (no_job job 0 0) below (omega arith)
+
+is_whole : (l : Layout) → IsWhole (start l)
+is_whole l = record {
+  nodes = length-replicate l.servers None;
+  orders = length-replicate l.servers None;
+  server_nows = length-replicate l.servers 0;
+  apps = length-map-range_with_len (new_app l) 0 l.apps;
+  app_nows = length-replicate l.apps 0;
+  dead = length-replicate l.apps false;
+  shown = length-replicate l.apps (replicate l.servers nothing_shown);
+  rows = λ app below. ap length (get_or-replicate l.apps app (replicate l.servers nothing_shown) [] below) ∙ length-replicate l.servers nothing_shown;
+  jobs = length-map-range_with_len (new_job l) 0 (length l.job_apps);
+  begun = length-replicate (length l.job_apps) (record { line = 0; waits = None });
+  views = length-replicate (length l.job_apps) (record { rollback_only = false; servers = [] });
+  used = λ job below. ap (λ (j : JobState). length j.used) (job_there l job below) ∙ length-replicate l.servers None;
+}
+
 begin_shows : (l : Layout) → Mirrors (start l) (begin l)
 begin_shows l = record {
   layout = refl;
+  whole = is_whole l;
   nodes = λ server. same l.servers server None;
   orders = λ server. same l.servers server None;
   server_nows = λ server. same l.servers server 0;

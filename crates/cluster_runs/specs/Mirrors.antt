@@ -3,7 +3,7 @@ use Rattle.std.specs.Prelude.{◌≡◌, ◌<◌, ℕ, length, get_or}
 use Rattle.std.specs.Option.{option_map}
 use Rattle.app_rules.specs.Works.{end_at}
 use Rattle.cluster_runs.specs.CoresState.{CoresState, Accepted, node_at, order_at, app_at, job_at, begun_at, is_dead, dial_at, accepted_at}
-use Rattle.cluster_runs.specs.Views.{view_at, shown_at}
+use Rattle.cluster_runs.specs.Views.{view_at, shown_of, shown_at}
 use Rattle.cluster_runs.specs.Machine.{Machine, DataConnection, end_state}
 use Rattle.cluster_runs.specs.Connections.{dial_of}
 
@@ -17,9 +17,25 @@ pub record IsApp (c : CoresState) (app : ℕ) : Type 0 where
   pub times : (app_at c app).times ≡ c.layout.times
   pub whole : length (app_at c app).ends ≡ c.layout.servers
 
+-- each list has a place for each node, pair and job of the layout
+pub record IsWhole (c : CoresState) : Type 0 where
+  pub nodes : length c.nodes ≡ c.layout.servers
+  pub orders : length c.orders ≡ c.layout.servers
+  pub server_nows : length c.server_nows ≡ c.layout.servers
+  pub apps : length c.apps ≡ c.layout.apps
+  pub app_nows : length c.app_nows ≡ c.layout.apps
+  pub dead : length c.dead ≡ c.layout.apps
+  pub shown : length c.shown ≡ c.layout.apps
+  pub rows : (app : ℕ) → app < c.layout.apps → length (shown_of c app) ≡ c.layout.servers
+  pub jobs : length c.jobs ≡ length c.layout.job_apps
+  pub begun : length c.begun ≡ length c.layout.job_apps
+  pub views : length c.views ≡ length c.layout.job_apps
+  pub used : (job : ℕ) → job < length c.layout.job_apps → length (job_at c job).used ≡ c.layout.servers
+
 -- The lists show the machine.
 pub record Mirrors (c : CoresState) (m : Machine) : Type 0 where
   pub layout : c.layout ≡ m.layout
+  pub whole : IsWhole c
   pub nodes : (server : ℕ) → node_at c server ≡ (m.site_at server).node
   pub orders : (server : ℕ) → order_at c server ≡ (m.site_at server).order
   pub server_nows : (server : ℕ) → get_or c.server_nows server 0 ≡ (m.site_at server).now
