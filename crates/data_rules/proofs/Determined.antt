@@ -24,6 +24,7 @@ use Rattle.data_rules.specs.Laws.{is_fetch, StepIsDetermined, FetchIsDetermined}
 one : {A : Type 0} {x y z : A} → x ≡ z → y ≡ z → x ≡ y
 one p q = p ∙ sym q
 
+-- a Commit, by whether its answer is wanted
 commit_one : (wanted : Bool) (b c e : Sofar) (s w job : ℕ) (x : _) → TakesCommit wanted b s w job x c → TakesCommit wanted b s w job x e → c ≡ e
 commit_one true b c e s w job x t u = one t.after u.after
 commit_one false b c e s w job x t u = one t.after u.after
@@ -45,6 +46,7 @@ fresh_one Done s b c e unlike t u = one t.after u.after
 fresh_one (Claim job mode number at key) s b c e unlike t u = one t.after u.after
 fresh_one Bare s b c e unlike t u = absurd t
 
+-- a Commit that fits isn't stray
 commit_fits : (wanted : Bool) (ack : ℕ) (b c : Sofar) (s w job : ℕ) (x : _) → TakesCommit wanted (took s ack b) s w job x c → CannotFollow b.state s w x → ⊥
 commit_fits true ack b c s w job x t stray = stray.1 (t.fits stray.0)
 commit_fits false ack b c s w job x t stray = stray.1 (t.fits stray.0)
@@ -77,6 +79,7 @@ numbered_one (Ok Fresh) b c e conn now s f unlike (inr t) (inr u) = one t.ended.
 numbered_one (Ok Repeat) b c e conn now s f unlike t u = one t u
 numbered_one (Err why) b c e conn now s f unlike t u = one t.after u.after
 
+-- an acknowledgement by itself
 bare_one : (r : Result Taken WindowError) (b c e : Sofar) (conn now s ack : ℕ) → TakesBare r b conn now s ack c → TakesBare r b conn now s ack e → c ≡ e
 bare_one (Ok answer) b c e conn now s ack t u = one t u
 bare_one (Err why) b c e conn now s ack t u = one t.after u.after

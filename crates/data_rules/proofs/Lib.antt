@@ -1,1 +1,4 @@
 mod Determined
+mod Answered
+mod Decided
+mod Total

@@ -11,7 +11,8 @@ use Rattle.end_words.specs.Windows.{Window}
 use Rattle.end_words.specs.Laws.{WindowsAgree}
 use Rattle.data_rules.specs.Puts.{Sofar, body_of}
 use Rattle.data_rules.specs.Messages.{TakesFetch}
-use Rattle.data_rules.specs.Step.{DataStep}
+use Rattle.data_rules.specs.Frames.{TakesFirst}
+use Rattle.data_rules.specs.Step.{DataStep, DataMay}
 
 -- a Fetch, which any run that covers its key may answer
 abbrev pub is_fetch : Up → Bool
@@ -53,3 +54,13 @@ FetchIsDetermined =
 -- The window of a session is the window that keeps the bodies of its messages.
 abbrev pub SessionWindowsAgree : Type 0
 SessionWindowsAgree = (w : Window Down) → WindowsAgree Down body_of w
+
+-- A first frame on a connection is taken or refused, whatever it says.
+abbrev pub FirstIsAnswered : Type 0
+FirstIsAnswered = (m : Up) (b : Sofar) (conn now : ℕ) → (c : Sofar) × TakesFirst m b conn now c
+
+-- An input that may come and leaves no choice has an outcome.
+abbrev pub StepIsThere : Type 0
+StepIsThere =
+    (d : DataState) (now : ℕ) (input : DataIn) → leaves_choice input ≡ false → DataMay d input →
+    (c : Sofar) × DataStep d now input c.outs c.state

@@ -1,4 +1,4 @@
-ghost use Rattle.data_rules.specs.Laws.{FetchIsDetermined, SessionWindowsAgree, StepIsDetermined};
+ghost use Rattle.data_rules.specs.Laws.{FetchIsDetermined, FirstIsAnswered, SessionWindowsAgree, StepIsDetermined, StepIsThere};
 
 /// But for a Fetch, the state, the moment and the input determine what a step makes.
 pub fn a_step_is_determined()
@@ -13,4 +13,14 @@ pub fn a_fetch_is_determined_by_its_run()
 /// The window of a session is the window that keeps the bodies of its messages.
 pub fn a_session_window_keeps_what_its_bodies_do()
     ensures { SessionWindowsAgree }
+{}
+
+/// A first frame on a connection is taken or refused, whatever it says.
+pub fn a_first_frame_is_answered()
+    ensures { FirstIsAnswered }
+{}
+
+/// An input that may come and leaves no choice has an outcome.
+pub fn a_step_is_there()
+    ensures { StepIsThere }
 {}
