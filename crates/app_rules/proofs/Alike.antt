@@ -117,7 +117,7 @@ bare_alike : (t : Bool) (b : Sofar) (d now ack : ℕ) (c e : Sofar) → TakesBar
 bare_alike true b d now ack c e x y = ack_alike (answers body_of (session_at b.state d).window 0 ack) b d now ack c e x y
 bare_alike false b d now ack c e x y = as_one x y
 
-frame_alike : (m : Down) (b : Sofar) (d now : ℕ) (frame : DownFrame) (c e : Sofar) → TakesFrame m b d now frame c → TakesFrame m b d now frame e → e ≡ c
+pub frame_alike : (m : Down) (b : Sofar) (d now : ℕ) (frame : DownFrame) (c e : Sofar) → TakesFrame m b d now frame c → TakesFrame m b d now frame e → e ≡ c
 frame_alike (Welcome session epoch kept front taken) b d now frame c e x y = welcome_alike b d now session epoch kept front taken c e x y
 frame_alike (Reset session at) b d now frame c e (inl x) (inl y) = as_one x.after y.after
 frame_alike (Reset session at) b d now frame c e (inl x) (inr y) = absurd (y.stray x.recovering x.its)

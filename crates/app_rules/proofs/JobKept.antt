@@ -33,7 +33,7 @@ use Rattle.app_rules.specs.Issuing.{changes, is_up, is_full, has_own, own_ops, q
 use Rattle.app_rules.specs.Reading.{Walk, Walked, with_fetch, with_fetched, walks, cache_of, holds_below, has_value, fetches_unless, is_fetching, gets_own, gets_from, shapes_walked, shapes_now, caches, NextsWalked, next_walk}
 use Rattle.app_rules.specs.Reading.Walked.{Needs, Finds, Ends}
 use Rattle.app_rules.specs.Locking.{with_ticket, asks, by_grant, waits_grant, is_due, locks_by, locks_now, ask_of_job, gives_up, gives_up_if, holds_it, holds_back_if, unlocks_held}
-use Rattle.app_rules.specs.Ending.{HowEnded, end_item, end_message, end_notes, with_end, ends_so_far, puts_end, puts_ends, unlocks_back, ends_txn, living, living_backs, levels, awaits_put, after_put, ends_when, are_up, has_room, ends_by, awaits_ends, hears_ends, answers_ends, writes_ends, is_up_end, is_told_end, commit_at, is_inner, syncs, by_sync, by_synced, sync_of_job, without_txn, begins_ends, with_txn}
+use Rattle.app_rules.specs.Ending.{HowEnded, end_item, end_message, end_notes, with_put_end, ends_so_far, puts_end, puts_ends, unlocks_back, ends_txn, living, living_backs, levels, awaits_put, after_put, ends_when, are_up, has_room, ends_by, awaits_ends, hears_ends, answers_ends, writes_ends, is_up_end, is_told_end, commit_at, is_inner, syncs, by_sync, by_synced, sync_of_job, without_txn, begins_ends, with_txn}
 use Rattle.app_rules.specs.JobStep.{NextsFree, NextsUp, Does, Turns, ended, kept, left_at, is_waiting, work_of}
 use Rattle.app_rules.specs.Laws.{IsSameApp, IsSameJob, JobStepsKeep}
 use Rattle.app_rules.proofs.OneEnd.{one_end}
@@ -171,7 +171,7 @@ ends_kept how (d ∷ ds) w =
     (kept_then
     (kept_issue d (end_item how w.job.txn) (end_message how (next_w w d) w.job.index w.job.txn)
     (end_notes how.wanted (next_w w d) (end_message how (next_w w d) w.job.index w.job.txn) w.job.index) w)
-    (progress_kept (with_end (ends_so_far w.at) d (next_w w d)) _))
+    (progress_kept (with_put_end (ends_so_far w.at) d (next_w w d)) _))
     (ends_kept how ds (puts_end how d w))
 
 backs_kept : (hs : List HeldBack) (w : Work) → IsKept w (unlocks_back hs w)

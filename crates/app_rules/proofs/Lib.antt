@@ -5,3 +5,7 @@ pub mod JobAlike
 pub mod Waits
 pub mod Kept
 pub mod JobKept
+pub mod Few
+pub mod Alone
+pub mod AloneSteps
+pub mod AloneFrames

@@ -1,13 +1,14 @@
 -- What the steps of an application server's ends leave as it was, and that these steps and those of its jobs are determined.
-use Rattle.std.specs.Prelude.{◌≡◌, ◌≢◌, ℕ, length, Option, Some, None, IfSome}
+use Rattle.std.specs.Prelude.{◌≡◌, ◌≢◌, ◌<◌, ◌^◌, ℕ, length, Option, Some, None, IfSome}
 use Rattle.app_rules.specs.declared.app_in.AppIn.{AppIn}
 use Rattle.app_rules.specs.declared.app_in.AppIn.TheVariants.{Frame, Connected, NoWay, Broken, Join, Tick}
 use Rattle.app_rules.specs.declared.app_outs.AppOuts.{AppOuts}
-use Rattle.app_rules.specs.AppState.{AppState}
+use Rattle.plain_orders.specs.declared.layout.Times.{Times}
+use Rattle.app_rules.specs.AppState.{AppState, IsServer, HasFewEnds}
 use Rattle.app_rules.specs.Works.{end_at}
 use Rattle.app_job.specs.declared.command.Command.{Command}
 use Rattle.app_job.specs.declared.answer.Answer.{Answer}
-use Rattle.app_rules.specs.AppStep.{AppStep}
+use Rattle.app_rules.specs.AppStep.{AppStep, started}
 use Rattle.app_rules.specs.JobState.{JobState}
 use Rattle.app_rules.specs.JobStep.{JobStep}
 
@@ -45,6 +46,26 @@ pub record IsSameJob (a b : JobState) : Type 0 where
 abbrev pub JobStepsKeep : Type 0
 JobStepsKeep = (a new : AppState) (j job : JobState) (now line : ℕ) (command : Command) (answer : Answer) (outs : AppOuts)
     → JobStep a j now line command answer outs new job → IsSameApp a new × IsSameJob j job
+
+-- an application server of fewer than 256 data servers has few ends, and keeps them
+pub record FewEndsStay : Type 0 where
+  pub first : (app servers : ℕ) (times : Times) → servers < 2 ^ 8 → HasFewEnds (started app servers times)
+  pub steps : (old new : AppState) (now : ℕ) (input : AppIn) (outs : AppOuts) → AppStep old now input outs new → HasFewEnds old → HasFewEnds new
+  pub job_steps : (a new : AppState) (j job : JobState) (now line : ℕ) (command : Command) (answer : Answer) (outs : AppOuts)
+      → JobStep a j now line command answer outs new job → HasFewEnds a → HasFewEnds new
+
+-- two states of an application server in which its end with this data server is one
+pub record IsAlikeAt (a b : AppState) (d : ℕ) : Type 0 where
+  pub app : b.app ≡ a.app
+  pub times : b.times ≡ a.times
+  pub there : IsServer a d
+  pub there_too : IsServer b d
+  pub same_end : end_at b d ≡ end_at a d
+
+-- a step at one end reads nothing of the others: what it puts, writes and leaves at that end is decided by that end alone
+abbrev pub StepsAlone : Type 0
+StepsAlone = (a b new other : AppState) (d now : ℕ) (input : AppIn) (outs other_outs : AppOuts) → named_by input ≡ Some d → IsAlikeAt a b d
+    → AppStep a now input outs new → AppStep b now input other_outs other → (end_at other d ≡ end_at new d) × (other_outs ≡ outs)
 
 -- the state, the moment and the input decide what a step puts, writes and leaves
 abbrev pub StepsAlike : Type 0

@@ -29,8 +29,7 @@ pub record Shown : Type 0 where
   pub front : Option Front
   pub runs : List Run
 
--- what a job knew of a data server after its last step: the session that the pair had, whether it had a loss to be told of, and its
--- own Sets and Kills that hadn't entered
+-- what a job knew of a data server: the pair's session, whether it had a loss to be told of, and its own updates that hadn't entered
 pub record Known : Type 0 where
   pub session : Option ℕ
   pub has_loss : Bool
@@ -50,8 +49,8 @@ abbrev pub nothing_known : Known
 nothing_known = record { session = None; has_loss = false; late = [] }
 
 -- the front of a session
-abbrev pub front_of : Session → Front
-front_of s = record { session = s.number; epoch = s.epoch; n = s.n; w = s.w }
+abbrev pub shown_front : Session → Front
+shown_front s = record { session = s.number; epoch = s.epoch; n = s.n; w = s.w }
 
 -- a session's last front, with a length above all that it told
 abbrev pub last_front : Session → ℕ → Front
@@ -111,7 +110,7 @@ took_one old new = old.number == new.number && old.epoch == new.epoch && nat_lt 
 
 -- a frame that was taken shows a change where it was a fresh numbered one
 abbrev pub ShowsFrame : Bool → Down → Session → Shown → Shown → Type 0
-ShowsFrame true m s old new = ShowsMessage m (front_of s) old new
+ShowsFrame true m s old new = ShowsMessage m (shown_front s) old new
 ShowsFrame false m s old new = new ≡ old
 
 -- nothing but this front is shown
@@ -121,7 +120,7 @@ cleared front = record { front = front; runs = [] }
 -- in the same epoch a message may show a change; a new epoch clears all
 abbrev pub ShowsSession : Bool → Session → Session → Down → Shown → Shown → Type 0
 ShowsSession true s t m old new = ShowsFrame (took_one s t) m t old new
-ShowsSession false s t m old new = new ≡ cleared (Some (front_of t))
+ShowsSession false s t m old new = new ≡ cleared (Some (shown_front t))
 
 -- what a frame shows, by what the end had of its session before and after
 abbrev pub ShowsEnd : Option Session → Option Session → Down → ℕ → Shown → Shown → Type 0

@@ -1,9 +1,20 @@
-ghost use Rattle.app_rules.specs.Laws.{JobStepsAlike, JobStepsKeep, StepsAlike, StepsAtOneEnd};
+ghost use Rattle.app_rules.specs.Laws.{FewEndsStay, JobStepsAlike, JobStepsKeep, StepsAlike, StepsAlone, StepsAtOneEnd};
 ghost use Rattle.app_rules.specs.Waiting.{WaitsForTheFirst};
 
 /// A step of an application server's ends leaves all of them but that with the data server which its input names.
 pub fn a_step_changes_one_end()
     ensures { StepsAtOneEnd }
+{}
+
+/// What a step puts, writes and leaves at the end with the data server which its input names is decided by that end
+/// alone.
+pub fn a_step_reads_one_end()
+    ensures { StepsAlone }
+{}
+
+/// An application server of fewer than 256 data servers has as few ends, after any step.
+pub fn ends_stay_few()
+    ensures { FewEndsStay }
 {}
 
 /// A job's step keeps its application server, how many ends that has, and how many data servers the job counts.

@@ -1,0 +1,2 @@
+pub mod EndCases
+pub mod JobCases
