@@ -1,2 +1,3 @@
 mod OneSite
 mod Beginning
+mod Ticking

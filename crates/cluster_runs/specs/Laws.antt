@@ -11,6 +11,8 @@ use Rattle.cluster_runs.specs.Moves.{Allowed}
 use Rattle.cluster_runs.specs.Machine.{Machine}
 use Rattle.cluster_runs.specs.Goes.{ServerGoes, BeginGoes, HaltGoes}
 use Rattle.cluster_runs.specs.Reached.{CoresReached}
+use Rattle.cluster_runs.specs.CoresState.{CoresState}
+use Rattle.cluster_runs.specs.Steps.{TickMade}
 
 -- the other data servers have what they had
 abbrev pub OthersKept : Machine → ℕ → Machine → Type 0
@@ -46,3 +48,8 @@ NoneStepsFirst = (l : Layout) (server now : ℕ) (input : DataIn) → Allowed (s
 -- Nor does it halt.
 abbrev pub NoneHaltsFirst : Type 0
 NoneHaltsFirst = (l : Layout) (server : ℕ) → Allowed (start l) (Halt server) → ⊥
+
+-- What a tick makes of a state that is reached is reached.
+abbrev pub TickReaches : Type 0
+TickReaches = (l : Layout) (c : CoresState) (now : ℕ) (outs : MoveOuts) (written : List Act) (new : CoresState)
+    → CoresReached l c → TickMade c now outs written new → CoresReached l new

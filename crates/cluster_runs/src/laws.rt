@@ -1,4 +1,4 @@
-ghost use Rattle.cluster_runs.specs.Laws.{BeginChangesOne, BeginIsReached, EachMayStart, HaltChangesOne, NoneHaltsFirst, NoneStepsFirst, StepChangesOne};
+ghost use Rattle.cluster_runs.specs.Laws.{BeginChangesOne, BeginIsReached, EachMayStart, HaltChangesOne, NoneHaltsFirst, NoneStepsFirst, StepChangesOne, TickReaches};
 
 /// A step of a data server changes the site of no other.
 pub fn a_server_changes_one_site()
@@ -17,4 +17,9 @@ pub fn each_server_may_start()
     ensures may { EachMayStart }
     ensures no_step { NoneStepsFirst }
     ensures no_halt { NoneHaltsFirst }
+{}
+
+/// What a tick makes of a state that is reached is reached.
+pub fn a_tick_leads_on()
+    ensures { TickReaches }
 {}
