@@ -1,0 +1,3 @@
+mod OneSite
+mod Beginning
+mod Ticking

@@ -1,0 +1,25 @@
+ghost use Rattle.cluster_runs.specs.Laws.{BeginChangesOne, BeginIsReached, EachMayStart, HaltChangesOne, NoneHaltsFirst, NoneStepsFirst, StepChangesOne, TickReaches};
+
+/// A step of a data server changes the site of no other.
+pub fn a_server_changes_one_site()
+    ensures step { StepChangesOne }
+    ensures begin { BeginChangesOne }
+    ensures halt { HaltChangesOne }
+{}
+
+/// What programs keep before any move is reached.
+pub fn the_beginning_is_reached()
+    ensures { BeginIsReached }
+{}
+
+/// Each data server may start before any other move, and makes no step and no halt until it does.
+pub fn each_server_may_start()
+    ensures may { EachMayStart }
+    ensures no_step { NoneStepsFirst }
+    ensures no_halt { NoneHaltsFirst }
+{}
+
+/// What a tick makes of a state that is reached is reached.
+pub fn a_tick_leads_on()
+    ensures { TickReaches }
+{}
