@@ -1,6 +1,6 @@
 -- Each session that was met, each epoch that was told and each answer that a job was given has a Welcome, a Grant or an Answer of its own
 -- that the application server took, with its numbers.
-use Rattle.std.specs.Prelude.{◌≤◌, ℕ, Bool, true, false, ◌==◌, ◌&&◌, ◌+◌, List, Option, Some, ℤ}
+use Rattle.std.specs.Prelude.{pos, ◌≤◌, ℕ, Bool, true, false, ◌==◌, ◌&&◌, ◌+◌, List, Option, Some, ℤ}
 use Rattle.std.specs.Ordering.{int_eq}
 use Rattle.plain_orders.specs.declared.act.Act.{Act}
 use Rattle.plain_orders.specs.declared.act.Act.TheVariants as act
@@ -79,13 +79,13 @@ abbrev pub is_answer : About → ℕ → ℕ → ℤ → Down → Bool
 is_answer what job at sum (down.Answer front a j number n v) = is_same_about what a && j == job && n == at && int_eq v sum
 is_answer what job at sum m = false
 
--- a job was given such an answer
+-- a job was given such an answer; only a counted one has a sum, and that of the others is 0
 abbrev pub says : About → ℕ → ℕ → ℕ → ℤ → Act → Bool
 says about.Counted job server at sum (act.Counted j line d n v) = j == job && d == server && n == at && int_eq v sum
-says about.NotWhole job server at sum (act.NotWhole j line d n) = j == job && d == server && n == at
-says about.Range job server at sum (act.Range j line d n) = j == job && d == server && n == at
-says about.Committed job server at sum (act.Committed j line d n) = j == job && d == server && n == at
-says about.RolledBack job server at sum (act.RolledBack j line d n) = j == job && d == server && n == at
+says about.NotWhole job server at sum (act.NotWhole j line d n) = j == job && d == server && n == at && int_eq sum (pos 0)
+says about.Range job server at sum (act.Range j line d n) = j == job && d == server && n == at && int_eq sum (pos 0)
+says about.Committed job server at sum (act.Committed j line d n) = j == job && d == server && n == at && int_eq sum (pos 0)
+says about.RolledBack job server at sum (act.RolledBack j line d n) = j == job && d == server && n == at && int_eq sum (pos 0)
 says what job server at sum a = false
 
 -- a job of an application server was told that all it issued is synced
