@@ -1,5 +1,5 @@
 -- What the ends of pairs put and took, as the bytes of a net tell it.
-use Rattle.std.specs.Prelude.{◌≡◌, ◌≤◌, ℕ, Bool, true, false, ◌==◌, ◌&&◌, ◌+◌, ◌-◌, if◌then◌else◌, List, [], ◌∷◌, ◌++◌, length, map, take, slice_get, nat_lt, Option, Some, None}
+use Rattle.std.specs.Prelude.{is_some, ◌⊎◌, ◌≡◌, ◌≤◌, ℕ, Bool, true, false, ◌==◌, ◌&&◌, ◌+◌, ◌-◌, if◌then◌else◌, List, [], ◌∷◌, ◌++◌, length, map, take, slice_get, nat_lt, Option, Some, None}
 use Rattle.std.specs.List.{filter, flat_map, list_any}
 use Rattle.field_bytes.specs.Fields.{u32_bytes}
 use Rattle.plain_orders.specs.Entries.{last_epoch}
@@ -10,6 +10,7 @@ use Rattle.ecp_messages.specs.declared.up.UpFrame.{UpFrame}
 use Rattle.ecp_messages.specs.declared.down.Down.{Down}
 use Rattle.ecp_messages.specs.declared.down.Down.TheVariants as down
 use Rattle.ecp_messages.specs.declared.down.DownFrame.{DownFrame}
+use Rattle.ecp_messages.specs.declared.front.Front.{Front}
 use Rattle.ecp_messages.specs.Ups.{up_frame_bytes}
 use Rattle.ecp_messages.specs.Downs.{down_frame_bytes}
 use Rattle.outer_link.specs.Told.{Told, ConnTold, is_of_pair}
@@ -80,6 +81,33 @@ abbrev pub downs_came : Option Connection → List DownFrame
 downs_came None = []
 downs_came (Some c) = take c.downs_taken c.downs
 
+-- a message upwards is an acknowledgement by itself
+abbrev pub says_bare_up : Up → Bool
+says_bare_up up.Bare = true
+says_bare_up m = false
+
+-- a frame with one
+abbrev pub is_bare_up : UpFrame → Bool
+is_bare_up f = says_bare_up f.message
+
+-- a message downwards is an acknowledgement by itself
+abbrev pub says_bare_down : Down → Bool
+says_bare_down down.Bare = true
+says_bare_down m = false
+
+-- a frame with one
+abbrev pub is_bare_down : DownFrame → Bool
+is_bare_down f = says_bare_down f.message
+
+-- the front of a message, where it is a Welcome
+abbrev pub front_said : Down → List Front
+front_said (down.Welcome session epoch kept front taken) = front ∷ []
+front_said m = []
+
+-- the same of a frame
+abbrev pub front_in : DownFrame → List Front
+front_in f = front_said f.message
+
 -- A lane over the connections that carry it, in their order: what was first put on them is a front of the lane's messages, and what the other
 -- end took of them while the session lived is a front of what came.
 pub record IsLane (x : Lane) (its : List (Option Connection)) : Type 0 where
@@ -88,6 +116,11 @@ pub record IsLane (x : Lane) (its : List (Option Connection)) : Type 0 where
   pub ups_taken : IsFront (take x.up_taken x.up) (ups_from 0 (flat_map ups_came its))
   pub downs_taken : IsFront (take x.down_taken x.down) (downs_from 0 (flat_map downs_came its))
   pub within : (x.up_taken ≤ length x.up) × (x.down_taken ≤ length x.down)
+  -- acknowledgements by themselves are counted
+  pub up_bares : count_of is_bare_up (flat_map ups_put its) ≤ x.up_bares
+  pub down_bares : count_of is_bare_down (flat_map downs_put its) ≤ x.down_bares
+  -- what is put upwards comes after the Welcome that began it, whose front it has
+  pub began : (x.up ≡ []) ⊎ (slice_get (flat_map front_in (flat_map downs_came its)) 0 ≡ Some x.front)
 
 -- a message is a Welcome of this session and epoch
 abbrev pub says_welcome : ℕ → ℕ → Down → Bool
@@ -162,6 +195,9 @@ welcome_in f = welcome_said f.message
 
 -- What was put and taken is what the net's bytes tell. A net that holds nothing back has all that was put on a connection that both ends keep.
 pub record IsCarried (p : Plain) (sent : Sent) (net : Told) (holds_back : Bool) : Type 0 where
+  -- each connection that the net made between a pair is there, by its number
+  pub all : (app server : ℕ) → sent.dials_at app server ≡ length (filter (is_of_pair app server) net.conns)
+  pub each : (app server n : ℕ) → 1 ≤ n → n ≤ sent.dials_at app server → is_some (sent.connection_at app server n) ≡ true
   pub connections : (app server n : ℕ) → IfNumbered p net holds_back app server n (sent.connection_at app server n)
   pub lanes : (server session k : ℕ) → IsLane (sent.lane_at server session k) (carriers sent (app_in (order_at (p.server_at server) k) session) server session k)
   pub hellos : (app server : ℕ) → hellos_in sent server app (order_places p server) ≤ count_of is_hello (flat_map ups_came (connections_of sent app server))
