@@ -8,7 +8,8 @@ use Rattle.ecp_messages.specs.declared.down.Down.{Down}
 use Rattle.ecp_messages.specs.declared.down.Down.TheVariants.{Welcome, Reset, Block, Drop, Ack, Grant, Answer, Normal, Bare}
 use Rattle.block_bytes.specs.Blocks.{IsBlockOf}
 use Rattle.end_words.specs.Runs.{covers}
-use Rattle.app_rules.specs.CacheWords.{with_block, without_met}
+use Rattle.block_cache.specs.CacheWords.{with_block, without_met}
+use Rattle.block_cache.specs.declared.front.Front.{Front}
 use Rattle.app_rules.specs.AppState.{AppState, Session}
 use Rattle.app_rules.specs.declared.session_parts.Late.{Late}
 use Rattle.app_rules.specs.Works.{end_at, session_of, is_late}
@@ -16,13 +17,6 @@ use Rattle.app_rules.specs.JobState.{JobState, used_at}
 use Rattle.app_rules.specs.Refusing.{loss_of, is_rollback_only}
 use Rattle.app_rules.specs.Issuing.{is_late_of, number_in, op_in}
 use Rattle.app_rules.specs.Ending.{is_session}
-
--- a front as it is published
-pub record Front : Type 0 where
-  pub session : ℕ
-  pub epoch : ℕ
-  pub n : ℕ
-  pub w : ℕ
 
 -- what was published of a data server: the front of the last change, and the runs, without uses
 pub record Shown : Type 0 where

@@ -24,7 +24,8 @@ use Rattle.app_rules.specs.AppState.{AppState, AppEnd}
 use Rattle.app_rules.specs.AppStep.{AppStep}
 use Rattle.app_rules.specs.JobState.{JobState, with_used}
 use Rattle.app_rules.specs.JobStep.{JobStep}
-use Rattle.app_rules.specs.Looks.{Shown, View, Front, LookMay, ShowsEnd, view_of}
+use Rattle.block_cache.specs.declared.front.Front.{Front}
+use Rattle.app_rules.specs.Looks.{Shown, View, LookMay, ShowsEnd, view_of}
 use Rattle.app_rules.specs.Works.{end_at}
 use Rattle.data_rules.specs.declared.data_in.DataIn.{DataIn}
 use Rattle.data_rules.specs.declared.data_in.DataIn.TheVariants as data_in

@@ -14,7 +14,7 @@ use Rattle.end_words.specs.Windows.{Window, sent}
 use Rattle.data_rules.specs.DataState.{DataState}
 use Rattle.data_rules.specs.declared.data_in.DataIn.{DataIn}
 use Rattle.data_rules.specs.declared.data_in.DataIn.TheVariants as data_in
-use Rattle.data_rules.specs.declared.rows.Noted.{Noted}
+use Rattle.block_holders.specs.declared.noted.Noted.{Noted}
 use Rattle.data_rules.specs.declared.down_frames.DownOut.{DownOut}
 use Rattle.data_rules.specs.Puts.{window_of, conn_of}
 use Rattle.app_rules.specs.AppState.{Session}

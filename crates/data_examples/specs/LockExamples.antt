@@ -5,8 +5,8 @@ use Rattle.plain_orders.specs.declared.act.Act.TheVariants.{Synced, Grant, Free}
 use Rattle.ecp_messages.specs.declared.down.Down.TheVariants.{Ack, Grant as Granted, Bare}
 use Rattle.ecp_messages.specs.declared.up.Up.TheVariants.{Ask, Unlock, Cancel}
 use Rattle.data_rules.specs.declared.data_in.DataIn.TheVariants.{Frame, Saved}
-use Rattle.data_rules.specs.declared.rows.Hold.{Hold}
-use Rattle.data_rules.specs.declared.rows.Request.{Request}
+use Rattle.lock_table.specs.declared.rows.Hold.{Hold}
+use Rattle.lock_table.specs.declared.rows.Request.{Request}
 use Rattle.data_rules.specs.declared.rows.Says.TheVariants.{GrantOf}
 use Rattle.data_rules.specs.DataState.{DataState}
 use Rattle.data_rules.specs.Puts.{frame_on}

@@ -17,7 +17,7 @@ use Rattle.data_rules.specs.declared.data_in.DataIn.TheVariants.{Frame, Tick, Sa
 use Rattle.data_rules.specs.declared.rows.Role.TheVariants.{New, Waiting, Bound, Closing}
 use Rattle.data_rules.specs.declared.rows.Says.TheVariants.{NewWelcome, EpochWelcome, ResetOf}
 use Rattle.data_rules.specs.DataState.{DataState}
-use Rattle.data_rules.specs.LockWords.{no_locks}
+use Rattle.lock_table.specs.LockWords.{no_locks}
 use Rattle.data_rules.specs.Puts.{Sofar, begun, no_outs, frame_on}
 use Rattle.data_rules.specs.Messages.{TakesClaim, TakesDone}
 use Rattle.data_rules.specs.Step.{DataStep, DataStart}

@@ -16,7 +16,7 @@ use Rattle.plain_orders.specs.declared.entry.Entry.{Entry}
 use Rattle.data_rules.specs.DataState.{DataState}
 use Rattle.data_rules.specs.declared.rows.Role.TheVariants.{Bound}
 use Rattle.data_rules.specs.declared.rows.Says.TheVariants.{NewWelcome}
-use Rattle.data_rules.specs.RoundWords.{Round, is_over}
+use Rattle.recovery_round.specs.RoundWords.{Round, is_over}
 use Rattle.data_rules.specs.Puts.{Sofar, becomes, writes, replies, puts, head_of, conn_of, with_window}
 use Rattle.data_rules.specs.Entering.{enters}
 use Rattle.data_rules.specs.Conns.{with_role, with_event}

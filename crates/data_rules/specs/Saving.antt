@@ -15,7 +15,7 @@ use Rattle.link_states.specs.Tables.{data_next}
 use Rattle.ecp_messages.specs.declared.down.Down.TheVariants.{Ack}
 use Rattle.data_rules.specs.declared.rows.LiveEnd.{LiveEnd}
 use Rattle.data_rules.specs.DataState.{DataState}
-use Rattle.data_rules.specs.LockWords.{without_session}
+use Rattle.lock_table.specs.LockWords.{without_session}
 use Rattle.data_rules.specs.Puts.{Sofar, becomes, writes, puts, head_of}
 use Rattle.data_rules.specs.Leaving.{flushed}
 use Rattle.data_rules.specs.Granting.{locks_become}

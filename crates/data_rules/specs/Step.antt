@@ -17,8 +17,8 @@ use Rattle.data_rules.specs.declared.data_outs.DataOuts.{DataOuts}
 use Rattle.data_rules.specs.declared.limits.TheConstants.{APP_LIMIT}
 use Rattle.data_rules.specs.declared.rows.LiveEnd.{LiveEnd}
 use Rattle.data_rules.specs.DataState.{DataState}
-use Rattle.data_rules.specs.LockWords.{no_locks}
-use Rattle.data_rules.specs.RoundWords.{Round}
+use Rattle.lock_table.specs.LockWords.{no_locks}
+use Rattle.recovery_round.specs.RoundWords.{Round}
 use Rattle.data_rules.specs.Puts.{Sofar, begun, becomes}
 use Rattle.data_rules.specs.Conns.{role_of, with_conn, with_link, leaves_conn}
 use Rattle.data_rules.specs.Opening.{live_ends}

@@ -1,0 +1,2 @@
+/// How many runs an application server keeps of a data server.
+pub const CACHE_LIMIT: usize = 256;
