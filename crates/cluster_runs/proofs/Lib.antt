@@ -1,3 +1,5 @@
 mod OneSite
 mod Beginning
 mod Ticking
+mod Telling
+mod Deciding

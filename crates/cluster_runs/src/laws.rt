@@ -1,4 +1,5 @@
 ghost use Rattle.cluster_runs.specs.Laws.{BeginChangesOne, BeginIsReached, EachMayStart, HaltChangesOne, NoneHaltsFirst, NoneStepsFirst, StepChangesOne, TickReaches};
+ghost use Rattle.cluster_runs.specs.Decided.{EachIsDecided};
 
 /// A step of a data server changes the site of no other.
 pub fn a_server_changes_one_site()
@@ -22,4 +23,9 @@ pub fn each_server_may_start()
 /// What a tick makes of a state that is reached is reached.
 pub fn a_tick_leads_on()
     ensures { TickReaches }
+{}
+
+/// A move whose keys, command and frame have their forms is allowed next or it isn't.
+pub fn each_move_is_allowed_or_not()
+    ensures { EachIsDecided }
 {}
