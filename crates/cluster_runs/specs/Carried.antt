@@ -1,8 +1,9 @@
 -- What the ends of pairs put and took, as the bytes of a net tell it.
-use Rattle.std.specs.Prelude.{is_some, ◌⊎◌, ◌≡◌, ◌≤◌, ℕ, Bool, true, false, ◌==◌, ◌&&◌, ◌+◌, ◌-◌, if◌then◌else◌, List, [], ◌∷◌, ◌++◌, length, map, take, slice_get, nat_lt, Option, Some, None}
+use Rattle.std.specs.Prelude.{All, is_some, ◌⊎◌, ◌≡◌, ◌≤◌, ℕ, Bool, true, false, ◌==◌, ◌&&◌, ◌+◌, ◌-◌, if◌then◌else◌, List, [], ◌∷◌, ◌++◌, length, map, take, slice_get, nat_lt, Option, Some, None}
 use Rattle.std.specs.List.{filter, flat_map, list_any}
 use Rattle.field_bytes.specs.Fields.{u32_bytes}
-use Rattle.plain_orders.specs.Entries.{last_epoch}
+use Rattle.plain_orders.specs.declared.entry.Entry.{Entry}
+use Rattle.plain_orders.specs.Entries.{last_epoch, closes}
 use Rattle.plain_orders.specs.Sessions.{app_in}
 use Rattle.ecp_messages.specs.declared.up.Up.{Up}
 use Rattle.ecp_messages.specs.declared.up.Up.TheVariants as up
@@ -16,8 +17,10 @@ use Rattle.ecp_messages.specs.Downs.{down_frame_bytes}
 use Rattle.outer_link.specs.Told.{Told, ConnTold, is_of_pair}
 use Rattle.outer_link.specs.Lines.{LineTold}
 use Rattle.ecp_frames.specs.Reading.{frames_in}
+use Rattle.app_rules.specs.Welcoming.{greatest}
 use Rattle.plain_runs.specs.Plain.{Plain, order_at}
 use Rattle.cluster_runs.specs.Written.{order_places, count_of}
+use Rattle.cluster_runs.specs.Accounted.{head_in}
 use Rattle.cluster_runs.specs.WireAnswers.{is_same_welcome}
 use Rattle.cluster_runs.specs.Sent.{Sent, Lane, Place, Connection, Welcomed, connections_of}
 
@@ -108,13 +111,42 @@ front_said m = []
 abbrev pub front_in : DownFrame → List Front
 front_in f = front_said f.message
 
--- A lane over the connections that carry it, in their order: what was first put on them is a front of the lane's messages, and what the other
--- end took of them while the session lived is a front of what came.
-pub record IsLane (x : Lane) (its : List (Option Connection)) : Type 0 where
+-- a frame upwards has a number
+abbrev pub is_numbered_up : UpFrame → Bool
+is_numbered_up f = nat_lt 0 f.seq
+
+-- a frame downwards has a number
+abbrev pub is_numbered_down : DownFrame → Bool
+is_numbered_down f = nat_lt 0 f.seq
+
+-- a frame with a number has the message that stands there in a list, the first being 1
+abbrev pub IsUpOf : List Up → UpFrame → Type 0
+IsUpOf ms f = is_numbered_up f ≡ true → slice_get ms (f.seq - 1) ≡ Some f.message
+
+-- the same downwards
+abbrev pub IsDownOf : List Down → DownFrame → Type 0
+IsDownOf ms f = is_numbered_down f ≡ true → slice_get ms (f.seq - 1) ≡ Some f.message
+
+-- a head's n is below the greatest u64
+abbrev pub is_below : Option Front → Bool
+is_below None = true
+is_below (Some f) = nat_lt f.n greatest
+
+-- a message downwards isn't stray for its n
+abbrev pub may_be_taken : Down → Bool
+may_be_taken m = is_below (head_in m)
+
+-- A lane over the connections that carry it, in their order: what was first put on them is a front of the lane's messages, and each number
+-- has the lane's message, also where it is put again. What the application end took is what came, but for a message whose n is the greatest
+-- u64. What the data end took is what came until a Close of the session, so all of it where the order has none.
+pub record IsLane (order : List Entry) (session : ℕ) (x : Lane) (its : List (Option Connection)) : Type 0 where
   pub ups : IsFront (ups_from 0 (flat_map ups_put its)) x.up
   pub downs : IsFront (downs_from 0 (flat_map downs_put its)) x.down
+  pub each_up : All (IsUpOf x.up) (flat_map ups_put its)
+  pub each_down : All (IsDownOf x.down) (flat_map downs_put its)
   pub ups_taken : IsFront (take x.up_taken x.up) (ups_from 0 (flat_map ups_came its))
-  pub downs_taken : IsFront (take x.down_taken x.down) (downs_from 0 (flat_map downs_came its))
+  pub all_ups_taken : list_any (closes session) order ≡ false → take x.up_taken x.up ≡ ups_from 0 (flat_map ups_came its)
+  pub downs_taken : take x.down_taken x.down ≡ filter may_be_taken (downs_from 0 (flat_map downs_came its))
   pub within : (x.up_taken ≤ length x.up) × (x.down_taken ≤ length x.down)
   -- acknowledgements by themselves are counted
   pub up_bares : count_of is_bare_up (flat_map ups_put its) ≤ x.up_bares
@@ -131,23 +163,21 @@ says_welcome session epoch m = false
 abbrev pub is_welcome_of : ℕ → ℕ → DownFrame → Bool
 is_welcome_of session epoch f = says_welcome session epoch f.message
 
--- a frame upwards has a number
-abbrev pub is_numbered_up : UpFrame → Bool
-is_numbered_up f = nat_lt 0 f.seq
-
--- a frame downwards has a number
-abbrev pub is_numbered_down : DownFrame → Bool
-is_numbered_down f = nat_lt 0 f.seq
-
 -- no numbered message was put on it
 pub record IsUnnumbered (c : Connection) : Type 0 where
   pub ups : list_any is_numbered_up c.ups ≡ false
   pub downs : list_any is_numbered_down c.downs ≡ false
 
--- A connection carries the messages of the session and the epoch that its Welcome says, and none without a Welcome.
+-- the first of some frames is a Welcome of this session and epoch
+abbrev pub begins_with_welcome : ℕ → ℕ → List DownFrame → Bool
+begins_with_welcome session epoch [] = false
+begins_with_welcome session epoch (f ∷ fs) = is_welcome_of session epoch f
+
+-- A connection carries the messages of the session and the epoch that its Welcome says, which is put before all else, and none without a
+-- Welcome.
 abbrev pub ItsIs : Plain → ℕ → Connection → Option Place → Type 0
 ItsIs p server c None = IsUnnumbered c
-ItsIs p server c (Some x) = list_any (is_welcome_of x.session (last_epoch (order_at (p.server_at server) x.order))) c.downs ≡ true
+ItsIs p server c (Some x) = begins_with_welcome x.session (last_epoch (order_at (p.server_at server) x.order)) c.downs ≡ true
 
 -- the n-th connection that a net made between a pair
 abbrev pub told_at : Told → ℕ → ℕ → ℕ → Option ConnTold
@@ -199,7 +229,8 @@ pub record IsCarried (p : Plain) (sent : Sent) (net : Told) (holds_back : Bool) 
   pub all : (app server : ℕ) → sent.dials_at app server ≡ length (filter (is_of_pair app server) net.conns)
   pub each : (app server n : ℕ) → 1 ≤ n → n ≤ sent.dials_at app server → is_some (sent.connection_at app server n) ≡ true
   pub connections : (app server n : ℕ) → IfNumbered p net holds_back app server n (sent.connection_at app server n)
-  pub lanes : (server session k : ℕ) → IsLane (sent.lane_at server session k) (carriers sent (app_in (order_at (p.server_at server) k) session) server session k)
+  pub lanes : (server session k : ℕ) → IsLane (order_at (p.server_at server) k) session (sent.lane_at server session k)
+      (carriers sent (app_in (order_at (p.server_at server) k) session) server session k)
   pub hellos : (app server : ℕ) → hellos_in sent server app (order_places p server) ≤ count_of is_hello (flat_map ups_came (connections_of sent app server))
   pub welcomes : (app server : ℕ) (x : Welcomed)
       → count_of (is_same_welcome x) (sent.welcomes_at app server)
