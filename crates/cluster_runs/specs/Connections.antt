@@ -9,16 +9,37 @@ use Rattle.ecp_messages.specs.declared.down.DownFrame.{DownFrame}
 use Rattle.data_rules.specs.declared.down_frames.DownOut.{DownOut}
 use Rattle.app_rules.specs.declared.up_frames.UpOut.{UpOut}
 use Rattle.cluster_runs.specs.CoresState.{Dial, Linked}
-use Rattle.cluster_runs.specs.Sent.{Place, Connection}
+use Rattle.app_rules.specs.AppState.{Session}
+use Rattle.cluster_runs.specs.Sent.{Place, Connection, Knew, FirstTaken}
 use Rattle.cluster_runs.specs.Machine.{End, Site, DataConnection}
 
--- a connection that was just made
-abbrev pub fresh_connection : Connection
-fresh_connection = record { ups = []; ups_taken = 0; downs = []; downs_taken = 0; linked = false; app_left = false; data_left = false; its = None }
+-- what is known of a session that was told of an order, or without one
+abbrev pub knows_of : Option Session → Option Place → ℕ → Knew
+knows_of None told greatest = record { session = greatest; mark = None }
+knows_of (Some s) None greatest = record { session = s.number; mark = None }
+knows_of (Some s) (Some p) greatest = record { session = s.number; mark = Some (record { order = p.order; taken = s.window.taken }) }
 
--- the data end takes the next frame, and is linked from then on
-abbrev pub up_taken : Connection → Connection
-up_taken c = record c { ups_taken = c.ups_taken + 1; linked = true }
+-- what an application server knows of a pair
+abbrev pub knows : End → Knew
+knows e = knows_of e.state.session e.told e.state.told
+
+-- a connection that was just made by one that knows this
+abbrev pub fresh_connection : Knew → Connection
+fresh_connection knew =
+    record { ups = []; ups_taken = 0; downs = []; downs_taken = 0; linked = false; app_left = false; data_left = false; its = None; knew = knew; first = None }
+
+-- where the first frame was taken, if it was before, else here
+abbrev pub first_else : Option FirstTaken → FirstTaken → FirstTaken
+first_else None here = here
+first_else (Some x) here = x
+
+-- the data end takes the next frame on its connection of this number, in the order with this place, and is linked from then on
+abbrev pub up_taken : ℕ → ℕ → Connection → Connection
+up_taken k conn c = record c {
+  ups_taken = c.ups_taken + 1;
+  linked = true;
+  first = Some (first_else c.first (record { order = k; conn = conn }));
+}
 
 -- the application end takes the next frame
 abbrev pub down_taken : Connection → Connection
@@ -72,7 +93,7 @@ at_number number f e = record e { connection_at = λ n. if n == number then opti
 
 -- it makes a connection
 abbrev pub with_connection : ℕ → End → End
-with_connection number e = record e { connection_at = λ n. if n == number then Some fresh_connection else e.connection_at n }
+with_connection number e = record e { connection_at = λ n. if n == number then Some (fresh_connection (knows e)) else e.connection_at n }
 
 -- all connections of a data server's pairs, each changed by its application server and its number
 abbrev pub at_each : (ℕ → ℕ → Connection → Connection) → Site → Site

@@ -48,7 +48,7 @@ use Rattle.cluster_runs.specs.Lanes.{with_data_step, hellos_by, is_told_new, sen
 -- what an input does to the connections before the step's outputs join them
 abbrev pub server_takes : DataIn → Site → Site
 server_takes (data_in.Frame conn frame) x =
-    at_link (link_of (at_conn conn (linked_if (named_dial frame.message)) x) conn) up_taken (at_conn conn (linked_if (named_dial frame.message)) x)
+    at_link (link_of (at_conn conn (linked_if (named_dial frame.message)) x) conn) (up_taken x.past conn) (at_conn conn (linked_if (named_dial frame.message)) x)
 server_takes (data_in.Connected conn) x = accepts conn x
 server_takes (data_in.Broken conn) x = leaves_conn conn x
 server_takes data_in.Tick x = x
@@ -145,7 +145,7 @@ app_end server outs old new shown m e =
 -- a site after a step of an application server: its end, and then the lane that it is told of
 abbrev pub app_site : ℕ → ℕ → AppOuts → AppEnd → AppEnd → Option Down → End → Site → Site
 app_site app server outs old new m e x =
-    at_told e.told (with_app_step (is_told_new old.session new.session) m (sent_before old.session) new.session (ups_to server outs.frames))
+    at_told e.told (with_app_step (is_told_new old.session new.session) m old.dial (sent_before old.session) new.session (ups_to server outs.frames))
     (record x { end_at = put x.end_at app e })
 
 -- a frame of this data server shows its change, another shows none

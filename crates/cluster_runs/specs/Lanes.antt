@@ -116,9 +116,9 @@ is_bare_up m = false
 abbrev pub is_bare_frame : UpFrame → Bool
 is_bare_frame f = is_bare_up f.message
 
--- a lane begins with the front of its Welcome
-abbrev pub begins_lane : Front → Session → Lane → Lane
-begins_lane front t x = record x { front = front; up = given_since 0 t.window }
+-- a lane begins with the front of its Welcome, which came on the connection of this number
+abbrev pub begins_lane : ℕ → Front → Session → Lane → Lane
+begins_lane number front t x = record x { front = front; up = given_since 0 t.window; began = Some number }
 
 -- it goes on
 abbrev pub goes_on : ℕ → Session → Lane → Lane
@@ -149,10 +149,10 @@ front_by None = record { n = 0; w = 0; s = 0 }
 front_by (Some m) = front_said m
 
 -- what its application end adds to a session
-abbrev pub with_app_step : Bool → Option Down → ℕ → Option Session → List UpFrame → Lane → Lane
-with_app_step begins m n None frames x = x
-with_app_step true m n (Some t) frames x = with_bares frames (begins_lane (front_by m) t x)
-with_app_step false m n (Some t) frames x = with_bares frames (goes_on n t x)
+abbrev pub with_app_step : Bool → Option Down → ℕ → ℕ → Option Session → List UpFrame → Lane → Lane
+with_app_step begins m number n None frames x = x
+with_app_step true m number n (Some t) frames x = with_bares frames (begins_lane number (front_by m) t x)
+with_app_step false m number n (Some t) frames x = with_bares frames (goes_on n t x)
 
 -- whose messages a connection carries, if it was made
 abbrev pub its_of : Option Connection → Option Place
