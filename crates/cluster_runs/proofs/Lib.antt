@@ -1,3 +1,4 @@
 mod OneSite
 mod Beginning
 mod Ticking
+mod Quieted

@@ -1,3 +1,4 @@
+ghost use Rattle.cluster_runs.specs.Reached.{QuietLeaves};
 ghost use Rattle.cluster_runs.specs.Laws.{BeginChangesOne, BeginIsReached, EachMayStart, HaltChangesOne, NoneHaltsFirst, NoneStepsFirst, StepChangesOne, TickReaches};
 
 /// A step of a data server changes the site of no other.
@@ -22,4 +23,10 @@ pub fn each_server_may_start()
 /// What a tick makes of a state that is reached is reached.
 pub fn a_tick_leads_on()
     ensures { TickReaches }
+{}
+
+/// Where all that is awaited has its cause and nothing is undelivered or unsaved, what a living end awaits has a cause
+/// that deliveries and saves don't end.
+pub fn quiet_leaves_what_stays()
+    ensures { QuietLeaves }
 {}
