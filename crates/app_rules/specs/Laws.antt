@@ -5,7 +5,9 @@ use Rattle.subscript_keys.specs.declared.run.Run.{Run}
 use Rattle.plain_orders.specs.Keys.{HasKeys}
 use Rattle.ecp_messages.specs.declared.down.Down.{Down}
 use Rattle.ecp_messages.specs.declared.down.Down.TheVariants.{Welcome, Reset, Block, Drop, Ack, Grant, Answer as AnswerMessage, Normal, Bare}
+use Rattle.ecp_messages.specs.declared.up.Up.{Up}
 use Rattle.block_bytes.specs.Blocks.{IsBlock}
+use Rattle.end_words.specs.Laws.{SendsFirsts}
 use Rattle.end_words.specs.Runs.{pairs_of}
 use Rattle.app_job.specs.declared.command.Command.TheVariants as commands
 use Rattle.app_rules.specs.Downs.{IsNoRun}
@@ -142,3 +144,7 @@ pub record JobMade (a : AppState) (j : JobState) (now line : ℕ) (command : Com
 -- a command that may come is answered
 abbrev pub JobStepIsThere : Type 0
 JobStepIsThere = (a : AppState) (j : JobState) (now line : ℕ) (command : Command) → JobMay a j command → KeysAreNodes a command → JobMade a j now line command
+
+-- What a session sends again are messages that were put in it, each with its first number.
+abbrev pub UpsAgainAreFirsts : Type 0
+UpsAgainAreFirsts = SendsFirsts Up

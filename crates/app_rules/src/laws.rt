@@ -1,4 +1,4 @@
-ghost use Rattle.app_rules.specs.Laws.{FewEndsStay, JobStepIsThere, JobStepsAlike, JobStepsKeep, StepIsThere, StepsAlike, StepsAlone, StepsAtOneEnd};
+ghost use Rattle.app_rules.specs.Laws.{FewEndsStay, JobStepIsThere, JobStepsAlike, JobStepsKeep, StepIsThere, StepsAlike, StepsAlone, StepsAtOneEnd, UpsAgainAreFirsts};
 ghost use Rattle.app_rules.specs.Waiting.{WaitsForTheFirst};
 
 /// A step of an application server's ends leaves all of them but that with the data server which its input names.
@@ -48,4 +48,9 @@ pub fn a_step_is_there()
 /// A command that may come is answered; a next is where the runs in which it looks have nodes' keys.
 pub fn a_job_step_is_there()
     ensures { JobStepIsThere }
+{}
+
+/// What a session sends again are messages that were put in it, each with its first number.
+pub fn what_is_sent_again_was_sent()
+    ensures { UpsAgainAreFirsts }
 {}

@@ -15,7 +15,7 @@ use Rattle.data_rules.specs.declared.data_outs.DataOuts.{DataOuts}
 use Rattle.data_rules.specs.DataState.{DataState}
 use Rattle.ecp_messages.specs.declared.down.Down.{Down}
 use Rattle.end_words.specs.Windows.{Window}
-use Rattle.end_words.specs.Laws.{WindowsAgree}
+use Rattle.end_words.specs.Laws.{WindowsAgree, SendsFirsts}
 use Rattle.data_rules.specs.Puts.{Sofar, body_of}
 use Rattle.data_rules.specs.Messages.{TakesFetch}
 use Rattle.data_rules.specs.Frames.{TakesFirst}
@@ -61,6 +61,10 @@ FetchIsDetermined =
 -- The window of a session is the window that keeps the bodies of its messages.
 abbrev pub SessionWindowsAgree : Type 0
 SessionWindowsAgree = (w : Window Down) → WindowsAgree Down body_of w
+
+-- What a session is sent again are messages that were put to it, each with its first number.
+abbrev pub DownsAgainAreFirsts : Type 0
+DownsAgainAreFirsts = SendsFirsts Down
 
 -- A first frame on a connection is taken or refused, whatever it says.
 abbrev pub FirstIsAnswered : Type 0

@@ -1,4 +1,4 @@
-ghost use Rattle.data_rules.specs.Laws.{FetchFindsRun, FetchIsDetermined, FirstIsAnswered, SessionWindowsAgree, StepIsDetermined, StepIsThere};
+ghost use Rattle.data_rules.specs.Laws.{DownsAgainAreFirsts, FetchFindsRun, FetchIsDetermined, FirstIsAnswered, SessionWindowsAgree, StepIsDetermined, StepIsThere};
 
 /// But for a Fetch, the state, the moment and the input determine what a step makes.
 pub fn a_step_is_determined()
@@ -28,4 +28,9 @@ pub fn a_fetch_finds_its_run()
 /// An input that may come has an outcome; a Fetch has one where the order is an ordered list.
 pub fn a_step_is_there()
     ensures { StepIsThere }
+{}
+
+/// What a session is sent again are messages that were put to it, each with its first number.
+pub fn what_is_sent_again_was_sent()
+    ensures { DownsAgainAreFirsts }
 {}
