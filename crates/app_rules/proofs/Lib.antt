@@ -9,3 +9,5 @@ pub mod Few
 pub mod Alone
 pub mod AloneSteps
 pub mod AloneFrames
+pub mod Total
+pub mod JobTotal

@@ -1,4 +1,4 @@
-ghost use Rattle.app_rules.specs.Laws.{FewEndsStay, JobStepsAlike, JobStepsKeep, StepsAlike, StepsAlone, StepsAtOneEnd};
+ghost use Rattle.app_rules.specs.Laws.{FewEndsStay, JobStepIsThere, JobStepsAlike, JobStepsKeep, StepIsThere, StepsAlike, StepsAlone, StepsAtOneEnd, UpsAgainAreFirsts};
 ghost use Rattle.app_rules.specs.Waiting.{WaitsForTheFirst};
 
 /// A step of an application server's ends leaves all of them but that with the data server which its input names.
@@ -38,4 +38,19 @@ pub fn a_job_step_is_determined()
 /// of its job, and is over where none does.
 pub fn a_command_waits_for_the_first_reason()
     ensures { WaitsForTheFirst }
+{}
+
+/// An input that may come has an outcome, where each block's bytes are known to be a run's or no run's.
+pub fn a_step_is_there()
+    ensures { StepIsThere }
+{}
+
+/// A command that may come is answered; a next is where the runs in which it looks have nodes' keys.
+pub fn a_job_step_is_there()
+    ensures { JobStepIsThere }
+{}
+
+/// What a session sends again are messages that were put in it, each with its first number.
+pub fn what_is_sent_again_was_sent()
+    ensures { UpsAgainAreFirsts }
 {}

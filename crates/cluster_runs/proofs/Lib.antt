@@ -3,3 +3,4 @@ mod Beginning
 mod Ticking
 mod Telling
 mod Deciding
+mod Quieted

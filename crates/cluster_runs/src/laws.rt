@@ -1,3 +1,4 @@
+ghost use Rattle.cluster_runs.specs.Reached.{QuietLeaves};
 ghost use Rattle.cluster_runs.specs.Laws.{BeginChangesOne, BeginIsReached, EachMayStart, HaltChangesOne, NoneHaltsFirst, NoneStepsFirst, StepChangesOne, TickReaches};
 ghost use Rattle.cluster_runs.specs.Decided.{EachIsDecided};
 
@@ -28,4 +29,10 @@ pub fn a_tick_leads_on()
 /// A move whose keys, command and frame have their forms is allowed next or it isn't.
 pub fn each_move_is_allowed_or_not()
     ensures { EachIsDecided }
+{}
+
+/// Where all that is awaited has its cause and nothing is undelivered or unsaved, what a living end awaits has a cause
+/// that deliveries and saves don't end.
+pub fn quiet_leaves_what_stays()
+    ensures { QuietLeaves }
 {}

@@ -2,3 +2,5 @@ mod Determined
 mod Answered
 mod Decided
 mod Total
+mod ShortPairs
+mod FetchRuns

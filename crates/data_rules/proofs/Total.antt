@@ -1,9 +1,9 @@
--- Each input that may come has an outcome, but for a Fetch, whose run this doesn't find.
+-- Each input that may come has an outcome, a Fetch where the order is an ordered list.
 use Rattle.std.proofs.Common.{◌≡◌, ◌⊎◌, ℕ, Bool, true, false, List, Option, Some, None, Result, Ok, Err, refl, inl, inr}
 use Rattle.plain_orders.specs.declared.entry.Entry.{Entry}
 use Rattle.plain_orders.specs.declared.entry.Entry.TheVariants as entries
 use Rattle.plain_orders.specs.declared.op.Op.TheVariants as ops
-use Rattle.plain_orders.specs.Ordered.{MayFollow}
+use Rattle.plain_orders.specs.Ordered.{MayFollow, IsOrdered}
 use Rattle.ecp_messages.specs.declared.up.Up.{Up}
 use Rattle.ecp_messages.specs.declared.up.Up.TheVariants.{Hello, Recover, Update, Add, Fetch, Ask, Unlock, Cancel, Commit, Rollback, Sync, Done, Claim, Bare}
 use Rattle.ecp_messages.specs.declared.up.UpFrame.{UpFrame}
@@ -25,7 +25,8 @@ use Rattle.data_rules.specs.Puts.{Sofar, begun}
 use Rattle.data_rules.specs.Conns.{role_of}
 use Rattle.data_rules.specs.Messages.{FitsIn, CannotFollow, TakesItem, TakesOwed, TakesCommit, Takes, IsStray, is_new, is_awaited, is_refused, who}
 use Rattle.data_rules.specs.Frames.{settled, took, kind_of, TakesNumbered, TakesBare, TakesBound, TakesClosing, TakesFrame}
-use Rattle.data_rules.specs.Laws.{is_fetch, StepIsThere}
+use Rattle.data_rules.specs.Laws.{is_fetch, FetchRun, StepIsThere}
+use Rattle.data_rules.proofs.FetchRuns.{fetch_finds_run}
 use Rattle.data_rules.proofs.Answered.{either, first_is_answered}
 use Rattle.data_rules.proofs.Decided.{Decided, set_may, kill_may, add_may, end_may}
 
@@ -78,23 +79,27 @@ as_update b s ack w job txn (ops.Set key value) is = as_item b s w ack _ (item_f
 as_update b s ack w job txn (ops.Kill key) is = as_item b s w ack _ (item_fits b.state s w (entries.Update s w job txn (ops.Kill key)) (kill_may b.state.order s w txn key is.0))
 as_update b s ack w job txn (ops.Add key amount) is = absurd is
 
--- a numbered message that is no Fetch
-judged : (m : Up) (s ack : ℕ) (b : Sofar) → AllByRecursion IsField (up_row m).fields → is_fetch m ≡ false → kind_of m ≡ Numbered → Judged m s ack b
-judged (Hello app dial) s ack b fields unlike is = absurd (cc (is))
-judged (Recover app session epoch taken dial) s ack b fields unlike is = absurd (cc (is))
-judged (Update w job txn op) s ack b fields unlike is = as_update b s ack w job txn op fields.1.1.1.0
-judged (Add w job key amount) s ack b fields unlike is = as_owed b s w job ack _ (item_fits b.state s w (entries.Update s w job 0 (ops.Add key amount)) (add_may b.state.order s w key amount fields.1.1.0.0))
-judged (Fetch key) s ack b fields unlike is = absurd (cc (unlike))
-judged (Ask ticket job mode key) s ack b fields unlike is = inl (_, record { after = refl })
-judged (Unlock job mode key) s ack b fields unlike is = inl (_, record { after = refl })
-judged (Cancel ticket) s ack b fields unlike is = inl (_, record { after = refl })
-judged (Commit w job txn wanted) s ack b fields unlike is = as_commit wanted b s w job ack _ (item_fits b.state s w (entries.Commit s w job txn) (end_may b.state.order s w job txn))
-judged (Rollback w job txn) s ack b fields unlike is = as_owed b s w job ack _ (item_fits b.state s w (entries.Rollback s w job txn) (end_may b.state.order s w job txn))
-judged (Sync ticket) s ack b fields unlike is = inl (_, record { after = refl })
-judged Done s ack b fields unlike is = as_done b s ack (either (is_awaited b.state s))
-judged (Claim job mode number at key) s ack b fields unlike is =
+-- a Fetch
+as_fetch : (b : Sofar) (s ack : ℕ) (key : List ℕ) → FetchRun b.state.order key → Judged (Fetch key) s ack b
+as_fetch b s ack key r = inl (_, record { run = r.run; block = r.block; covered = r.covered; is_true = r.is_true; in_bytes = r.in_bytes; after = refl })
+
+-- a numbered message
+judged : (m : Up) (s ack : ℕ) (b : Sofar) → AllByRecursion IsField (up_row m).fields → (is_fetch m ≡ true → IsOrdered b.state.order) → kind_of m ≡ Numbered → Judged m s ack b
+judged (Hello app dial) s ack b fields ordered is = absurd (cc (is))
+judged (Recover app session epoch taken dial) s ack b fields ordered is = absurd (cc (is))
+judged (Update w job txn op) s ack b fields ordered is = as_update b s ack w job txn op fields.1.1.1.0
+judged (Add w job key amount) s ack b fields ordered is = as_owed b s w job ack _ (item_fits b.state s w (entries.Update s w job 0 (ops.Add key amount)) (add_may b.state.order s w key amount fields.1.1.0.0))
+judged (Fetch key) s ack b fields ordered is = as_fetch b s ack key (fetch_finds_run b.state.order key (ordered refl) fields.0.below)
+judged (Ask ticket job mode key) s ack b fields ordered is = inl (_, record { after = refl })
+judged (Unlock job mode key) s ack b fields ordered is = inl (_, record { after = refl })
+judged (Cancel ticket) s ack b fields ordered is = inl (_, record { after = refl })
+judged (Commit w job txn wanted) s ack b fields ordered is = as_commit wanted b s w job ack _ (item_fits b.state s w (entries.Commit s w job txn) (end_may b.state.order s w job txn))
+judged (Rollback w job txn) s ack b fields ordered is = as_owed b s w job ack _ (item_fits b.state s w (entries.Rollback s w job txn) (end_may b.state.order s w job txn))
+judged (Sync ticket) s ack b fields ordered is = inl (_, record { after = refl })
+judged Done s ack b fields ordered is = as_done b s ack (either (is_awaited b.state s))
+judged (Claim job mode number at key) s ack b fields ordered is =
     as_claim b s ack job number at mode key (either (is_awaited b.state s)) (either (is_refused b.state (who s job) key mode))
-judged Bare s ack b fields unlike is = absurd (cc (is))
+judged Bare s ack b fields ordered is = absurd (cc (is))
 
 -- by what the window says
 numbered_there : (r : Result Taken WindowError) (b : Sofar) (conn now s : ℕ) (f : UpFrame) → Judged f.message s f.ack b → (c : Sofar) × TakesNumbered r b conn now s f c
@@ -121,19 +126,19 @@ closing_there Numbered b conn now = (_, record { after = refl })
 closing_there Unnumbered b conn now = (_, record { after = refl })
 
 -- a frame, by what its connection is for
-frame_there : (r : Option Role) (b : Sofar) (conn now : ℕ) (f : UpFrame) → IsUpFrame f → is_fetch f.message ≡ false → (c : Sofar) × TakesFrame r b conn now f c
-frame_there None b conn now f is unlike = (_, record { after = refl })
-frame_there (Some New) b conn now f is unlike = first_is_answered f.message b conn now
-frame_there (Some Waiting) b conn now f is unlike = (_, record { after = refl })
-frame_there (Some (Bound session)) b conn now f is unlike =
-    bound_there (kind_of f.message) b conn now session f (judged f.message session f.ack b is.fields unlike)
-frame_there (Some (Closing session)) b conn now f is unlike = closing_there (kind_of f.message) b conn now
+frame_there : (r : Option Role) (b : Sofar) (conn now : ℕ) (f : UpFrame) → IsUpFrame f → (is_fetch f.message ≡ true → IsOrdered b.state.order) → (c : Sofar) × TakesFrame r b conn now f c
+frame_there None b conn now f is ordered = (_, record { after = refl })
+frame_there (Some New) b conn now f is ordered = first_is_answered f.message b conn now
+frame_there (Some Waiting) b conn now f is ordered = (_, record { after = refl })
+frame_there (Some (Bound session)) b conn now f is ordered =
+    bound_there (kind_of f.message) b conn now session f (judged f.message session f.ack b is.fields ordered)
+frame_there (Some (Closing session)) b conn now f is ordered = closing_there (kind_of f.message) b conn now
 
 pub step_is_there : StepIsThere
-step_is_there d now (Frame conn up) unlike may =
-    let t : (c : Sofar) × TakesFrame (role_of d conn) (begun d) conn now up c = frame_there (role_of d conn) (begun d) conn now up may unlike in
+step_is_there d now (Frame conn up) ordered may =
+    let t : (c : Sofar) × TakesFrame (role_of d conn) (begun d) conn now up c = frame_there (role_of d conn) (begun d) conn now up may ordered in
     (settled conn now t.0, record { taken = t.0; takes = t.1; after = refl })
-step_is_there d now (Connected conn) unlike may = (_, refl)
-step_is_there d now (Broken conn) unlike may = (_, refl)
-step_is_there d now Tick unlike may = (_, refl)
-step_is_there d now (Saved upto) unlike may = (_, refl)
+step_is_there d now (Connected conn) ordered may = (_, refl)
+step_is_there d now (Broken conn) ordered may = (_, refl)
+step_is_there d now Tick ordered may = (_, refl)
+step_is_there d now (Saved upto) ordered may = (_, refl)

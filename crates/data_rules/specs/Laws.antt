@@ -1,5 +1,12 @@
 -- What the rules of a data server determine.
-use Rattle.std.specs.Prelude.{◌≡◌, ℕ, Bool, true, false, List}
+use Rattle.std.specs.Prelude.{◌≡◌, ℕ, Bool, true, false, List, [], ◌∷◌, length}
+use Rattle.std.specs.declared.cmp.Ordering.TheVariants.{Less}
+use Rattle.subscript_keys.specs.declared.run.Run.{Run}
+use Rattle.plain_orders.specs.declared.entry.Entry.{Entry}
+use Rattle.plain_orders.specs.Ordered.{IsOrdered}
+use Rattle.plain_orders.specs.PairMap.{key_cmp}
+use Rattle.block_bytes.specs.Blocks.{IsBlockOf}
+use Rattle.end_words.specs.Runs.{TrueAt, covers}
 use Rattle.ecp_messages.specs.declared.up.Up.{Up}
 use Rattle.ecp_messages.specs.declared.up.Up.TheVariants.{Hello, Recover, Update, Add, Fetch, Ask, Unlock, Cancel, Commit, Rollback, Sync, Done, Claim, Bare}
 use Rattle.data_rules.specs.declared.data_in.DataIn.{DataIn}
@@ -8,7 +15,7 @@ use Rattle.data_rules.specs.declared.data_outs.DataOuts.{DataOuts}
 use Rattle.data_rules.specs.DataState.{DataState}
 use Rattle.ecp_messages.specs.declared.down.Down.{Down}
 use Rattle.end_words.specs.Windows.{Window}
-use Rattle.end_words.specs.Laws.{WindowsAgree}
+use Rattle.end_words.specs.Laws.{WindowsAgree, SendsFirsts}
 use Rattle.data_rules.specs.Puts.{Sofar, body_of}
 use Rattle.data_rules.specs.Messages.{TakesFetch}
 use Rattle.data_rules.specs.Frames.{TakesFirst}
@@ -55,12 +62,28 @@ FetchIsDetermined =
 abbrev pub SessionWindowsAgree : Type 0
 SessionWindowsAgree = (w : Window Down) → WindowsAgree Down body_of w
 
+-- What a session is sent again are messages that were put to it, each with its first number.
+abbrev pub DownsAgainAreFirsts : Type 0
+DownsAgainAreFirsts = SendsFirsts Down
+
 -- A first frame on a connection is taken or refused, whatever it says.
 abbrev pub FirstIsAnswered : Type 0
 FirstIsAnswered = (m : Up) (b : Sofar) (conn now : ℕ) → (c : Sofar) × TakesFirst m b conn now c
 
--- An input that may come and leaves no choice has an outcome.
+-- a run that answers a Fetch
+pub record FetchRun (order : List Entry) (key : List ℕ) : Type 0 where
+  pub run : Run
+  pub block : List ℕ
+  pub covered : covers key run ≡ true
+  pub is_true : TrueAt run order (length order)
+  pub in_bytes : IsBlockOf run block
+
+-- An ordered list has one for each key below FF.
+abbrev pub FetchFindsRun : Type 0
+FetchFindsRun = (order : List Entry) (key : List ℕ) → IsOrdered order → key_cmp key (0xFF ∷ []) ≡ Less → FetchRun order key
+
+-- An input that may come has an outcome, of a Fetch where the order is an ordered list.
 abbrev pub StepIsThere : Type 0
 StepIsThere =
-    (d : DataState) (now : ℕ) (input : DataIn) → leaves_choice input ≡ false → DataMay d input →
+    (d : DataState) (now : ℕ) (input : DataIn) → (leaves_choice input ≡ true → IsOrdered d.order) → DataMay d input →
     (c : Sofar) × DataStep d now input c.outs c.state
