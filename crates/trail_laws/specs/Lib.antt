@@ -1,0 +1,2 @@
+pub mod OrderLaw
+pub mod DurableLaw

@@ -1,0 +1,18 @@
+ghost use Rattle.plain_runs.specs.Laws.{ItemsInOrder, ItemsWereIssued};
+ghost use Rattle.trail_laws.specs.OrderLaw.{JobsInOrder};
+ghost use Rattle.trail_laws.specs.DurableLaw.{AnswersStay, EntriesStay};
+
+/// In each order the items of a session stand in the order of their running numbers, each once, so those of each job
+/// in its own order. In the current order each item of a session that was met is what was issued with its number.
+pub fn law_order()
+    ensures sessions { ItemsInOrder }
+    ensures jobs { JobsInOrder }
+    ensures issued { ItemsWereIssued }
+{}
+
+/// An entry that is synced stands at its position in every later order. So does each commit, rollback and increment
+/// that was answered.
+pub fn law_durable()
+    ensures entries { EntriesStay }
+    ensures answers { AnswersStay }
+{}
