@@ -1,2 +1,5 @@
 pub mod Order
 pub mod Durable
+pub mod Seen
+pub mod SeenRuns
+pub mod Prefixes

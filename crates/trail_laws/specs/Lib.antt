@@ -1,2 +1,3 @@
 pub mod OrderLaw
 pub mod DurableLaw
+pub mod PrefixLaw

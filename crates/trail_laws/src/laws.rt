@@ -1,6 +1,9 @@
-ghost use Rattle.plain_runs.specs.Laws.{ItemsInOrder, ItemsWereIssued};
+ghost use Rattle.plain_runs.specs.Laws.{ItemsInOrder, ItemsWereIssued, SeenIsTold};
 ghost use Rattle.trail_laws.specs.OrderLaw.{JobsInOrder};
 ghost use Rattle.trail_laws.specs.DurableLaw.{AnswersStay, EntriesStay};
+ghost use Rattle.trail_laws.specs.PrefixLaw.{SeenFallsWhereCut};
+
+use plain_runs::laws::what_is_seen_never_falls;
 
 /// In each order the items of a session stand in the order of their running numbers, each once, so those of each job
 /// in its own order. In the current order each item of a session that was met is what was issued with its number.
@@ -16,3 +19,12 @@ pub fn law_durable()
     ensures entries { EntriesStay }
     ensures answers { AnswersStay }
 {}
+
+/// What a job has seen falls only by a `told` or a `met`, and there only where a restart had cut the order to less. It
+/// is within the order that its pair's session is told of.
+pub fn law_prefixes()
+    ensures falls { SeenFallsWhereCut }
+    ensures told { SeenIsTold }
+{
+    what_is_seen_never_falls();
+}
