@@ -18,13 +18,24 @@ use Rattle.plain_runs.specs.JobRows.{AnswerMay, item_at, is_answered_item, w_at}
 use Rattle.plain_runs.specs.Step.{MayCome}
 use Rattle.plain_runs.specs.Run.{IsRun, RunFrom, after_all, state_after}
 use Rattle.plain_runs.specs.Laws.{server_after}
-use Rattle.plain_runs.proofs.RunLemmas.{run_parts}
-use Rattle.plain_runs.proofs.OrderLaws.{synced_stays}
+use Rattle.plain_runs.proofs.RunLemmas.{run_parts, after_all-append}
+use Rattle.plain_runs.proofs.Orders.{OrdersGo, facet}
+use Rattle.plain_runs.proofs.OrderLaws.{orders_kept, run_steps, synced_stays}
 use Rattle.trail_laws.specs.DurableLaw.{Answer, AnswersStay, EntriesStay, answer_of, is_add_of, is_commit_of, is_rollback_of}
 
 -- the act at a place of a run may come there
 pub may_after : (l : Layout) (before later : List Act) (a : Act) → IsRun l (before ++ a ∷ later) → MayCome l (state_after l before) a
 may_after l before later a run = (run_parts l start before (a ∷ later) run).1.0
+
+-- what becomes of the orders of a server along the rest of a run
+pub orders_go : (l : Layout) (before later : List Act) (d : ℕ) → IsRun l (before ++ later) → OrdersGo (facet (server_after l before d)) (facet (server_after l (before ++ later) d))
+orders_go l before later d run =
+    let parts : RunFrom l start before × RunFrom l (after_all l start before) later = run_parts l start before later run in
+    subst (λ (p : Plain). OrdersGo (facet (server_after l before d)) (facet (p.server_at d))) (sym (after_all-append l start before later)) (run_steps l (after_all l start before) later parts.1 d (orders_kept l before d parts.0)).1
+
+-- the current order is no earlier than the one before
+pub later_order : (l : Layout) (before later : List Act) (d : ℕ) → IsRun l (before ++ later) → current (server_after l before d) ≤ current (server_after l (before ++ later) d)
+later_order l before later d run = (orders_go l before later d run).more
 
 pub got_taken : {X : Type 0} (xs ys : List X) (n i : ℕ) → take n xs ≡ take n ys → i < n → slice_get xs i ≡ slice_get ys i
 got_taken [] [] n i e low = refl

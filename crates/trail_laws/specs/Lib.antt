@@ -1,3 +1,5 @@
 pub mod OrderLaw
 pub mod DurableLaw
 pub mod PrefixLaw
+pub mod Touches
+pub mod IncrementLaw

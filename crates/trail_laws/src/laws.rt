@@ -1,6 +1,7 @@
 ghost use Rattle.plain_runs.specs.Laws.{ItemsInOrder, ItemsWereIssued, SeenIsTold};
 ghost use Rattle.trail_laws.specs.OrderLaw.{JobsInOrder};
 ghost use Rattle.trail_laws.specs.DurableLaw.{AnswersStay, EntriesStay};
+ghost use Rattle.trail_laws.specs.IncrementLaw.{IncrementsDiffer};
 ghost use Rattle.trail_laws.specs.PrefixLaw.{SeenFallsWhereCut};
 
 use plain_runs::laws::what_is_seen_never_falls;
@@ -28,3 +29,9 @@ pub fn law_prefixes()
 {
     what_is_seen_never_falls();
 }
+
+/// Two increments of one node by positive amounts, with no other entry touching the node from the one to the other, are
+/// never both answered by the same whole number. An entry touches a node also where it undoes an update there.
+pub fn law_increments()
+    ensures { IncrementsDiffer }
+{}
