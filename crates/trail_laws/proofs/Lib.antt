@@ -6,3 +6,6 @@ pub mod Prefixes
 pub mod WholeTexts
 pub mod NodeValues
 pub mod Increments
+pub mod HoldGoes
+pub mod ServerGoes
+pub mod Handover

@@ -3,3 +3,4 @@ pub mod DurableLaw
 pub mod PrefixLaw
 pub mod Touches
 pub mod IncrementLaw
+pub mod LockLaw
