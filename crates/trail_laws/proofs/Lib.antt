@@ -9,3 +9,4 @@ pub mod Increments
 pub mod HoldGoes
 pub mod ServerGoes
 pub mod Handover
+pub mod NoTrace

@@ -4,3 +4,4 @@ pub mod PrefixLaw
 pub mod Touches
 pub mod IncrementLaw
 pub mod LockLaw
+pub mod RollbackLaw

@@ -4,6 +4,7 @@ ghost use Rattle.trail_laws.specs.DurableLaw.{AnswersStay, EntriesStay};
 ghost use Rattle.trail_laws.specs.IncrementLaw.{IncrementsDiffer};
 ghost use Rattle.trail_laws.specs.LockLaw.{GrantIsTold, GrantStays, Handover, NoLateUpdate};
 ghost use Rattle.trail_laws.specs.PrefixLaw.{SeenFallsWhereCut};
+ghost use Rattle.trail_laws.specs.RollbackLaw.{LeavesNoTrace};
 
 use plain_runs::laws::what_is_seen_never_falls;
 
@@ -51,4 +52,11 @@ pub fn law_handover()
 /// answered.
 pub fn law_no_late()
     ensures { NoLateUpdate }
+{}
+
+/// A transaction that is ended by its Rollback or its session's Close leaves no trace: on each node that no other update
+/// touches from its beginning to that end, and that no other transaction open at its beginning has touched, the map is
+/// as before it began.
+pub fn law_rollback()
+    ensures { LeavesNoTrace }
 {}
