@@ -1,0 +1,12 @@
+pub mod Order
+pub mod Durable
+pub mod Seen
+pub mod SeenRuns
+pub mod Prefixes
+pub mod WholeTexts
+pub mod NodeValues
+pub mod Increments
+pub mod HoldGoes
+pub mod ServerGoes
+pub mod Handover
+pub mod NoTrace

@@ -1,0 +1,7 @@
+pub mod OrderLaw
+pub mod DurableLaw
+pub mod PrefixLaw
+pub mod Touches
+pub mod IncrementLaw
+pub mod LockLaw
+pub mod RollbackLaw
