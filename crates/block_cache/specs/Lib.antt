@@ -1,1 +1,2 @@
 pub mod CacheWords
+pub mod Numbering
