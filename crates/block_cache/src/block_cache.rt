@@ -1,4 +1,5 @@
 ghost use Rattle.std.specs.Prelude.{◌≡◌, ℕ, ◌<◌, [], nat_eq, map, IfOk, OnOk, OnErr, option_map};
+ghost use Rattle.std.specs.Borrow.{sem};
 ghost use Rattle.std.specs.List.{find, AllByRecursion, IsDistinct};
 ghost use Rattle.std.specs.NonZero.{non_zero_usize_get};
 ghost use Rattle.std.specs.Option.{option_copied};
@@ -40,6 +41,8 @@ impl Model for BlockCache {
 }
 
 impl BlockCache {
+    ghost use Rattle.block_cache.specs.CacheLends.{EndsAs};
+
     pub fn new(alloc: Global) -> Result<BlockCache, AllocError>
         ensures { IfOk result (λ cache. cache ≡ []) }
     {
@@ -51,14 +54,15 @@ impl BlockCache {
 
     /// The first run that covers the key. It counts as used.
     pub fn cover(&mut self, key: &KeyBytes) -> Option<&Run>
-        ensures { option_copied result ≡ find (covers key.now) self.old }
+        ensures* uses { sem 𝓛 (EndsAs self.entry (used key.now self.old)) }
+        ensures value { option_copied result ≡ find (covers key.now) self.old }
     {
         self.use_cover(key);
         self.peek(key)
     }
 
     /// Counts the first run that covers the key as used.
-    pub fn use_cover(&mut self, key: &KeyBytes)
+    fn use_cover(&mut self, key: &KeyBytes)
         ensures { self.new ≡ used key.now self.old }
     {
         use_cover(&mut self.runs, key);
