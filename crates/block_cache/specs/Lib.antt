@@ -1,1 +1,3 @@
 pub mod CacheWords
+pub mod Numbering
+pub mod CacheLends

@@ -1,2 +1,7 @@
-//! The sessions that a data server awaits after a start. What each call makes of a round stands in the specs.
+//! The sessions that a data server awaits after a start. Contracts see a `RecoveryRound` as the record of these
+//! sessions and the moment when it is due. Only the start of a round takes memory.
 #![tactic(auto)]
+
+mod recovery_round;
+
+pub use recovery_round::RecoveryRound;

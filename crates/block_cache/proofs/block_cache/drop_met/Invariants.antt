@@ -1,0 +1,16 @@
+use Rattle.std.proofs.Common.{◌≡◌, ℕ, length}
+use Rattle.std.specs.Map.{values_of}
+use Rattle.block_cache.specs.CacheWords.{without_met}
+use Rattle.block_cache.specs.Numbering.{IsNumberedBelow}
+use Rattle.block_cache.proofs.block_cache.drop_met.Given as goal
+
+-- what was let go so far meets the span
+abbrev pub invariant-loop-runs : goal.invariant-loop-runs
+invariant-loop-runs l = record {
+  values : without_met l.span (values_of l.runs.entries) ≡ without_met l.span (values_of l.initial.runs.entries);
+  cap : l.runs.cap ≡ l.initial.runs.cap;
+  numbers : (n : ℕ) → IsNumberedBelow n l.initial.runs.entries → IsNumberedBelow n l.runs.entries;
+}
+
+abbrev pub decreases-loop-runs : goal.decreases-loop-runs
+decreases-loop-runs l = length l.runs.entries
