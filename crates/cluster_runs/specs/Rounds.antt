@@ -7,7 +7,7 @@ use Rattle.data_rules.specs.declared.data_in.DataIn.TheVariants as data_in
 use Rattle.data_rules.specs.DataState.{DataState}
 use Rattle.app_rules.specs.declared.app_in.AppIn.TheVariants as app_in
 use Rattle.cluster_runs.specs.declared.moves.Move.{Move}
-use Rattle.cluster_runs.specs.declared.moves.Move.TheVariants.{Step, Looked, App, Server, Begin, Halt, Die, Tick}
+use Rattle.cluster_runs.specs.declared.moves.Move.TheVariants.{Step, App, Server}
 use Rattle.cluster_runs.specs.CoresState.{CoresState, Dial, node_at, begun_at, is_dead, app_of_job, accepted_at}
 use Rattle.cluster_runs.specs.Wires.{linked_of}
 use Rattle.cluster_runs.specs.Connections.{is_link, link_else}
