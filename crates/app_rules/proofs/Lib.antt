@@ -9,5 +9,6 @@ pub mod Few
 pub mod Alone
 pub mod AloneSteps
 pub mod AloneFrames
+pub mod BlockDecided
 pub mod Total
 pub mod JobTotal

@@ -1,4 +1,4 @@
--- Each input that may come has an outcome, where each Block is known to be a run's or none's.
+-- Each input that may come has an outcome.
 use Rattle.std.proofs.Common.{◌≡◌, ◌<◌, ◌≤◌, ◌⊎◌, ℕ, Bool, true, false, List, Result, Ok, Err, refl, inl, inr, arith}
 use Rattle.std.proofs.lemmas.Bool.{cases_lt, leb-true}
 use Rattle.subscript_keys.specs.declared.run.Run.{Run}
@@ -18,7 +18,8 @@ use Rattle.app_rules.specs.declared.app_in.AppIn.TheVariants.{Frame, Connected, 
 use Rattle.app_rules.specs.Works.{Sofar, begun, end_at, session_at, sets}
 use Rattle.app_rules.specs.Welcoming.{greatest, TakesWelcome, IsAsked, IsNoWelcome}
 use Rattle.app_rules.specs.Downs.{TakesReset, EndsReset, IsNoRun, HasNoRun, Delivers, falls, took, joined, settled, TakesNumbered, TakesHeaded, TakesAck, TakesBare, TakesFrame}
-use Rattle.app_rules.specs.Laws.{IsKnown, StepIsThere}
+use Rattle.app_rules.specs.Laws.{StepIsThere}
+use Rattle.app_rules.proofs.BlockDecided.{block_known}
 
 -- a truth value is one of the two
 either : (t : Bool) → (t ≡ true) ⊎ (t ≡ false)
@@ -137,24 +138,24 @@ bare_there true b d now ack = ack_there _ b d now ack
 bare_there false b d now ack = (_, refl)
 
 -- a frame with this message
-frame_there : (m : Down) (b : Sofar) (d now seq ack : ℕ) → IsKnown m
+frame_there : (m : Down) (b : Sofar) (d now seq ack : ℕ)
     → (c : Sofar) × TakesFrame m b d now (record { seq = seq; ack = ack; message = m }) c
-frame_there (Welcome session epoch kept front taken) b d now seq ack known = welcome_by (end_at b.state d).line b d now session epoch kept front taken refl
-frame_there (Reset session at) b d now seq ack known = reset_there b d now session at
-frame_there (Block front block) b d now seq ack known = headed_there (joined b d) b d now _ front (block_there front block d now _ known)
-frame_there (Drop front lo hi) b d now seq ack known = headed_there (joined b d) b d now _ front (inl (_, refl))
-frame_there (Ack front) b d now seq ack known = headed_there (joined b d) b d now _ front (inl (_, refl))
-frame_there (Grant front ticket at) b d now seq ack known = headed_there (joined b d) b d now _ front (inl (_, refl))
-frame_there (Answer front about job number at sum) b d now seq ack known = headed_there (joined b d) b d now _ front (inl (_, refl))
-frame_there (NormalMessage front) b d now seq ack known = headed_there (joined b d) b d now _ front (inl (_, refl))
-frame_there Bare b d now seq ack known = bare_there (joined b d) b d now ack
+frame_there (Welcome session epoch kept front taken) b d now seq ack = welcome_by (end_at b.state d).line b d now session epoch kept front taken refl
+frame_there (Reset session at) b d now seq ack = reset_there b d now session at
+frame_there (Block front block) b d now seq ack = headed_there (joined b d) b d now _ front (block_there front block d now _ (block_known block))
+frame_there (Drop front lo hi) b d now seq ack = headed_there (joined b d) b d now _ front (inl (_, refl))
+frame_there (Ack front) b d now seq ack = headed_there (joined b d) b d now _ front (inl (_, refl))
+frame_there (Grant front ticket at) b d now seq ack = headed_there (joined b d) b d now _ front (inl (_, refl))
+frame_there (Answer front about job number at sum) b d now seq ack = headed_there (joined b d) b d now _ front (inl (_, refl))
+frame_there (NormalMessage front) b d now seq ack = headed_there (joined b d) b d now _ front (inl (_, refl))
+frame_there Bare b d now seq ack = bare_there (joined b d) b d now ack
 
 pub step_is_there : StepIsThere
-step_is_there a now (Frame d down) known may =
-    let t : (c : Sofar) × TakesFrame down.message (begun a) d now down c = frame_there down.message (begun a) d now down.seq down.ack known in
+step_is_there a now (Frame d down) may =
+    let t : (c : Sofar) × TakesFrame down.message (begun a) d now down c = frame_there down.message (begun a) d now down.seq down.ack in
     (settled d t.0, record { taken = t.0; takes = t.1; after = refl })
-step_is_there a now (Connected d) known may = (_, refl)
-step_is_there a now (NoWay d fails_before fails_after) known may = (_, refl)
-step_is_there a now (Broken d) known may = (_, refl)
-step_is_there a now (Join d) known may = (_, refl)
-step_is_there a now Tick known may = (_, refl)
+step_is_there a now (Connected d) may = (_, refl)
+step_is_there a now (NoWay d fails_before fails_after) may = (_, refl)
+step_is_there a now (Broken d) may = (_, refl)
+step_is_there a now (Join d) may = (_, refl)
+step_is_there a now Tick may = (_, refl)

@@ -1,16 +1,12 @@
 -- What the steps of an application server's ends leave as it was, and that these steps and those of its jobs are there and are determined.
-use Rattle.std.specs.Prelude.{◌≡◌, ◌≢◌, ◌<◌, ◌⊎◌, ◌^◌, ℕ, List, length, Option, Some, None, IfSome}
+use Rattle.std.specs.Prelude.{◌≡◌, ◌≢◌, ◌<◌, ◌^◌, ℕ, List, length, Option, Some, None, IfSome}
 use Rattle.std.specs.List.{AllByRecursion}
 use Rattle.subscript_keys.specs.declared.run.Run.{Run}
 use Rattle.plain_orders.specs.Keys.{HasKeys}
-use Rattle.ecp_messages.specs.declared.down.Down.{Down}
-use Rattle.ecp_messages.specs.declared.down.Down.TheVariants.{Welcome, Reset, Block, Drop, Ack, Grant, Answer as AnswerMessage, Normal, Bare}
 use Rattle.ecp_messages.specs.declared.up.Up.{Up}
-use Rattle.block_bytes.specs.Blocks.{IsBlock}
 use Rattle.end_words.specs.Laws.{SendsFirsts}
 use Rattle.end_words.specs.Runs.{pairs_of}
 use Rattle.app_job.specs.declared.command.Command.TheVariants as commands
-use Rattle.app_rules.specs.Downs.{IsNoRun}
 use Rattle.app_rules.specs.declared.app_in.AppIn.{AppIn}
 use Rattle.app_rules.specs.declared.app_in.AppIn.TheVariants.{Frame, Connected, NoWay, Broken, Join, Tick}
 use Rattle.app_rules.specs.declared.app_outs.AppOuts.{AppOuts}
@@ -89,30 +85,9 @@ JobStepsAlike = (a new other : AppState) (j job other_job : JobState) (now line 
     → JobStep a j now line command answer outs new job → JobStep a j now line command other_answer other_outs other other_job
     → (other ≡ new) × (other_outs ≡ outs) × (other_job ≡ job) × (other_answer ≡ answer)
 
--- a message that is no Block, or one whose bytes are a run's or no run's
-abbrev pub IsKnown : Down → Type 0
-IsKnown (Welcome session epoch kept front taken) = Unit {0}
-IsKnown (Reset session at) = Unit {0}
-IsKnown (Block front block) = IsBlock block ⊎ IsNoRun block
-IsKnown (Drop front lo hi) = Unit {0}
-IsKnown (Ack front) = Unit {0}
-IsKnown (Grant front ticket at) = Unit {0}
-IsKnown (AnswerMessage front about job number at sum) = Unit {0}
-IsKnown (Normal front) = Unit {0}
-IsKnown Bare = Unit {0}
-
--- an input that brings no other
-abbrev pub BringsKnown : AppIn → Type 0
-BringsKnown (Frame d down) = IsKnown down.message
-BringsKnown (Connected d) = Unit {0}
-BringsKnown (NoWay d fails_before fails_after) = Unit {0}
-BringsKnown (Broken d) = Unit {0}
-BringsKnown (Join d) = Unit {0}
-BringsKnown Tick = Unit {0}
-
 -- an input that may come has an outcome
 abbrev pub StepIsThere : Type 0
-StepIsThere = (a : AppState) (now : ℕ) (input : AppIn) → BringsKnown input → AppMay a input → (c : Sofar) × AppStep a now input c.outs c.state
+StepIsThere = (a : AppState) (now : ℕ) (input : AppIn) → AppMay a input → (c : Sofar) × AppStep a now input c.outs c.state
 
 -- the keys of some runs are nodes'
 abbrev pub HaveNodeKeys : List Run → Type 0

@@ -40,7 +40,7 @@ pub fn a_command_waits_for_the_first_reason()
     ensures { WaitsForTheFirst }
 {}
 
-/// An input that may come has an outcome, where each block's bytes are known to be a run's or no run's.
+/// An input that may come has an outcome.
 pub fn a_step_is_there()
     ensures { StepIsThere }
 {}

@@ -1,5 +1,5 @@
 -- Where nothing is undelivered or unsaved, no cause is left that deliveries and saves end.
-use Rattle.std.proofs.Common.{zero, suc, ◌≡◌, ◌<◌, ◌≤◌, ℕ, ◌+◌, ◌-◌, Bool, true, false, cond, ◌&&◌, ◌||◌, not, if◌then◌else◌, List, [], ◌∷◌, length, get_or, nat_lt, nat_le, Option, Some, None, refl, sym, ap, subst, ◌∙◌, arith}
+use Rattle.std.proofs.Common.{zero, suc, ◌≡◌, ◌<◌, ℕ, ◌+◌, ◌-◌, Bool, true, false, cond, ◌&&◌, ◌||◌, not, if◌then◌else◌, List, [], ◌∷◌, length, get_or, nat_lt, nat_le, Option, Some, None, refl, sym, ap, ◌∙◌, arith}
 use Rattle.std.specs.List.{find, list_any, list_all, range_with_len}
 use Rattle.std.proofs.lemmas.Bool.{and_parts, ltb-true, ltb-false, leb-true}
 use Rattle.ecp_messages.specs.declared.up.UpFrame.{UpFrame}
@@ -7,12 +7,11 @@ use Rattle.ecp_messages.specs.declared.down.DownFrame.{DownFrame}
 use Rattle.data_rules.specs.DataState.{DataState}
 use Rattle.data_rules.specs.Places.{item_place}
 use Rattle.data_rules.specs.declared.rows.Reply.{Reply}
-use Rattle.app_rules.specs.AppState.{AppEnd}
 use Rattle.app_rules.specs.Works.{session_of}
 use Rattle.cluster_runs.specs.CoresState.{CoresState, Dial, node_at, is_dead, is_dial, dial_at}
 use Rattle.cluster_runs.specs.Awaited.{Awaited, awaited_at}
 use Rattle.cluster_runs.specs.Awaited.Awaited.{HelloAnswer, RecoverAnswer, FetchAnswer, AskAnswer, SyncAnswer, ItemAnswer, ItemSynced, ItemReached}
-use Rattle.cluster_runs.specs.Accounted.{is_among, ups_on, is_undelivered, is_unnoticed, is_unsynced_at, is_gated_by, is_reply_for, is_above_synced, is_entry_above, is_gated, may_stay, has_cause, is_end_accounted, is_app_accounted, has_frames, is_dial_unnoticed, is_unsaved, is_quiet}
+use Rattle.cluster_runs.specs.Accounted.{is_among, ups_on, is_undelivered, is_unnoticed, is_unsynced_at, is_gated_by, is_reply_for, is_above_synced, is_entry_above, is_gated, may_stay, has_cause, is_end_accounted, is_app_accounted, has_frames, is_dial_unnoticed, is_unsaved}
 use Rattle.cluster_runs.specs.Reached.{IsLivingEnd, the_end, QuietLeaves}
 
 or_parts : (a b : Bool) → (a || b) ≡ false → (a ≡ false) × (b ≡ false)
