@@ -1,0 +1,53 @@
+"""Runs worked rows by the definitions: `python3 rows.py [--moves FOLDER] CASES ROW..` from the project's root."""
+import os
+import sys
+import threading
+import time
+import antt
+import rows_cluster
+from rows_run import Runner
+from rows_text import Script
+
+
+def run_row(folder, row, moves):
+    text = open(os.path.join(folder, 'row-%s.ecp' % row), encoding='latin1').read()
+    wanted = open(os.path.join(folder, 'row-%s.out' % row), encoding='latin1').read()
+    began = time.time()
+    runner = Runner(Script(text))
+    runner.texts = text.split('\n')
+    problem = None
+    try:
+        got = runner.run()
+    except Exception as e:          # a move that isn't allowed or makes nothing is what is sought
+        import traceback
+        problem, got = '%s: %s' % (type(e).__name__, str(e)[:2000]), ''
+        if os.environ.get('TRACE'):
+            traceback.print_exc()
+    if moves:
+        with open(os.path.join(moves, 'row-%s.txt' % row), 'w') as out:
+            out.write('# The script of the row\n\n%s\n\n# The moves, with their frames and acts\n\n%s\n\n# The whole output\n\n%s' % (text.strip(), '\n'.join(runner.told), got))
+    same = got == wanted
+    print('%-6s %s  %d moves  %.1f s%s' % (row, 'as printed' if same else 'DIFFERS', runner.c.count, time.time() - began, '  ' + problem if problem else ''), flush=True)
+    if not same and not problem:
+        import difflib
+        for line in difflib.unified_diff(wanted.split('\n'), got.split('\n'), 'printed', 'by the definitions', lineterm='', n=1):
+            print('    ' + line)
+    return same
+
+
+def main():
+    args = sys.argv[1:]
+    moves = None
+    if args[0] == '--moves':
+        moves, args = args[1], args[2:]
+    rows_cluster.answered_in_python()
+    results = [run_row(args[0], row, moves) for row in args[1:]]
+    print('%d of %d as printed' % (sum(results), len(results)))
+
+
+if __name__ == '__main__':
+    sys.setrecursionlimit(1000000)
+    threading.stack_size(1 << 29)
+    thread = threading.Thread(target=main)
+    thread.start()
+    thread.join()

@@ -1,0 +1,231 @@
+"""The cluster by its definitions: each move is asked of `Allowed`, and `CoresMade` makes the step; each act is asked of the plain machine."""
+import glob
+import os
+import re
+import antt
+from antt import Con, Rec, Var, Prop, NONE, some, apply, deref, module, resolve, solve, undo, unify
+from rows_text import sub_at
+
+# where the words stand; a crate that takes some of them over is named here
+WHERE = {
+    'Allowed': 'Rattle.cluster_runs.specs.Moves',
+    'CoresMade': 'Rattle.cluster_runs.specs.Steps',
+    'start': 'Rattle.cluster_runs.specs.CoresState',
+    'MayCome': 'Rattle.plain_runs.specs.Step',
+    'after': 'Rattle.plain_runs.specs.Step',
+    'plain_start': 'Rattle.plain_runs.specs.Plain',
+    'fold': 'Rattle.plain_orders.specs.Fold',
+}
+
+
+def word(name, as_name=None):
+    return resolve(module(WHERE[as_name or name]), name)
+
+
+def is_before(a, b):
+    return tuple(a) < tuple(b)
+
+
+def block_bytes(run):
+    def part(bytes_):
+        return (len(bytes_) // 256, len(bytes_) % 256) + tuple(bytes_)
+    f = run.f
+    out = (1,) + part(f['span'].f['lo']) + part(f['span'].f['hi']) + (len(f['pairs']) // 256, len(f['pairs']) % 256)
+    for p in f['pairs']:
+        out += part(p.f['key']) + part(p.f['value'])
+    return out
+
+
+def run_of(block):
+    """The run of a block, or none."""
+    block, place = deref(block), [1]
+    def number():
+        place[0] += 2
+        return block[place[0] - 2] * 256 + block[place[0] - 1]
+    def part():
+        n = number()
+        place[0] += n
+        return tuple(block[place[0] - n:place[0]])
+    try:
+        lo, hi = part(), part()
+        pairs = tuple(Rec({'key': part(), 'value': part()}) for _ in range(number()))
+    except IndexError:
+        return None
+    run = Rec({'span': Rec({'lo': lo, 'hi': hi}), 'pairs': pairs})
+    keys = [p.f['key'] for p in pairs]
+    good = lo < hi and keys == sorted(set(keys)) and all(lo <= k < hi for k in keys) and block_bytes(run) == tuple(block) and len(block) <= 8192
+    return run if good else None
+
+
+def is_block_of(run, block):
+    def ask():
+        r, b = deref(run), deref(block)
+        if isinstance(b, Var):
+            return len(block_bytes(r)) <= 8192 and unify(b, block_bytes(r))
+        found = run_of(b)
+        return found is not None and unify(run, found)
+    return Prop('py', ask)
+
+
+def is_sub_in(parent, key, found):
+    def ask():
+        k = deref(key)
+        if k.n == 'None':
+            return unify(found, NONE)
+        return unify(found, some(sub_at(k.a[0], len(deref(parent)))[0]))
+    return Prop('py', ask)
+
+
+PLAIN = {}
+
+
+def plain_of(c):
+    """The plain machine after a trail, which grows at its end."""
+    trail, layout = deref(c).f['trail'], deref(c).f['layout']
+    n = len(trail)
+    while n and (n, trail[n - 1]) not in PLAIN:
+        n -= 1
+    state = PLAIN[(n, trail[n - 1])] if n else word('start', 'plain_start')
+    for i in range(n, len(trail)):
+        state = deref(apply(word('after'), (layout, state, trail[i])))
+        PLAIN[(i + 1, trail[i])] = state
+    return state
+
+
+FOLDS = {}
+
+
+def fold_once(entries):
+    """The definition's own fold, each list once: one entry more over what was folded."""
+    entries = deref(entries)
+    key = tuple(map(id, entries))
+    if key not in FOLDS:
+        FOLDS[key] = (deref(apply(FOLD[0], (entries,))), entries)
+    return FOLDS[key][0]
+
+
+FOLD = []
+LEFT = antt.Con('Unit')
+
+
+def constants():
+    """The numbers that the crates' sources give names to."""
+    found = {}
+    for file in glob.glob(os.path.join(antt.ROOT, '*', 'src', '*.rt')):
+        for name, value in re.findall(r'\bconst ([A-Z_0-9]+): \w+ = ([^;]+);', open(file, encoding='utf8').read()):
+            try:
+                found[name] = int(eval(re.sub(r'_(?=\d)', '', value.replace(' as u64', '')).replace('pow', ''), {}, dict(found)))
+            except Exception:
+                pass
+    return found
+
+
+def with_constants():
+    known, before = constants(), antt.resolve0
+    antt.resolve0 = lambda mod, name: known[name] if name in known and mod.imp.get(name, ('',))[0].endswith('TheConstants') else before(mod, name)
+
+
+def answered_in_python():
+    """The true choices and what is an existential, answered here."""
+    with_constants()
+    antt.built('digits_of', 2)(lambda base, n: tuple(map(int, str(n))) if n else ())
+    antt.over('Ordered.KeyMay', 1, lambda key: LEFT)
+    antt.over('Key.IsKey', 1, lambda key: LEFT)
+    antt.over('Key.IsSub', 1, lambda sub: LEFT)
+    antt.over('Sites.IsSite', 1, lambda site: LEFT)
+    antt.over('Limits.NextMay', 2, lambda parent, sub: LEFT)
+    antt.over('Blocks.IsBlockOf', 2, is_block_of)
+    antt.over('Downs.IsNoRun', 1, lambda block: Prop('py', lambda: run_of(block) is None))
+    antt.over('Answers.IsSubIn', 3, is_sub_in)
+    antt.over('Ups.IsUpFrame', 1, lambda frame: LEFT)
+    antt.over('Downs.IsDownFrame', 1, lambda frame: LEFT)
+    antt.over('CoresState.plain', 1, plain_of)
+    antt.over('Windows.in_bytes', 2, lambda body, w: Rec({'acked': w.f['acked'], 'waiting': ((),) * len(w.f['waiting']), 'taken': w.f['taken']}))
+    antt.HINT[('TakesFetch', 'run')] = whole_run
+    FOLD.append(word('fold'))
+
+
+def whole_run(env):
+    """A Fetch is answered with the whole space: all data fits one block in the worked rows that run here."""
+    state = deref(env['b']).f['state']
+    pairs = deref(apply(word('fold'), (state.f['order'],))).f['pairs']
+    whole = Rec({'span': Rec({'lo': (), 'hi': (0xFF,)}), 'pairs': tuple(Rec({'key': deref(p)[0], 'value': deref(p)[1]}) for p in deref(pairs))})
+    if len(block_bytes(whole)) <= 8192:
+        return whole
+    return around(env['key'], whole)
+
+
+def around(key, whole):
+    """Else as many pairs around the key as fit, the span reaching to the pairs left out."""
+    key, pairs = deref(key), whole.f['pairs']
+    at = sum(1 for p in pairs if p.f['key'] <= key)
+    first = last = at
+    def made(a, b):
+        lo = pairs[a].f['key'] if a else ()
+        hi = pairs[b].f['key'] if b < len(pairs) else (0xFF,)
+        return Rec({'span': Rec({'lo': lo, 'hi': hi}), 'pairs': pairs[a:b]})
+    first = max(at - 1, 0)
+    last = max(at, first)
+    best = made(first, last)
+    while first and len(block_bytes(made(first - 1, last))) <= 8192:
+        first -= 1
+    while last < len(pairs) and len(block_bytes(made(first, last + 1))) <= 8192:
+        last += 1
+    return made(first, last) if best else best
+
+
+class Refused(Exception):
+    pass
+
+
+class Cluster:
+    """The whole cluster, one move after another."""
+    def __init__(self, layout, ask_plain=True):
+        self.layout, self.ask_plain = layout, ask_plain
+        self.state = deref(apply(word('start'), (layout,)))
+        self.plain = word('start', 'plain_start')
+        self.count = 0
+        self.log = []
+
+    def move(self, move):
+        """Makes an allowed move: what it answers and puts, and its acts."""
+        undo(0)
+        if not solve(apply(word('Allowed'), (self.state, move))):
+            undo(0)
+            raise Refused('move %d %r is not allowed' % (self.count, move))
+        undo(0)
+        outs, acts, new = Var('outs'), Var('acts'), Var('new')
+        if not solve(apply(word('CoresMade'), (self.state, move, outs, acts, new))):
+            raise Refused('move %d %r makes nothing' % (self.count, move))
+        outs, acts, new = deep(outs), deep(acts), deep(new)
+        undo(0)
+        if self.ask_plain:
+            self.asks(acts)
+        self.state, self.count = new, self.count + 1
+        self.log.append((move, outs, acts))
+        return outs, acts
+
+    def asks(self, acts):
+        """Each act may come on the plain machine, one after another."""
+        plain = self.plain
+        for act in acts:
+            if not solve(apply(word('MayCome'), (self.layout, plain, act))):
+                raise Refused('act %r may not come at move %d' % (act, self.count))
+            undo(0)
+            plain = deref(apply(word('after'), (self.layout, plain, act)))
+        self.plain = plain
+
+
+def deep(v):
+    """A value without unknowns that were bound."""
+    v = deref(v)
+    if isinstance(v, Rec):
+        fields = {k: deep(x) for k, x in v.f.items()}
+        return v if all(fields[k] is v.f[k] for k in fields) else Rec(fields)
+    if isinstance(v, Con):
+        args = tuple(map(deep, v.a))
+        return v if all(x is y for x, y in zip(args, v.a)) else Con(v.n, args)
+    if isinstance(v, tuple):
+        parts = tuple(map(deep, v))
+        return v if all(x is y for x, y in zip(parts, v)) else parts
+    return v
