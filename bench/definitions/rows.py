@@ -1,4 +1,4 @@
-"""Runs worked rows by the definitions: `python3 rows.py [--moves FOLDER] CASES ROW..` from the project's root."""
+"""Runs worked rows by the definitions: `python3 rows.py [--moves FOLDER] [--machine] CASES ROW..` from the project's root."""
 import os
 import sys
 import threading
@@ -9,11 +9,27 @@ from rows_run import Runner
 from rows_text import Script
 
 
-def run_row(folder, row, moves):
+def by_the_machine(layout):
+    """The machine makes each move too, and the lists show it."""
+    import rows_machine
+    rows_machine.with_machine()
+    machine = rows_machine.Machine(layout)
+
+    def check(cluster, move, outs, acts):
+        problem = machine.move(move, outs, acts)
+        if problem is None:
+            found = machine.differs(cluster.state)
+            problem = '; '.join(found) if found else None
+        if problem:
+            raise AssertionError('move %d %r: %s' % (cluster.count, move, problem))
+    return check
+
+
+def run_row(folder, row, moves, checks):
     text = open(os.path.join(folder, 'row-%s.ecp' % row), encoding='latin1').read()
     wanted = open(os.path.join(folder, 'row-%s.out' % row), encoding='latin1').read()
     began = time.time()
-    runner = Runner(Script(text))
+    runner = Runner(Script(text), True, checks)
     runner.texts = text.split('\n')
     problem = None
     try:
@@ -40,8 +56,11 @@ def main():
     moves = None
     if args[0] == '--moves':
         moves, args = args[1], args[2:]
+    checks = []
+    if args[0] == '--machine':
+        checks, args = [by_the_machine], args[1:]
     rows_cluster.answered_in_python()
-    results = [run_row(args[0], row, moves) for row in args[1:]]
+    results = [run_row(args[0], row, moves, checks) for row in args[1:]]
     print('%d of %d as printed' % (sum(results), len(results)))
 
 

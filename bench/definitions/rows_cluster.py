@@ -185,7 +185,7 @@ class Cluster:
         self.state = deref(apply(word('start'), (layout,)))
         self.plain = word('start', 'plain_start')
         self.count = 0
-        self.log = []
+        self.log, self.checks = [], []
 
     def move(self, move):
         """Makes an allowed move: what it answers and puts, and its acts."""
@@ -203,6 +203,8 @@ class Cluster:
             self.asks(acts)
         self.state, self.count = new, self.count + 1
         self.log.append((move, outs, acts))
+        for check in self.checks:
+            check(self, move, outs, acts)
         return outs, acts
 
     def asks(self, acts):

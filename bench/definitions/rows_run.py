@@ -14,10 +14,11 @@ class Wire:
 
 
 class Runner:
-    def __init__(self, script, ask_plain=True):
+    def __init__(self, script, ask_plain=True, checks=()):
         self.s = script
         self.layout = Rec({'servers': len(script.servers), 'apps': len(script.apps), 'job_apps': tuple(script.job_apps), 'times': Rec(dict(script.times))})
         self.c = Cluster(self.layout, ask_plain)
+        self.c.checks = [check(self.layout) for check in checks]
         self.wires, self.parted, self.conns = [], set(), 0
         self.disk = [0] * len(script.servers)
         self.dead, self.down = set(), set()
@@ -259,8 +260,6 @@ class Runner:
             if self.flowing:
                 self.rounds()
             self.waitings()
-            if word == 'pump':
-                pass
         trail = ['trail', 'times %s' % ' '.join(str(v) for v in [*self.s.times.values(), *self.s.job_apps])]
         trail += [act_text(a) for a in self.c.state.f['trail']]
         return '\n'.join(self.out + trail) + '\n'
