@@ -1,4 +1,4 @@
-"""Runs worked rows by the definitions: `python3 rows.py [--moves FOLDER] [--machine] CASES ROW..` from the project's root."""
+"""Runs worked rows by the definitions: `python3 rows.py [--moves FOLDER] [--machine] [--reasons] CASES ROW..` from the project's root."""
 import os
 import sys
 import threading
@@ -59,9 +59,13 @@ def main():
     checks = []
     if args[0] == '--machine':
         checks, args = [by_the_machine], args[1:]
+    if args[0] == '--reasons':
+        checks, args = checks + [rows_cluster.by_the_reasons], args[1:]
     rows_cluster.answered_in_python()
     results = [run_row(args[0], row, moves, checks) for row in args[1:]]
     print('%d of %d as printed' % (sum(results), len(results)))
+    if antt.CHECK:
+        print('%d choices of which both sides hold' % len(antt.BOTH), *map(repr, antt.BOTH[:5]))
 
 
 if __name__ == '__main__':

@@ -15,6 +15,10 @@ WHERE = {
     'after': 'Rattle.plain_runs.specs.Step',
     'plain_start': 'Rattle.plain_runs.specs.Plain',
     'fold': 'Rattle.plain_orders.specs.Fold',
+    'work_of': 'Rattle.app_rules.specs.JobStep',
+    'refusal_of': 'Rattle.app_rules.specs.Refusing',
+    'why_of': 'Rattle.app_rules.specs.Waiting',
+    'WaitsFor': 'Rattle.app_rules.specs.Waiting',
 }
 
 
@@ -174,6 +178,23 @@ def around(key, whole):
     return made(first, last) if best else best
 
 
+def by_the_reasons(layout):
+    """A command that isn't refused waits with the first of its reasons that holds, and is over where none does."""
+    def check(cluster, move, outs, acts):
+        if move.n != 'Step':
+            return
+        job, now, line, command = move.a
+        c = cluster.before.f
+        a, j = c['apps'][layout.f['job_apps'][job]], c['jobs'][job]
+        work = deref(apply(word('work_of'), (a, j, now, line)))
+        if deref(apply(word('refusal_of'), (command, a, j, work.f['at']))).n == 'None':
+            why = deref(apply(word('why_of'), (command, now, work)))
+            if not solve(apply(word('WaitsFor'), (why, outs.f['answer'].a[0]))):
+                raise AssertionError('move %d %r waits for %r and answers %r' % (cluster.count, move, why, outs.f['answer']))
+            undo(0)
+    return check
+
+
 class Refused(Exception):
     pass
 
@@ -199,6 +220,7 @@ class Cluster:
             raise Refused('move %d %r makes nothing' % (self.count, move))
         outs, acts, new = deep(outs), deep(acts), deep(new)
         undo(0)
+        self.before = self.state
         if self.ask_plain:
             self.asks(acts)
         self.state, self.count = new, self.count + 1
