@@ -1,4 +1,4 @@
-"""Runs worked rows by the definitions: `python3 rows.py [--moves FOLDER] [--machine] [--reasons] CASES ROW..` from the project's root."""
+"""Runs worked rows by the definitions: `python3 rows.py [--moves FOLDER] [--machine] [--reasons] [--looks] CASES ROW..` from the project's root."""
 import os
 import sys
 import threading
@@ -61,9 +61,13 @@ def main():
         checks, args = [by_the_machine], args[1:]
     if args[0] == '--reasons':
         checks, args = checks + [rows_cluster.by_the_reasons], args[1:]
+    if args[0] == '--looks':
+        checks, args = checks + [rows_cluster.by_the_looks], args[1:]
     rows_cluster.answered_in_python()
     results = [run_row(args[0], row, moves, checks) for row in args[1:]]
     print('%d of %d as printed' % (sum(results), len(results)))
+    if rows_cluster.by_the_looks in checks:
+        print('%d of %d gets may be looks' % tuple(rows_cluster.LOOKS))
     if antt.CHECK:
         print('%d choices of which both sides hold' % len(antt.BOTH), *map(repr, antt.BOTH[:5]))
 

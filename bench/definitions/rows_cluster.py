@@ -195,6 +195,31 @@ def by_the_reasons(layout):
     return check
 
 
+LOOKS = [0, 0]
+
+
+def by_the_looks(layout):
+    """A get that may be answered from what is shown has the very answer and act that its job's step has."""
+    def check(cluster, move, outs, acts):
+        if move.n != 'Step' or move.a[3].n != 'Get':
+            return
+        job, now, line, command = move.a
+        look = Con('Looked', (job, line, command))
+        allowed = solve(apply(word('Allowed'), (cluster.before, look)))
+        undo(0)
+        LOOKS[1] += 1
+        if not allowed:
+            return
+        LOOKS[0] += 1
+        mine, written, new = Var('outs'), Var('acts'), Var('new')
+        if not solve(apply(word('CoresMade'), (cluster.before, look, mine, written, new))):
+            raise AssertionError('a look that may be made makes nothing')
+        if not (antt.eqv(mine.v.f['answer'], outs.f['answer']) and antt.eqv(written, acts)):
+            raise AssertionError('move %d: the look answers %r %r and the step %r %r' % (cluster.count, deep(mine).f['answer'], deep(written), outs.f['answer'], acts))
+        undo(0)
+    return check
+
+
 class Refused(Exception):
     pass
 

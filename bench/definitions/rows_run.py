@@ -14,7 +14,7 @@ class Wire:
 
 
 class Runner:
-    def __init__(self, script, ask_plain=True, checks=()):
+    def __init__(self, script, ask_plain=True, checks=(), disks=()):
         self.s = script
         self.layout = Rec({'servers': len(script.servers), 'apps': len(script.apps), 'job_apps': tuple(script.job_apps), 'times': Rec(dict(script.times))})
         self.c = Cluster(self.layout, ask_plain)
@@ -30,7 +30,7 @@ class Runner:
         self.printed = [None] * len(script.jobs)
         self.out, self.told = [], []
         for d in range(len(script.servers)):
-            self.begin(d, ())
+            self.begin(d, disks[d] if d < len(disks) else ())
 
     # moves
 
