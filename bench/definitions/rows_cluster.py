@@ -214,8 +214,16 @@ def by_the_looks(layout):
         mine, written, new = Var('outs'), Var('acts'), Var('new')
         if not solve(apply(word('CoresMade'), (cluster.before, look, mine, written, new))):
             raise AssertionError('a look that may be made makes nothing')
-        if not (antt.eqv(mine.v.f['answer'], outs.f['answer']) and antt.eqv(written, acts)):
-            raise AssertionError('move %d: the look answers %r %r and the step %r %r' % (cluster.count, deep(mine).f['answer'], deep(written), outs.f['answer'], acts))
+        mine, written = deep(mine), deep(written)
+        undo(0)
+        for act in written:
+            if not solve(apply(word('MayCome'), (layout, cluster.plain_before, act))):
+                raise AssertionError('move %d: the act of a look may not come: %r' % (cluster.count, act))
+            undo(0)
+        if outs.f['answer'].a[0].n == 'Waiting' and outs.f['answer'].a[0].a[0].n == 'State':
+            return          # a look may read while the connection isn't Normal
+        if not (antt.eqv(mine.f['answer'], outs.f['answer']) and antt.eqv(written, acts)):
+            raise AssertionError('move %d: the look answers %r %r and the step %r %r' % (cluster.count, mine.f['answer'], written, outs.f['answer'], acts))
         undo(0)
     return check
 
@@ -245,7 +253,7 @@ class Cluster:
             raise Refused('move %d %r makes nothing' % (self.count, move))
         outs, acts, new = deep(outs), deep(acts), deep(new)
         undo(0)
-        self.before = self.state
+        self.before, self.plain_before = self.state, self.plain
         if self.ask_plain:
             self.asks(acts)
         self.state, self.count = new, self.count + 1
