@@ -1,4 +1,4 @@
-"""Runs worked rows by the definitions: `python3 rows.py [--moves FOLDER] [--machine] [--reasons] [--looks] CASES ROW..` from the project's root."""
+"""Runs worked rows by the definitions: `python3 rows.py [--moves FOLDER] [--machine] [--reasons] [--looks] [--wire] CASES ROW..` from the project's root."""
 import os
 import sys
 import threading
@@ -34,6 +34,10 @@ def run_row(folder, row, moves, checks):
     problem = None
     try:
         got = runner.run()
+        for check in runner.c.checks:
+            if hasattr(check, 'at_end'):
+                check.at_end(runner.c)
+                print('%-6s the wire holds, %d questions' % (row, check.asked))
     except Exception as e:          # a move that isn't allowed or makes nothing is what is sought
         import traceback
         problem, got = '%s: %s' % (type(e).__name__, str(e)[:2000]), ''
@@ -63,6 +67,9 @@ def main():
         checks, args = checks + [rows_cluster.by_the_reasons], args[1:]
     if args[0] == '--looks':
         checks, args = checks + [rows_cluster.by_the_looks], args[1:]
+    if args[0] == '--wire':
+        import rows_wire
+        checks, args = checks + [rows_wire.WireCheck], args[1:]
     rows_cluster.answered_in_python()
     results = [run_row(args[0], row, moves, checks) for row in args[1:]]
     print('%d of %d as printed' % (sum(results), len(results)))
