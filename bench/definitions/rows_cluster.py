@@ -1,5 +1,4 @@
 """The cluster by its definitions: each move is asked of `Allowed`, and `CoresMade` makes the step; each act is asked of the plain machine."""
-import glob
 import os
 import re
 import antt
@@ -15,6 +14,8 @@ WHERE = {
     'after': 'Rattle.plain_runs.specs.Step',
     'plain_start': 'Rattle.plain_runs.specs.Plain',
     'fold': 'Rattle.plain_orders.specs.Fold',
+    'fold_step': 'Rattle.plain_orders.specs.Fold',
+    'nothing_folded': 'Rattle.plain_orders.specs.Fold',
     'work_of': 'Rattle.app_rules.specs.JobStep',
     'refusal_of': 'Rattle.app_rules.specs.Refusing',
     'why_of': 'Rattle.app_rules.specs.Waiting',
@@ -96,37 +97,64 @@ def plain_of(c):
     return state
 
 
-FOLDS = {}
+FOLDS = []
 
 
-def fold_once(entries):
-    """The definition's own fold, each list once: one entry more over what was folded."""
+def fold_on(entries):
+    """The definition's own fold: what was folded last, and the entries more by its own step."""
     entries = deref(entries)
-    key = tuple(map(id, entries))
-    if key not in FOLDS:
-        FOLDS[key] = (deref(apply(FOLD[0], (entries,))), entries)
-    return FOLDS[key][0]
+    step, nothing = word('fold_step'), word('nothing_folded')
+    for n, front, folded in reversed(FOLDS[-4:]):
+        if n <= len(entries) and all(a is b for a, b in zip(front, entries)):
+            break
+    else:
+        n, folded = 0, nothing
+    for e in entries[n:]:
+        folded = deep(apply(step, (folded, e)))
+    FOLDS.append((len(entries), entries, folded))
+    return folded
 
 
-FOLD = []
+def over_fronts(name, from_name, begin):
+    """A word that goes through the entries from the front: what it made of the last list, and the entries more by itself."""
+    made = {}
+
+    def of(entries, session):
+        entries, session = deref(entries), deref(session)
+        front, value = made.get(session, ((), begin))
+        n = len(front)
+        if n > len(entries) or not all(a is b for a, b in zip(front, entries)):
+            n, value = 0, begin
+        if n < len(entries):
+            value = deref(apply(resolve(module('Rattle.plain_orders.specs.Entries'), from_name), (value, entries[n:], session)))
+            made[session] = (entries, value)
+        return value
+    antt.over('Entries.' + name, 2, of)
+
+
 LEFT = antt.Con('Unit')
 
 
-def constants():
-    """The numbers that the crates' sources give names to."""
-    found = {}
-    for file in glob.glob(os.path.join(antt.ROOT, '*', 'src', '*.rt')):
-        for name, value in re.findall(r'\bconst ([A-Z_0-9]+): \w+ = ([^;]+);', open(file, encoding='utf8').read()):
-            try:
-                found[name] = int(eval(re.sub(r'_(?=\d)', '', value.replace(' as u64', '')).replace('pow', ''), {}, dict(found)))
-            except Exception:
-                pass
-    return found
+CONSTANTS = {}
+
+
+def constant(path, name):
+    """A number that a crate's source gives a name to, by the place that it is imported from."""
+    _, crate, _, _, *file, _ = path.split('.')
+    source = os.path.join(antt.ROOT, crate, 'src', *file) + '.rt'
+    if (source, name) not in CONSTANTS:
+        found = re.search(r'\bconst %s: \w+ = ([0-9_]+);' % name, open(source, encoding='utf8').read())
+        CONSTANTS[(source, name)] = int(found.group(1).replace('_', ''))
+    return CONSTANTS[(source, name)]
 
 
 def with_constants():
-    known, before = constants(), antt.resolve0
-    antt.resolve0 = lambda mod, name: known[name] if name in known and mod.imp.get(name, ('',))[0].endswith('TheConstants') else before(mod, name)
+    before = antt.resolve0
+
+    def resolve0(mod, name):
+        path, its = mod.imp.get(name, ('', ''))
+        return constant(path, its) if path.endswith('.TheConstants') else before(mod, name)
+    antt.resolve0 = resolve0
 
 
 def answered_in_python():
@@ -146,7 +174,9 @@ def answered_in_python():
     antt.over('CoresState.plain', 1, plain_of)
     antt.over('Windows.in_bytes', 2, lambda body, w: Rec({'acked': w.f['acked'], 'waiting': ((),) * len(w.f['waiting']), 'taken': w.f['taken']}))
     antt.HINT[('TakesFetch', 'run')] = whole_run
-    FOLD.append(word('fold'))
+    antt.over('Fold.fold', 1, fold_on)
+    over_fronts('count', 'count_from', 0)
+    over_fronts('live', 'live_from', False)
 
 
 def whole_run(env):
@@ -273,9 +303,22 @@ class Cluster:
         self.plain = plain
 
 
+DEEP = {}
+
+
 def deep(v):
-    """A value without unknowns that were bound."""
+    """A value without unknowns that were bound; what was made so once is so."""
     v = deref(v)
+    if not isinstance(v, (Rec, Con, tuple)) or v == ():
+        return v
+    if DEEP.get(id(v)) is v:
+        return v
+    made = deeper(v)
+    DEEP[id(made)] = made
+    return made
+
+
+def deeper(v):
     if isinstance(v, Rec):
         fields = {k: deep(x) for k, x in v.f.items()}
         return v if all(fields[k] is v.f[k] for k in fields) else Rec(fields)
