@@ -1,4 +1,4 @@
-"""Runs worked rows by the definitions: `python3 rows.py [--moves FOLDER] [--machine] [--reasons] [--looks] [--wire] CASES ROW..` from the project's root."""
+"""Runs worked rows by the definitions: `python3 rows.py [--moves FOLDER] [--machine] [--reasons] [--looks] [--account] [--wire] CASES ROW..` from the project's root."""
 import os
 import sys
 import threading
@@ -67,6 +67,8 @@ def main():
         checks, args = checks + [rows_cluster.by_the_reasons], args[1:]
     if args[0] == '--looks':
         checks, args = checks + [rows_cluster.by_the_looks], args[1:]
+    if args[0] == '--account':
+        checks, args = checks + [rows_cluster.by_the_account], args[1:]
     if args[0] == '--wire':
         import rows_wire
         checks, args = checks + [rows_wire.WireCheck], args[1:]
@@ -75,6 +77,8 @@ def main():
     print('%d of %d as printed' % (sum(results), len(results)))
     if rows_cluster.by_the_looks in checks:
         print('%d of %d gets may be looks' % tuple(rows_cluster.LOOKS))
+    if rows_cluster.by_the_account in checks:
+        print('%d states accounted for, %d of them quiet' % tuple(rows_cluster.ACCOUNTS))
     if antt.CHECK:
         print('%d choices of which both sides hold' % len(antt.BOTH), *map(repr, antt.BOTH[:5]))
 

@@ -258,6 +258,37 @@ def by_the_looks(layout):
     return check
 
 
+ACCOUNTS = [0, 0]
+
+
+def by_the_account(layout):
+    """All that is awaited has its cause at hand; where nothing is undelivered or unsaved, only what stays keeps a living end waiting."""
+    account, reached, awaited = 'Rattle.cluster_runs.specs.Accounted', 'Rattle.cluster_runs.specs.Reached', 'Rattle.cluster_runs.specs.Awaited'
+
+    def of(path, name, *args):
+        return deref(apply(resolve(module(path), name), args))
+
+    def check(cluster, move, outs, acts):
+        c = cluster.state
+        ACCOUNTS[0] += 1
+        if of(account, 'is_accounted', c) is not True:
+            raise AssertionError('move %d %r: not accounted' % (cluster.count, move))
+        if of(account, 'is_quiet', c):
+            ACCOUNTS[1] += 1
+            for app in range(layout.f['apps']):
+                for d in range(layout.f['servers']):
+                    if c.f['dead'][app]:
+                        continue
+                    e = of(reached, 'the_end', c, app, d)
+                    for x in of(awaited, 'awaited_at', e):
+                        if not of(account, 'may_stay', c, d, e, x) or not of(account, 'stays', c, d, e, x):
+                            raise AssertionError('move %d %r: quiet, and %r is awaited' % (cluster.count, move, x))
+                    recovers = of(account, 'is_recovering', c.f['nodes'][d])
+                    if not recovers and of(account, 'is_in_recovery', e.f['link']):
+                        raise AssertionError('move %d %r: quiet, and in recovery' % (cluster.count, move))
+    return check
+
+
 class Refused(Exception):
     pass
 

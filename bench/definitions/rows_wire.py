@@ -1,12 +1,13 @@
 """The wire's account of a row: at its end each clause of `WireHolds` is asked, place by place, with the courses that the moves themselves show."""
 import antt
-from antt import Con, Rec, Var, NONE, some, apply, deref, module, resolve, solve, undo, eqv
+from antt import Con, Prop, Rec, Var, NONE, some, apply, deref, module, resolve, solve, undo, eqv
 from rows_cluster import deep, word
 from rows_machine import Machine, with_machine
 from rows_terms import term
 
 SPECS = 'Rattle.cluster_runs.specs.'
 antt.TYPES |= {'Seen', 'Notes', 'Told', 'Heard'}
+antt.built('All', 2)(lambda f, xs: antt.Prop('py', lambda: all(solve(apply(f, (x,))) for x in xs)))
 
 
 def w(file, name, *args):
@@ -22,6 +23,13 @@ def lane_of(plain, server, app):
         return None
     session = deref(apply(s.f['session_at'], (pair.a[0],)))
     return (pair.a[0], deref(session.a[0].f['told'])) if session.n == 'Some' else None
+
+
+def is_front(xs, ys):
+    return Prop('py', lambda: len(deref(xs)) <= len(deref(ys)) and all(eqv(deep(a), deep(b)) for a, b in zip(deref(xs), deref(ys))))
+
+
+antt.over('Carried.IsFront', 2, is_front)
 
 
 class WireCheck:
@@ -197,6 +205,9 @@ class WireCheck:
         self.ask('causes of puts %d %d %d' % (d, session, k), w('WireDrops', 'PutsFrom', session, course, w('WireDrops', 'notes_after', began, before)))
         blocks = tuple(m for m in lane.f['down'] if m.n == 'Block')
         self.ask('blocks %d %d %d' % (d, session, k), w('WireDrops', 'BlocksAnswer', blocks, w('WireReads', 'fetched_in', w('Sent', 'ups_taken', lane))))
+        app = apply(resolve(module(SPECS + 'Carried'), 'app_in'), (order, session))
+        carriers = w('Carried', 'carriers', sent, app, d, session, k)
+        self.ask('carried %d %d %d' % (d, session, k), w('Carried', 'IsLane', order, session, lane, carriers))
         assert 64 * lane.f['down_bares'] <= lane.f['up_taken'] and 64 * lane.f['up_bares'] <= lane.f['down_taken']
 
     def locks_in(self, acts, lane):
@@ -211,6 +222,16 @@ class WireCheck:
 
     def of_app(self, app, d, sessions, places, plain, sent, trail):
         welcomes = deep(apply(sent.f['welcomes_at'], (app, d)))
+        came = w('Carried', 'hellos_in', sent, d, app, tuple(places))
+        connections = w('Carried', 'connections_of', sent, app, d)
+        frames = [f for c in connections for f in w('Carried', 'ups_came', c)]
+        assert came <= sum(1 for f in frames if w('Carried', 'is_hello', f)), 'Hellos'
+        for n, c in enumerate(connections, 1):
+            c = deref(c)
+            self.ask('connection %d %d %d' % (app, d, n), w('Carried', 'ItsIs', plain, d, c.a[0], deref(c.a[0]).f['its']))
+        downs = [x for c in connections for f in w('Carried', 'downs_came', c) for x in w('Carried', 'welcome_in', f)]
+        for x in welcomes:
+            assert sum(1 for y in welcomes if eqv(x, y)) <= sum(1 for y in downs if eqv(deep(x), deep(y))), 'Welcomes'
         p = w('WireAnswers', 'WelcomesServe', trail, app, d, welcomes)
         for session in sessions:
             self.field('welcomes', p, 'each', session)
