@@ -1,4 +1,4 @@
-"""Runs worked rows by the definitions: `python3 rows.py [--moves FOLDER] [--machine] [--reasons] [--looks] [--account] [--wire] CASES ROW..` from the project's root."""
+"""Runs worked rows by the definitions: `python3 rows.py [--moves FOLDER] [--machine] [--reasons] [--looks] [--account] [--wire] [--invariant] CASES ROW..` from the project's root."""
 import os
 import sys
 import threading
@@ -37,7 +37,7 @@ def run_row(folder, row, moves, checks):
         for check in runner.c.checks:
             if hasattr(check, 'at_end'):
                 check.at_end(runner.c)
-                print('%-6s the wire holds, %d questions' % (row, check.asked))
+                print('%-6s %d questions of %s' % (row, check.asked, type(check).__name__))
     except Exception as e:          # a move that isn't allowed or makes nothing is what is sought
         import traceback
         problem, got = '%s: %s' % (type(e).__name__, str(e)[:2000]), ''
@@ -72,6 +72,9 @@ def main():
     if args[0] == '--wire':
         import rows_wire
         checks, args = checks + [rows_wire.WireCheck], args[1:]
+    if args[0] == '--invariant':
+        import rows_invariant
+        checks, args = checks + [rows_invariant.InvariantCheck], args[1:]
     rows_cluster.answered_in_python()
     results = [run_row(args[0], row, moves, checks) for row in args[1:]]
     print('%d of %d as printed' % (sum(results), len(results)))
