@@ -1,4 +1,4 @@
-"""The first worked run and short scenes as lists of moves in terms of the definitions: `python3 rows_scenes.py FOLDER` from the project's root."""
+"""The first worked run and short scenes as lists of moves in terms of the definitions: `python3 rows_scenes.py [--checks] FOLDER` from the project's root."""
 import os
 import sys
 import threading
@@ -12,9 +12,11 @@ from rows_terms import changes, term
 
 class Scene(Runner):
     """Moves one by one, told in terms."""
+    checks = ()
+
     def __init__(self, text, keep=False):
         self.keep, self.terms, self.number = keep, [], 0
-        super().__init__(Script(text))
+        super().__init__(Script(text), True, self.checks)
         self.texts = text.split('\n')
         self.flowing = True
 
@@ -69,6 +71,9 @@ class Scene(Runner):
         self.app_move(app, 'Join %s' % self.s.servers[d], Con('Join', (d,)))
 
     def text(self, title, whole):
+        for check in self.c.checks:
+            if hasattr(check, 'at_end'):
+                check.at_end(self.c)
         out = ['# ' + title, '', self.layout_text(), '']
         if whole:
             out += ['## The first state, in full', '', full(self.first), '']
@@ -201,6 +206,11 @@ def first_run():
 
 
 def main():
+    if sys.argv[1] == '--checks':
+        import rows_invariant
+        import rows_wire
+        Scene.checks = (rows_invariant.InvariantCheck, rows_wire.WireCheck, rows_cluster.by_the_account, rows_cluster.by_the_reasons)
+        del sys.argv[1]
     rows_cluster.answered_in_python()
     scenes = {'first_run': first_run, 'scene_cached_before_drop': cached_before_drop, 'scene_cancel_crosses_grant': cancel_crosses_grant,
               'scene_recover_sends_again': recover_sends_again, 'scene_crash_with_round': crash_with_round}
