@@ -176,6 +176,7 @@ RoleIs x n conn (Closing session) = ClosingIs x n conn session
 
 -- The connections of a running node.
 pub record NodeDials (x : Site) (n : DataState) : Type 0 where
+  pub places : length n.dials ≡ APP_LIMIT
   pub dials : (app : ℕ) → app < APP_LIMIT → GreatestDial x.past (x.end_at app) (dial_of n app)
   pub differ : all_differ (map number_of n.conns) ≡ true
   pub roles : (conn : ℕ) → IfSome (role_of n conn) (RoleIs x n conn)
