@@ -1,0 +1,5 @@
+pub mod Small
+pub mod Deeds
+pub mod Steps
+pub mod Written
+pub mod OrderRows
