@@ -74,7 +74,7 @@ one_died l p d (Releases s) app = refl
 one_died l p d ComesBack app = refl
 one_died l p d (Grants s j m key at) app = refl
 one_died l p d (Frees s j m key) app = refl
-one_died l p d (Breaks app now) app = refl
+one_died l p d (Breaks broken now) app = refl
 
 -- What deeds make of the plain machine.
 pub wrote : (l : Layout) (p : Plain) (d : ℕ) (ds : List Deed) → AllByRecursion DeedIs ds → Wrote d ds p (after_all l p (map (act_of d) ds))
