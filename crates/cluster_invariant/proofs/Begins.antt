@@ -1,5 +1,6 @@
 -- What holds holds before any move.
-use Rattle.std.proofs.Common.{◌≡◌, ◌≤◌, ℕ, zero, suc, false, refl, arith, List, take, length}
+use Rattle.std.proofs.Common.{◌≡◌, ◌≤◌, ℕ, zero, suc, false, refl, sym, arith, List, [], None}
+use Rattle.std.proofs.lemmas.Bool.{le-ltb}
 use Rattle.plain_orders.specs.declared.entry.Entry.{Entry}
 use Rattle.plain_orders.specs.declared.layout.Layout.{Layout}
 use Rattle.plain_orders.specs.Entries.{count}
@@ -28,7 +29,7 @@ ends_begin = record { tables = λ app alive. tables; told = λ app alive. told a
 
 none_made : (number : ℕ) → false ≡ is_made 0 number
 none_made zero = refl
-none_made (suc n) = refl
+none_made (suc n) = sym (le-ltb n 0 (omega arith))
 
 dials_begin : DialsAre nothing_opened fresh_site (λ _. false)
 dials_begin = record { pairs = pairs; learnt = λ session k. tt; here = λ conn. refl; node = tt }

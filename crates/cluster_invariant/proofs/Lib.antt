@@ -6,3 +6,5 @@ pub mod Steps
 pub mod Written
 pub mod OrderRows
 pub mod OrderKept
+pub mod OrderMoves
+pub mod OrderBeside
