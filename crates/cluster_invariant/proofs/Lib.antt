@@ -8,3 +8,4 @@ pub mod OrderRows
 pub mod OrderKept
 pub mod OrderMoves
 pub mod OrderBeside
+pub mod AppActs
