@@ -1,5 +1,5 @@
 -- What a step of an application server's ends writes leaves all orders.
-use Rattle.std.proofs.Common.{◌≡◌, ◌⊎◌, inl, inr, ℕ, Bool, true, false, List, [], ◌∷◌, ◌++◌, length, refl, sym, ◌∙◌, ap, subst}
+use Rattle.std.proofs.Common.{◌≡◌, inl, inr, ℕ, Bool, true, false, List, [], ◌∷◌, ◌++◌, length, refl, sym, ◌∙◌, ap, subst}
 use Rattle.std.proofs.lemmas.List.{append-nil, append_assoc}
 use Rattle.std.specs.Prelude.{Result, Ok, Err, nat_le}
 use Rattle.std.specs.List.{AllByRecursion, range_with_len}
@@ -22,16 +22,14 @@ use Rattle.ecp_messages.specs.declared.front.Front.{Front}
 use Rattle.end_words.specs.Windows.{answers, owes_bare, resent}
 use Rattle.app_rules.specs.declared.app_in.AppIn.{AppIn}
 use Rattle.app_rules.specs.declared.app_in.AppIn.TheVariants as app_in
-use Rattle.app_rules.specs.declared.app_outs.AppOuts.{AppOuts}
 use Rattle.app_rules.specs.declared.line.Line.{Line}
 use Rattle.app_rules.specs.declared.line.Line.TheVariants.{Apart, Trying, Greeting, Asking, Joined}
-use Rattle.app_rules.specs.AppState.{AppState, Session}
-use Rattle.app_rules.specs.AppStep.{FrameStep, Makes, AppStep, made}
-use Rattle.app_rules.specs.Works.{Sofar, begun, becomes, writes, cuts, puts, puts_all, tells, tells_if, tries, tries_if, sets, happens, end_at, session_at, is_joined, is_apart, body_of, with_line, synced_up}
-use Rattle.app_rules.specs.Losing.{breaks, broken_from, broken, ends_it, expires, tries_when, ticks_trouble, ticks_from, ticks, joins_from, recovers, greets, connected_from, connected, with_dial, no_way, failed_from, failed}
+use Rattle.app_rules.specs.AppStep.{Makes}
+use Rattle.app_rules.specs.Works.{Sofar, becomes, writes, cuts, puts, puts_all, tells, tells_if, tries, tries_if, sets, happens, end_at, session_at, is_joined, is_apart, body_of, with_line, synced_up}
+use Rattle.app_rules.specs.Losing.{broken_from, broken, ends_it, expires, tries_when, ticks_trouble, ticks_from, ticks, joins_from, recovers, greets, connected_from, connected, with_dial, no_way, failed_from, failed}
 use Rattle.app_rules.specs.Welcoming.{sends_again, settles_unless, told_puts, in_epoch, TakesWelcome}
-use Rattle.app_rules.specs.Downs.{TakesReset, Delivers, took, TakesFresh, acknowledged, TakesNumbered, TakesHeaded, TakesAck, TakesBare, joined, TakesFrame, bares_if, bares_joined, settled}
-use Rattle.app_rules.specs.Delivering.{to_put_again, with_all_put, goes_normal}
+use Rattle.app_rules.specs.Downs.{Delivers, took, TakesNumbered, TakesHeaded, TakesAck, TakesBare, joined, TakesFrame, bares_if, bares_joined, settled}
+use Rattle.app_rules.specs.Delivering.{to_put_again, with_all_put}
 use Rattle.cluster_invariant.proofs.OrderBeside.{leaves_orders}
 
 -- what is written leaves all orders

@@ -1,9 +1,8 @@
 -- What holds holds before any move.
-use Rattle.std.proofs.Common.{◌≡◌, ◌≤◌, ℕ, zero, suc, false, refl, sym, arith, List, [], None}
+use Rattle.std.proofs.Common.{◌≡◌, ℕ, zero, suc, false, refl, sym, arith, List, [], None}
 use Rattle.std.proofs.lemmas.Bool.{le-ltb}
 use Rattle.plain_orders.specs.declared.entry.Entry.{Entry}
 use Rattle.plain_orders.specs.declared.layout.Layout.{Layout}
-use Rattle.plain_orders.specs.Entries.{count}
 use Rattle.plain_runs.specs.Plain.{nothing_opened}
 use Rattle.app_rules.specs.AppState.{no_end}
 use Rattle.cluster_runs.specs.Sent.{no_lane}
@@ -24,6 +23,7 @@ ends_begin = record { tables = λ app alive. tables; told = λ app alive. told a
   where
     tables : AppTables (record { session = None; broke = None }) no_end
     tables = record { session = refl; connected = refl; broke = refl; stands = refl; normal_due = tt }
+
     told : (app : ℕ) → AppTold nothing_opened app fresh_end
     told app = record { synced = omega arith; newest = tt; met = λ number. tt; place = tt }
 
@@ -42,6 +42,7 @@ link_begins = record { lanes = λ session k. counts; node = tt; apps = λ app al
   where
     counts : LaneCounts no_lane
     counts = record { up_taken = omega arith; down_taken = omega arith; no_up = λ none. refl; no_down = λ none. refl }
+
     way : (app : ℕ) → AppWay nothing_opened fresh_site app fresh_end
     way app = record { window = tt; begun = tt; down = tt }
 

@@ -1,7 +1,7 @@
 -- What a data server writes and enters in a step: each word of its rules, as a list of deeds.
-use Rattle.std.proofs.Common.{◌≡◌, ◌⊎◌, inl, inr, ℕ, ◌+◌, Bool, true, false, List, [], ◌∷◌, ◌++◌, map, length, take, filter, reverse, Option, Some, None, is_some, refl, sym, ◌∙◌, ap}
+use Rattle.std.proofs.Common.{◌≡◌, ℕ, ◌+◌, Bool, true, false, List, [], ◌∷◌, ◌++◌, map, length, filter, reverse, Option, Some, None, is_some, refl, sym, ◌∙◌, ap}
 use Rattle.std.proofs.lemmas.List.{append-nil, append_assoc, map-append}
-use Rattle.std.specs.List.{list_any, AllByRecursion}
+use Rattle.std.specs.List.{AllByRecursion}
 use Rattle.plain_orders.specs.declared.act.Act.{Act}
 use Rattle.plain_orders.specs.declared.act.Act.TheVariants as act
 use Rattle.plain_orders.specs.declared.causes.PairEnd.TheVariants as ends
@@ -9,15 +9,13 @@ use Rattle.plain_orders.specs.declared.causes.ShutCause.{ShutCause}
 use Rattle.plain_orders.specs.declared.causes.ShutCause.TheVariants.{Trouble, Replaced, Round}
 use Rattle.plain_orders.specs.declared.entry.Entry.{Entry}
 use Rattle.plain_orders.specs.declared.entry.Entry.TheVariants.{Epoch, Opened, Closed, Update, Commit, Rollback}
-use Rattle.plain_orders.specs.declared.layout.Times.{Times}
 use Rattle.plain_orders.specs.declared.mode.Mode.{Mode}
-use Rattle.plain_orders.specs.Entries.{live_session}
 use Rattle.plain_orders.specs.Sessions.{app_in}
 use Rattle.ecp_messages.specs.declared.down.Down.{Down}
 use Rattle.ecp_messages.specs.declared.down.Down.TheVariants.{Normal}
 use Rattle.link_states.specs.declared.link_event.LinkEvent.TheVariants.{RoundOver}
 use Rattle.lock_table.specs.declared.rows.Request.{Request}
-use Rattle.lock_table.specs.LockWords.{Locks, Freed, is_request_of, without_request}
+use Rattle.lock_table.specs.LockWords.{Freed, is_request_of, without_request}
 use Rattle.block_holders.specs.declared.noted.Noted.{Noted}
 use Rattle.block_holders.specs.HolderWords.{touched}
 use Rattle.data_rules.specs.declared.rows.Caller.{Caller}
@@ -28,14 +26,13 @@ use Rattle.data_rules.specs.declared.rows.Role.TheVariants.{New, Waiting, Bound,
 use Rattle.data_rules.specs.declared.rows.Says.{Says}
 use Rattle.data_rules.specs.declared.rows.Says.TheVariants.{NewWelcome, EpochWelcome, ResetOf, GrantOf, AnswerOf}
 use Rattle.end_words.specs.Windows.{sent, with_sent}
-use Rattle.data_rules.specs.DataState.{DataState}
-use Rattle.data_rules.specs.Puts.{Sofar, becomes, writes, frames, cuts, puts, tells, tells_on, replies, conn_of, head_of, window_of, with_window}
+use Rattle.data_rules.specs.Puts.{Sofar, becomes, writes, puts, tells_on, conn_of, head_of, window_of, with_window}
 use Rattle.data_rules.specs.Leaving.{leaves, all_leave, flushed, bare_to, bare_on, bared, must_wait, may_leave}
 use Rattle.data_rules.specs.Entering.{drops, drops_one, with_entry, spans_of, appends, enters}
-use Rattle.data_rules.specs.Granting.{grants_one, grants, with_locks, locks_become, frees}
+use Rattle.data_rules.specs.Granting.{grants_one, grants, with_locks, locks_become}
 use Rattle.data_rules.specs.Conns.{link_of, is_normal, with_event, role_of, without_conn, breaks_if, end_breaks, loses_conn, leaves_conn, ends_conn, drops_conn}
 use Rattle.data_rules.specs.Closing.{silenced, unawaited, cancels_one, cancels, cancels_all, waits_for_reset, turns_away, closes}
-use Rattle.data_rules.specs.Opening.{bound, opens, opens_all, breaks_unless, comes_back, come_back, live_ends, without_round, round_ends, is_round_over, round_ends_if, rounds}
+use Rattle.data_rules.specs.Opening.{opens, opens_all, breaks_unless, comes_back, come_back, live_ends, without_round, round_ends, is_round_over, round_ends_if, rounds}
 
 -- a deed of a data server: an act of its own
 pub data Deed : Type 0 where

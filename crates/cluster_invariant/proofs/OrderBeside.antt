@@ -1,5 +1,5 @@
 -- Moves of application servers leave the orders, if their acts do.
-use Rattle.std.proofs.Common.{◌≡◌, ℕ, Bool, true, false, List, [], ◌∷◌, ◌++◌, refl, sym, ◌∙◌, ap, subst, if◌then◌else◌, ◌==◌}
+use Rattle.std.proofs.Common.{◌≡◌, ℕ, Bool, true, false, List, [], ◌∷◌, ◌++◌, refl, sym, ◌∙◌, subst, if◌then◌else◌, ◌==◌}
 use Rattle.std.proofs.lemmas.Bool.{false≢true}
 use Rattle.std.specs.List.{AllByRecursion}
 use Rattle.plain_orders.specs.declared.act.Act.{Act}
@@ -11,7 +11,6 @@ use Rattle.plain_orders.specs.declared.causes.Loss.TheVariants.{Reset as ByReset
 use Rattle.plain_orders.specs.declared.causes.PairEnd.{PairEnd}
 use Rattle.plain_orders.specs.declared.causes.PairEnd.TheVariants.{App as AppSide, Server as ServerSide}
 use Rattle.plain_orders.specs.declared.layout.Layout.{Layout}
-use Rattle.plain_orders.specs.declared.entry.Entry.{Entry}
 use Rattle.plain_runs.specs.Plain.{Plain, Server, start}
 use Rattle.plain_runs.specs.EndRows.{broke, lost}
 use Rattle.plain_runs.specs.JobRows.{refused}
@@ -21,11 +20,16 @@ use Rattle.plain_runs.proofs.RunLemmas.{at_put, after_all-more, after_all-append
 use Rattle.cluster_runs.specs.declared.move_outs.MoveOuts.{MoveOuts}
 use Rattle.cluster_runs.specs.Machine.{Machine, with_acts}
 use Rattle.cluster_runs.specs.Connections.{app_leaves}
-use Rattle.cluster_runs.specs.Goes.{DieGoes, dies}
+use Rattle.cluster_runs.specs.Goes.{DieGoes, LookGoes, dies}
+use Rattle.app_job.specs.Sites.{Site as Target}
+use Rattle.plain_orders.specs.declared.question.Question.TheVariants.{Get as GetQuestion}
+use Rattle.plain_orders.specs.declared.via.Via.TheVariants.{Cached}
+use Rattle.plain_orders.specs.PairMap.{value_at}
+use Rattle.end_words.specs.Runs.{pairs_of}
 use Rattle.cluster_invariant.specs.Orders.{OrderIs}
 use Rattle.cluster_invariant.specs.Holds.{Holds}
 use Rattle.cluster_invariant.proofs.OrderKept.{order_kept_by_each, order_kept_beside}
-use Rattle.cluster_invariant.proofs.OrderMoves.{OrdersHold, orders_of}
+use Rattle.cluster_invariant.proofs.OrderMoves.{OrdersHold}
 
 -- the orders of a plain server are the same
 pub record SameOrders (s t : Server) : Type 0 where
@@ -144,3 +148,11 @@ orders_kept_by_acts l m acts h leaves d =
   where
     go : SameOrders ((state_after l m.trail).server_at d) ((after_all l (state_after l m.trail) acts).server_at d) → OrderIs l d ((after_all l (state_after l m.trail) acts).server_at d) (m.site_at d)
     go s = order_kept_beside l d ((state_after l m.trail).server_at d) ((after_all l (state_after l m.trail) acts).server_at d) (m.site_at d) s.opened s.past s.order s.synced (h.sites d).order
+
+-- A look keeps all orders.
+pub orders_kept_by_look : (l : Layout) (m : Machine) (app job line : ℕ) (at : Target) (outs : MoveOuts) (written : List Act) (new : Machine)
+    → Holds l m → LookGoes m app job line at outs written new → OrdersHold l (state_after l new.trail) new
+orders_kept_by_look l m app job line at outs written new h goes =
+    subst (λ (n : Machine). OrdersHold l (state_after l n.trail) n) (sym goes.after)
+    (subst (λ (w : List Act). (d : ℕ) → OrderIs l d ((state_after l (m.trail ++ w)).server_at d) (m.site_at d)) (sym goes.acts)
+    (orders_kept_by_acts l m (Read job line at.server goes.front.n Cached (GetQuestion at.key (value_at (pairs_of goes.run) at.key)) ∷ []) h (refl, tt)))

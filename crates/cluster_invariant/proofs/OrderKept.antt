@@ -1,6 +1,6 @@
 -- The data server's order stays the plain one.
-use Rattle.std.proofs.Common.{◌≡◌, ◌≢◌, ◌≤◌, ◌<◌, ℕ, zero, suc, ◌+◌, ◌==◌, Bool, true, false, max, List, [], ◌∷◌, ◌++◌, map, length, take, filter, Option, Some, None, refl, sym, ◌∙◌, ap, subst, arith, if◌then◌else◌, eqb, cond, option_map}
-use Rattle.std.proofs.lemmas.Bool.{eqb-true, ne_eqb, false≢true}
+use Rattle.std.proofs.Common.{◌≡◌, ◌≢◌, ◌≤◌, ℕ, zero, suc, ◌+◌, Bool, true, false, max, List, [], ◌∷◌, ◌++◌, length, take, Option, Some, None, refl, sym, ◌∙◌, ap, subst, arith, if◌then◌else◌, option_map}
+use Rattle.std.proofs.lemmas.Bool.{ne_eqb, false≢true}
 use Rattle.std.proofs.lemmas.List.{length-append}
 use Rattle.std.specs.Prelude.{IfSome}
 use Rattle.std.specs.List.{AllByRecursion}
@@ -21,9 +21,9 @@ use Rattle.data_rules.specs.Conns.{with_link}
 use Rattle.data_rules.specs.Step.{recovering, started, with_epoch}
 use Rattle.data_rules.specs.Opening.{live_ends}
 use Rattle.plain_orders.specs.Times.{until}
-use Rattle.cluster_runs.specs.Sent.{Lane, Connection, no_lane}
+use Rattle.cluster_runs.specs.Sent.{Connection, no_lane}
 use Rattle.cluster_runs.specs.Machine.{Site, DataConnection}
-use Rattle.cluster_runs.specs.Connections.{leaves_conn, leaves_conns, leaves_all, hears_downs, left, at_each}
+use Rattle.cluster_runs.specs.Connections.{leaves_conn, leaves_conns, hears_downs, left, at_each}
 use Rattle.cluster_runs.specs.Goes.{server_takes, server_site, with_node, past_with, begun_site, halted_site}
 use Rattle.cluster_invariant.specs.Orders.{disk_order, synced_first, NodeOrder, OrderIs}
 use Rattle.cluster_invariant.proofs.Small.{of_some, some_kept, if_not}
@@ -92,8 +92,8 @@ node_kept l d past p q old new o w = record {
   opened = w.opened ∙ o.opened;
   order = w.its ∙ ap (order_by w.deeds) o.order ∙ sym w.order;
   synced =
-    w.synced ∙ omega (arith, w.no_less, o.synced)
-    ∙ ap (λ (n : ℕ). max new.synced n) (sym (ap (synced_first past) w.order ∙ first_kept past w.deeds (p.server_at d).order w.may));
+      w.synced ∙ omega (arith, w.no_less, o.synced)
+      ∙ ap (λ (n : ℕ). max new.synced n) (sym (ap (synced_first past) w.order ∙ first_kept past w.deeds (p.server_at d).order w.may));
 }
 
 -- Each step of a data server keeps it.
@@ -112,6 +112,7 @@ order_kept_by_step l d p q x y old new h runs s w = go (of_some (NodeOrder l d x
       where
         n : NodeOrder l d x.past (q.server_at d) new
         n = node_kept l d x.past p q old new o w
+
         to_come : (session k : ℕ) → y.past + 1 ≤ k → y.lane_at session k ≡ no_lane
         to_come session k later =
             s.lanes session k (λ same. absurd (omega (arith, later, s.past, same)))

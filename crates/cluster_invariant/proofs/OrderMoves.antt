@@ -1,29 +1,27 @@
 -- The part on orders, for each move: the order of each data server is the plain one again.
-use Rattle.std.proofs.Common.{◌≡◌, ◌≢◌, ◌≤◌, ℕ, Bool, true, false, List, [], ◌∷◌, ◌++◌, length, take, Option, Some, None, refl, sym, ◌∙◌, ap, subst, arith, max, if◌then◌else◌}
-use Rattle.std.proofs.lemmas.Bool.{false≢true}
+use Rattle.std.proofs.Common.{◌≡◌, ◌≢◌, ◌≤◌, ℕ, Bool, true, false, List, [], ◌∷◌, ◌++◌, length, take, Option, Some, None, refl, sym, ◌∙◌, ap, subst, arith, if◌then◌else◌}
 use Rattle.plain_orders.specs.declared.act.Act.{Act}
 use Rattle.plain_orders.specs.declared.act.Act.TheVariants as act
 use Rattle.plain_orders.specs.declared.entry.Entry.{Entry}
 use Rattle.plain_orders.specs.declared.layout.Layout.{Layout}
-use Rattle.plain_runs.specs.Plain.{Plain, Server, start, put}
+use Rattle.plain_runs.specs.Plain.{Plain, Server, start}
 use Rattle.plain_runs.specs.OrderRows.{opened_with, crashed}
 use Rattle.plain_runs.specs.Step.{after}
 use Rattle.plain_runs.specs.Run.{IsRun, after_all, state_after}
 use Rattle.plain_runs.proofs.RunLemmas.{after_all-append}
 use Rattle.plain_runs.proofs.OrderLaws.{orders_kept}
 use Rattle.data_rules.specs.declared.data_in.DataIn.{DataIn}
-use Rattle.data_rules.specs.declared.data_outs.DataOuts.{DataOuts}
 use Rattle.data_rules.specs.DataState.{DataState}
 use Rattle.data_rules.specs.Step.{DataMay}
 use Rattle.cluster_runs.specs.declared.move_outs.MoveOuts.{MoveOuts}
 use Rattle.cluster_runs.specs.declared.moves.Move.TheVariants.{Server as ServerMove, Begin}
-use Rattle.cluster_runs.specs.CoresState.{CoresState, plain_server, order_at}
+use Rattle.cluster_runs.specs.CoresState.{CoresState, plain_server}
 use Rattle.cluster_runs.specs.Moves.{Allowed, NodeMay, EntriesMay}
 use Rattle.cluster_runs.specs.Steps.{raised, begin_act}
 use Rattle.cluster_runs.specs.Mirrors.{Mirrors}
 use Rattle.cluster_runs.specs.Machine.{Machine, Site, with_acts}
-use Rattle.cluster_runs.specs.Goes.{at_site, server_site, begun_site, halted_site, ServerGoes, BeginGoes, HaltGoes, DieGoes}
-use Rattle.cluster_invariant.specs.Orders.{disk_order, NodeOrder, OrderIs}
+use Rattle.cluster_runs.specs.Goes.{at_site, server_site, begun_site, halted_site, ServerGoes, BeginGoes, HaltGoes}
+use Rattle.cluster_invariant.specs.Orders.{NodeOrder, OrderIs}
 use Rattle.cluster_invariant.specs.Holds.{Holds}
 use Rattle.cluster_invariant.proofs.Small.{of_some, put_same, put_other}
 use Rattle.cluster_invariant.proofs.Frame.{others_left}
@@ -62,6 +60,7 @@ server_wrote l c m server now input outs written new h shows allowed goes =
         → StepWrote d goes.node goes.state (state_after l m.trail) (after_all l (state_after l m.trail) (raised ((state_after l m.trail).server_at d).synced goes.data_outs.acts))
         → StepWrote server goes.node goes.state (state_after l m.trail) (after_all l (state_after l m.trail) (raised ((state_after l m.trail).server_at server).synced goes.data_outs.acts))
     its d same low w = subst (λ k. StepWrote k goes.node goes.state (state_after l m.trail) (after_all l (state_after l m.trail) (raised ((state_after l m.trail).server_at k).synced goes.data_outs.acts))) same w
+
     go : NodeOrder l server (m.site_at server).past ((state_after l m.trail).server_at server) goes.node
         → StepWrote server goes.node goes.state (state_after l m.trail) (after_all l (state_after l m.trail) written)
     go o =
@@ -106,6 +105,7 @@ orders_kept_by_begin l c m server now es outs written new h run shows allowed go
   where
     here : (h.sites server).order ≡ (h.sites server).order
     here = refl
+
     go : (b : Bool) → ((state_after l m.trail).server_at server).opened ≡ b
         → OrdersHold l (state_after l (m.trail ++ begin_act (m.site_at server).order server es ∷ [])) (with_acts (begin_act (m.site_at server).order server es ∷ []) (at_site server (begun_site l server now es) m))
     go b opened =

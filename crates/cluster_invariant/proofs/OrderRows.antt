@@ -1,13 +1,12 @@
 -- Each data server's order is the plain machine's after each step and each start of it.
-use Rattle.std.proofs.Common.{◌≡◌, ◌≢◌, ◌≤◌, ◌<◌, ℕ, zero, suc, ◌+◌, ◌==◌, Bool, true, false, max, List, [], ◌∷◌, ◌++◌, map, length, take, filter, Option, Some, None, refl, sym, ◌∙◌, ap, subst, arith, if◌then◌else◌, eqb, cond}
-use Rattle.std.proofs.lemmas.Bool.{eqb-true, ne_eqb, cases_lt, ltb-true, ltb-false}
-use Rattle.std.specs.Prelude.{IfSome, nat_lt}
+use Rattle.std.proofs.Common.{◌≡◌, ◌≢◌, ◌≤◌, ◌<◌, ℕ, Bool, true, false, max, List, ◌∷◌, map, refl, sym, ◌∙◌, ap, subst, arith, cond}
+use Rattle.std.proofs.lemmas.Bool.{ltb-true, ltb-false}
+use Rattle.std.specs.Prelude.{nat_lt}
 use Rattle.std.specs.List.{AllByRecursion}
 use Rattle.plain_orders.specs.declared.act.Act.{Act}
 use Rattle.plain_orders.specs.declared.act.Act.TheVariants as act
-use Rattle.plain_orders.specs.declared.entry.Entry.{Entry}
 use Rattle.plain_orders.specs.declared.layout.Layout.{Layout}
-use Rattle.plain_runs.specs.Plain.{Plain, Server, put, current, with_server}
+use Rattle.plain_runs.specs.Plain.{Plain, Server}
 use Rattle.plain_runs.specs.OrderRows.{saved}
 use Rattle.plain_runs.specs.Step.{after}
 use Rattle.plain_runs.specs.Run.{after_all}
@@ -15,20 +14,14 @@ use Rattle.data_rules.specs.declared.data_in.DataIn.{DataIn}
 use Rattle.data_rules.specs.declared.data_in.DataIn.TheVariants as data_in
 use Rattle.data_rules.specs.declared.data_outs.DataOuts.{DataOuts}
 use Rattle.data_rules.specs.DataState.{DataState}
-use Rattle.data_rules.specs.Places.{epoch_place}
 use Rattle.data_rules.specs.Puts.{Sofar, begun, becomes}
 use Rattle.data_rules.specs.Step.{made, DataStep, DataMay}
 use Rattle.data_rules.specs.Saving.{writes_synced}
-use Rattle.cluster_runs.specs.Sent.{Lane, no_lane}
 use Rattle.cluster_runs.specs.Steps.{raised}
-use Rattle.cluster_runs.specs.Machine.{Site}
-use Rattle.cluster_runs.specs.Connections.{leaves_conn, leaves_conns}
-use Rattle.cluster_runs.specs.Goes.{server_takes, server_site, past_with}
-use Rattle.cluster_invariant.specs.Orders.{disk_order, synced_first, NodeOrder, OrderIs}
-use Rattle.cluster_invariant.proofs.Small.{put_same, put_other, of_some}
+use Rattle.cluster_invariant.proofs.Small.{put_same, put_other}
 use Rattle.cluster_invariant.proofs.Deeds.{Deed, Does, act_of, DeedIs, order_by}
-use Rattle.cluster_invariant.proofs.Steps.{DoesInput, does_input, synced_to}
-use Rattle.cluster_invariant.proofs.Written.{GoesOn, Wrote, wrote, all_raised, place_kept}
+use Rattle.cluster_invariant.proofs.Steps.{does_input}
+use Rattle.cluster_invariant.proofs.Written.{Wrote, wrote, all_raised}
 
 -- What a step of a data server makes of the plain machine: the order goes on by its deeds, behind the act of its save.
 pub record StepWrote (d : ℕ) (old new : DataState) (p q : Plain) : Type 0 where

@@ -1,6 +1,6 @@
 -- What each step of a data server writes and enters: deeds, behind the act of a save.
-use Rattle.std.proofs.Common.{◌≡◌, ◌≤◌, ◌⊎◌, inl, inr, ℕ, ◌+◌, Bool, true, false, List, [], ◌∷◌, ◌++◌, map, length, take, drop, Option, Some, None, is_some, refl, sym, ◌∙◌, ap, subst}
-use Rattle.std.specs.Prelude.{ℤ, Result, Ok, Err, nat_lt}
+use Rattle.std.proofs.Common.{◌≡◌, inl, inr, ℕ, Bool, true, false, List, [], ◌∷◌, length, Option, Some, None, is_some, refl, sym, subst}
+use Rattle.std.specs.Prelude.{Result, Ok, Err, nat_lt}
 use Rattle.plain_orders.specs.declared.act.Act.TheVariants as act
 use Rattle.plain_orders.specs.declared.causes.ShutCause.{ShutCause}
 use Rattle.plain_orders.specs.declared.causes.ShutCause.TheVariants as shuts
@@ -25,11 +25,10 @@ use Rattle.ecp_messages.specs.declared.up.Up.TheVariants.{Hello, Recover, Update
 use Rattle.ecp_messages.specs.declared.up.UpFrame.{UpFrame}
 use Rattle.end_words.specs.Windows.{answers, resent}
 use Rattle.link_states.specs.Tables.{data_next}
-use Rattle.link_states.specs.declared.link_event.LinkEvent.TheVariants.{Ticked, Replaced}
+use Rattle.link_states.specs.declared.link_event.LinkEvent.TheVariants.{Ticked}
 use Rattle.lock_table.specs.declared.rows.Request.{Request}
 use Rattle.lock_table.specs.declared.rows.Who.{Who}
-use Rattle.lock_table.specs.LockWords.{without_session, without_request, without_grant, without_ticket, freed, asked, holds_it, granted_with, waiting_with}
-use Rattle.data_rules.specs.DataState.{DataState}
+use Rattle.lock_table.specs.LockWords.{without_session, without_request, without_grant, freed, asked, holds_it, granted_with, waiting_with}
 use Rattle.data_rules.specs.declared.data_in.DataIn.{DataIn}
 use Rattle.data_rules.specs.declared.data_in.DataIn.TheVariants as data_in
 use Rattle.data_rules.specs.declared.rows.LiveEnd.{LiveEnd}
@@ -37,20 +36,19 @@ use Rattle.data_rules.specs.declared.rows.Role.{Role}
 use Rattle.data_rules.specs.declared.rows.Role.TheVariants.{New, Waiting, Bound, Closing}
 use Rattle.data_rules.specs.declared.rows.Kind.{Kind}
 use Rattle.data_rules.specs.declared.rows.Kind.TheVariants.{Opening, Numbered, Unnumbered}
-use Rattle.data_rules.specs.Puts.{Sofar, becomes, writes, puts, tells, conn_of, window_of, body_of, with_window, head_of}
+use Rattle.data_rules.specs.Puts.{Sofar, becomes, writes, puts, tells, conn_of, window_of, body_of, head_of}
 use Rattle.data_rules.specs.Leaving.{flushed}
-use Rattle.data_rules.specs.Entering.{enters}
-use Rattle.data_rules.specs.Granting.{with_locks, locks_become, frees}
+use Rattle.data_rules.specs.Granting.{frees}
 use Rattle.data_rules.specs.Conns.{link_of, with_event, role_of, with_conn, ends_conn, drops_conn}
 use Rattle.data_rules.specs.Closing.{closes}
-use Rattle.data_rules.specs.Opening.{opens, live_ends, rounds}
-use Rattle.data_rules.specs.Owing.{owes, owes_sum, owes_op, owes_entry, owes_entry_if, owes_place, owes_item}
+use Rattle.data_rules.specs.Opening.{live_ends, rounds}
+use Rattle.data_rules.specs.Owing.{owes_sum, owes_op, owes_entry, owes_entry_if, owes_place, owes_item}
 use Rattle.data_rules.specs.Places.{item_place}
-use Rattle.data_rules.specs.Messages.{enters_if, takes_item, is_new, TakesItem, TakesOwed, TakesCommit, TakesFetch, TakesAsk, TakesUnlock, TakesCancel, TakesSync, TakesClaim, TakesDone, Takes, unlocks, gives_back, cancels_granted, cancels_ticket, is_awaited, who}
-use Rattle.data_rules.specs.Callers.{with_dial, replaces, with_caller, waiting_conn, is_let_in, calls, TakesHello, sends_again, old_welcome, goes_on, resumed, resumes, TakesResume, comes_again, TakesReturn, TakesGone, TakesRecover}
-use Rattle.data_rules.specs.Frames.{Ends, Passes, EndsOldHello, EndsNoRecover, TakesFirst, kind_of, acknowledged, took, TakesFresh, EndsStray, TakesNumbered, TakesBare, TakesBound, TakesClosing, TakesFrame, bares_role, settled}
+use Rattle.data_rules.specs.Messages.{enters_if, takes_item, is_new, TakesItem, TakesOwed, TakesCommit, TakesFetch, Takes, unlocks, gives_back, cancels_granted, cancels_ticket, is_awaited, who}
+use Rattle.data_rules.specs.Callers.{with_dial, replaces, waiting_conn, is_let_in, calls, sends_again, old_welcome, goes_on, resumes, comes_again, TakesRecover}
+use Rattle.data_rules.specs.Frames.{Ends, Passes, TakesFirst, kind_of, acknowledged, took, TakesNumbered, TakesBare, TakesBound, TakesClosing, TakesFrame, bares_role, settled}
 use Rattle.data_rules.specs.Saving.{releases, releases_all, acks_one, acks, writes_synced, saves, closed_in, savers, part_saved, cause_of, is_free, hears_tick, closes_late, ticks_end, ticks_one, ticks, ticks_all}
-use Rattle.data_rules.specs.Step.{FrameStep, Makes, saved}
+use Rattle.data_rules.specs.Step.{FrameStep, Makes}
 use Rattle.cluster_invariant.proofs.Deeds.{Still, Does, Releases, Frees, IsEntered, still_same, still_then, does_still, does_then, still_does, does_then_still, does_one, still_puts, still_flushed, still_bared, does_enters, does_locks, still_drops_conn, does_leaves, does_ends, does_closes, does_opens, does_rounds}
 
 -- messages

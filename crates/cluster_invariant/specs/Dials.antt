@@ -1,5 +1,5 @@
 -- The connections of each pair: what was put first on them, in which order, and which of them both ends still have.
-use Rattle.std.specs.Prelude.{◌≡◌, ◌≢◌, ◌<◌, ◌≤◌, ⊤, ℕ, zero, suc, Bool, true, false, ◌==◌, ◌&&◌, not, [], ◌∷◌, map, drop, length, nat_lt, nat_le, Option, Some, None, is_some, IfSome, IsSomeAnd}
+use Rattle.std.specs.Prelude.{◌≡◌, ◌≢◌, ◌<◌, ◌≤◌, ⊤, ℕ, zero, suc, Bool, true, false, ◌==◌, not, [], ◌∷◌, map, drop, length, nat_lt, Option, Some, None, is_some, IfSome, IsSomeAnd}
 use Rattle.std.specs.List.{list_any, list_all}
 use Rattle.data_rules.specs.declared.limits.TheConstants.{APP_LIMIT}
 use Rattle.plain_orders.specs.Entries.{live, closes, last_epoch}
