@@ -1,5 +1,5 @@
 -- The data server's order stays the plain one.
-use Rattle.std.proofs.Common.{◌≡◌, ◌≢◌, ◌≤◌, ℕ, zero, suc, ◌+◌, Bool, true, false, max, List, [], ◌∷◌, ◌++◌, length, take, Option, Some, None, refl, sym, ◌∙◌, ap, subst, arith, if◌then◌else◌, option_map}
+use Rattle.std.proofs.Common.{◌≡◌, ◌≢◌, ◌≤◌, ℕ, zero, suc, ◌+◌, Bool, true, false, max, List, [], ◌∷◌, ◌++◌, length, take, Option, Some, None, refl, sym, ◌∙◌, ap, subst, arith, if◌then◌else◌, option_map, ◌&&◌, ◌==◌, ◌<◌}
 use Rattle.std.proofs.lemmas.Bool.{ne_eqb, false≢true}
 use Rattle.std.proofs.lemmas.List.{length-append}
 use Rattle.std.specs.Prelude.{IfSome}
@@ -21,10 +21,10 @@ use Rattle.data_rules.specs.Conns.{with_link}
 use Rattle.data_rules.specs.Step.{recovering, started, with_epoch}
 use Rattle.data_rules.specs.Opening.{live_ends}
 use Rattle.plain_orders.specs.Times.{until}
-use Rattle.cluster_runs.specs.Sent.{Connection, no_lane}
-use Rattle.cluster_runs.specs.Machine.{Site, DataConnection}
+use Rattle.cluster_runs.specs.Sent.{Connection, no_lane, Place, Lane}
+use Rattle.cluster_runs.specs.Machine.{Site, DataConnection, End}
 use Rattle.cluster_runs.specs.Connections.{leaves_conn, leaves_conns, hears_downs, left, at_each}
-use Rattle.cluster_runs.specs.Goes.{server_takes, server_site, with_node, past_with, begun_site, halted_site}
+use Rattle.cluster_runs.specs.Goes.{server_takes, server_site, with_node, past_with, begun_site, halted_site, at_told}
 use Rattle.cluster_invariant.specs.Orders.{disk_order, synced_first, NodeOrder, OrderIs}
 use Rattle.cluster_invariant.proofs.Small.{of_some, some_kept, if_not}
 use Rattle.cluster_invariant.proofs.Deeds.{Deed, DeedIs, order_by}
@@ -219,3 +219,23 @@ order_kept_beside l d v w x opened past order synced h = record {
       order = o.order ∙ sym order;
       synced = synced ∙ o.synced ∙ ap (λ (es : List Entry). max n.synced (synced_first x.past es)) (sym order);
     }
+
+and_no : (a b : Bool) → b ≡ false → (a && b) ≡ false
+and_no true b is_false = is_false
+and_no false b is_false = refl
+
+-- A step of an application server keeps it, if the lane that it changes is of an order that was there.
+pub order_kept_by_ends : (l : Layout) (d : ℕ) (v : Server) (told : Option Place) (grows : Lane → Lane) (ends : ℕ → End) (x : Site) → OrderIs l d v x
+    → IfSome told (λ p. p.order < past_with x.order x.past) → OrderIs l d v (at_told told grows (record x { end_at = ends }))
+order_kept_by_ends l d v None grows ends x h there = record { past = h.past; disk = h.disk; node = h.node; no_conns = h.no_conns; to_come = h.to_come }
+order_kept_by_ends l d v (Some p) grows ends x h there = record {
+  past = h.past;
+  disk = h.disk;
+  node = h.node;
+  no_conns = h.no_conns;
+  to_come =
+      λ session k later.
+      if_not (session == p.session && k == p.order) (grows (x.lane_at session k)) (x.lane_at session k)
+      (and_no (session == p.session) (k == p.order) (ne_eqb k p.order (λ same. absurd (omega (arith, same, later, there)))))
+      ∙ h.to_come session k later;
+}
