@@ -1,0 +1,11 @@
+pub mod Small
+pub mod Begins
+pub mod Frame
+pub mod Deeds
+pub mod Steps
+pub mod Written
+pub mod OrderRows
+pub mod OrderKept
+pub mod OrderMoves
+pub mod OrderBeside
+pub mod AppActs

@@ -1,5 +1,5 @@
 -- The connections of each pair: what was put first on them, in which order, and which of them both ends still have.
-use Rattle.std.specs.Prelude.{◌≡◌, ◌≢◌, ◌<◌, ◌≤◌, ⊤, ℕ, Bool, true, false, ◌==◌, ◌&&◌, not, [], ◌∷◌, map, drop, length, nat_lt, nat_le, Option, Some, None, is_some, IfSome, IsSomeAnd}
+use Rattle.std.specs.Prelude.{◌≡◌, ◌≢◌, ◌<◌, ◌≤◌, ⊤, ℕ, zero, suc, Bool, true, false, ◌==◌, not, [], ◌∷◌, map, drop, length, nat_lt, Option, Some, None, is_some, IfSome, IsSomeAnd}
 use Rattle.std.specs.List.{list_any, list_all}
 use Rattle.data_rules.specs.declared.limits.TheConstants.{APP_LIMIT}
 use Rattle.plain_orders.specs.Entries.{live, closes, last_epoch}
@@ -85,9 +85,10 @@ pub record ConnectionIs (v : Server) (x : Site) (app number : ℕ) (c : Connecti
   -- what was known is of an order that was there
   pub known : IfSome c.knew.mark (λ m. m.order ≤ current v)
 
--- a connection of this number was made
+-- a connection of this number was made, the first being 1
 abbrev pub is_made : ℕ → ℕ → Bool
-is_made dial number = nat_lt 0 number && nat_le number dial
+is_made dial zero = false
+is_made dial (suc number) = nat_lt number dial
 
 -- what an end knows is what it knew as it made the connection that it has, while no Welcome came on it
 abbrev pub KnowsStill : Line → Knew → Option Connection → Type 0
@@ -176,6 +177,7 @@ RoleIs x n conn (Closing session) = ClosingIs x n conn session
 
 -- The connections of a running node.
 pub record NodeDials (x : Site) (n : DataState) : Type 0 where
+  pub places : length n.dials ≡ APP_LIMIT
   pub dials : (app : ℕ) → app < APP_LIMIT → GreatestDial x.past (x.end_at app) (dial_of n app)
   pub differ : all_differ (map number_of n.conns) ≡ true
   pub roles : (conn : ℕ) → IfSome (role_of n conn) (RoleIs x n conn)

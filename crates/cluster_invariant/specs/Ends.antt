@@ -1,5 +1,5 @@
 -- The two ends of each pair against the plain state.
-use Rattle.std.specs.Prelude.{◌≡◌, ◌<◌, ◌≤◌, ⊤, ℕ, Bool, true, false, ◌==◌, not, [], map, drop, Option, Some, None, is_some, IfSome, IsSomeAnd}
+use Rattle.std.specs.Prelude.{◌≡◌, ◌<◌, ◌≤◌, ⊤, ℕ, Bool, true, false, ◌==◌, not, [], length, map, drop, Option, Some, None, is_some, IfSome, IsSomeAnd}
 use Rattle.std.specs.List.{filter, list_any, AllByRecursion}
 use Rattle.std.specs.Option.{option_map}
 use Rattle.data_rules.specs.declared.limits.TheConstants.{APP_LIMIT}
@@ -195,6 +195,7 @@ pub record CallersAre (n : DataState) (x : Site) : Type 0 where
 
 -- the data end of a running node
 pub record NodeEnds (v : Server) (x : Site) (n : DataState) : Type 0 where
+  pub places : length n.links ≡ APP_LIMIT
   pub links : (app : ℕ) → app < APP_LIMIT → LinkIs v n app (link_of n app)
   pub round : RoundIs v n (λ session. x.lane_at session x.past)
   pub callers : CallersAre n x

@@ -30,6 +30,7 @@ use Rattle.cluster_runs.specs.CoresState.{Linked}
 use Rattle.cluster_runs.specs.Sent.{Lane, Place, Connection, Mark}
 use Rattle.cluster_runs.specs.Machine.{Site, End}
 use Rattle.cluster_runs.specs.Connections.{link_of}
+use Rattle.cluster_invariant.specs.Coherence.{IsHeader}
 use Rattle.cluster_invariant.specs.Words.{IsFront, ups_left, downs_left, numbered_ups, numbered_downs, numbered_behind, is_wire, is_number, all_differ, stays_at}
 
 -- the two windows of a session in an order
@@ -185,9 +186,8 @@ pub record SaysEpoch (v : Server) (session k j epoch kept : ℕ) (front : Front)
   pub place : place_of_epoch (last_epoch (order_at v k)) 0 (order_at v j) ≡ Some kept
   pub kept_more : stays_at v k ≤ kept
   pub kept_less : kept + 1 ≤ front.n
-  pub within : front.n ≤ length (order_at v j)
+  pub header : IsHeader (order_at v j) (stays_at v j) session front
   pub counted : front.w ≡ count (order_at v j) session
-  pub synced : front.s ≤ count (take (stays_at v j) (order_at v j)) session
 
 -- A Welcome of a new epoch.
 pub record EpochWelcomeOn (v : Server) (x : Site) (s : Session) (k : ℕ) (c : Connection) (session epoch kept : ℕ) (front : Front) (taken : ℕ) (behind : List DownFrame) : Type 0 where

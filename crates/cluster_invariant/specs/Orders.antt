@@ -1,5 +1,5 @@
 -- A data server's order, as its node, its disk and the plain machine have it.
-use Rattle.std.specs.Prelude.{◌≡◌, ◌<◌, ◌≤◌, ℕ, zero, suc, ◌+◌, true, max, List, length, take, Option, Some, None, IfSome, if◌then◌else◌}
+use Rattle.std.specs.Prelude.{◌≡◌, ◌<◌, ◌≤◌, ℕ, zero, suc, false, ◌+◌, true, max, List, length, take, Option, Some, None, IfSome, if◌then◌else◌}
 use Rattle.plain_orders.specs.declared.entry.Entry.{Entry}
 use Rattle.plain_orders.specs.declared.entry.Entry.TheVariants.{Epoch}
 use Rattle.plain_orders.specs.declared.layout.Layout.{Layout}
@@ -10,6 +10,7 @@ use Rattle.data_rules.specs.DataState.{DataState}
 use Rattle.data_rules.specs.Places.{epoch_place}
 use Rattle.cluster_runs.specs.Sent.{no_lane}
 use Rattle.cluster_runs.specs.Machine.{Site}
+use Rattle.cluster_runs.specs.Goes.{past_with}
 use Rattle.cluster_invariant.specs.Words.{stays_at}
 
 -- the order that a disk has
@@ -39,8 +40,10 @@ pub record OrderIs (l : Layout) (d : ℕ) (v : Server) (x : Site) : Type 0 where
   pub disk : x.order ≡ disk_order v
   -- a node that runs has it
   pub node : IfSome x.node (NodeOrder l d x.past v)
+  -- one that never started accepted no connection
+  pub no_conns : v.opened ≡ false → (conn : ℕ) → x.connection_at conn ≡ None
   -- nothing was put or taken in an order to come
-  pub to_come : (session k : ℕ) → x.past < k → x.lane_at session k ≡ no_lane
+  pub to_come : (session k : ℕ) → past_with x.order x.past ≤ k → x.lane_at session k ≡ no_lane
 
 -- what an order and the one before it have alike
 pub record KeptAlike (v : Server) (k : ℕ) : Type 0 where
