@@ -4,10 +4,10 @@ use Rattle.std.specs.Prelude.{is_some, IsSomeAnd}
 use Rattle.std.specs.List.{list_any}
 use Rattle.std.specs.Option.{option_map}
 use Rattle.std.proofs.lemmas.Bool.{and_cases, and_parts, or_parts, not-false, cases_lt, eq-eqb, eqb-true}
-use Rattle.std.proofs.lemmas.Option.{same_Some, slice_get_within}
+use Rattle.std.proofs.lemmas.Option.{same_Some}
 use Rattle.std.proofs.lemmas.List.{take_all, take-append-le}
 use Rattle.plain_orders.specs.declared.act.Act.{Act}
-use Rattle.plain_orders.specs.declared.act.Act.TheVariants.{Enter, Grant}
+use Rattle.plain_orders.specs.declared.act.Act.TheVariants.{Enter, Grant, Granted}
 use Rattle.plain_orders.specs.declared.entry.Entry.{Entry}
 use Rattle.plain_orders.specs.declared.entry.Entry.TheVariants.{Epoch, Opened as OpenedEntry, Closed, Update, Commit, Rollback}
 use Rattle.plain_orders.specs.declared.item.Item.{Item}
@@ -22,25 +22,25 @@ use Rattle.plain_orders.proofs.EntryLemmas.{live-push}
 use Rattle.plain_orders.proofs.OrderLemmas.{ordered_induction}
 use Rattle.plain_orders.proofs.PastLemmas.{ordered_past}
 use Rattle.plain_orders.proofs.Places.{count_from_low}
-use Rattle.plain_runs.specs.Plain.{Plain, Server, Session, Hold, Given, current, issued_in, order_at, start}
+use Rattle.plain_runs.specs.Plain.{Plain, Server, Session, Hold, Given, app_of, current, issued_in, start}
 use Rattle.plain_runs.specs.Holds.{binds, opposes, touched, new_hold}
 use Rattle.plain_runs.specs.Items.{all_stand, entry_of, entry_of_item}
-use Rattle.plain_runs.specs.LockRows.{GrantMay, grants, first_quit, is_quit}
+use Rattle.plain_runs.specs.LockRows.{GrantMay, granted, grants, first_quit, is_quit}
+use Rattle.plain_runs.specs.JobRows.{acts as acts_on}
 use Rattle.plain_runs.specs.OrderRows.{EnterMay, ItemMay}
 use Rattle.plain_runs.specs.Run.{IsRun, RunFrom, after_all, state_after}
-use Rattle.plain_runs.specs.Step.{MayCome, after}
 use Rattle.plain_runs.specs.Laws.{IsHold, server_after}
 use Rattle.plain_runs.proofs.RunLemmas.{after_all-more, run_parts}
-use Rattle.plain_runs.proofs.HoldRows.{HoldKept, IssuedGrows, SettledIn, issued_of}
+use Rattle.plain_runs.proofs.HoldRows.{SettledIn, issued_of}
 use Rattle.plain_runs.proofs.LockRows.{HoldOf, each_at, locks}
 use Rattle.plain_runs.proofs.LockLaws.{locks_kept}
 use Rattle.plain_runs.proofs.Lists.{both_ways, any_take}
 use Rattle.plain_runs.proofs.Bases.{ToldKept, sight, told_in, place_in, or_else}
 use Rattle.plain_runs.proofs.SeenLaw.{told_kept}
 use Rattle.plain_runs.proofs.Ordered.{each_is_ordered}
-use Rattle.plain_runs.proofs.ToldItems.{nth, last_nth}
+use Rattle.plain_runs.proofs.ToldItems.{last_nth}
 use Rattle.trail_laws.specs.OrderLaw.{is_by}
-use Rattle.trail_laws.specs.LockLaw.{GrantIsTold, GrantStays, HandedBefore, Handover, IsHandedOverIn, NoLateUpdate}
+use Rattle.trail_laws.specs.LockLaw.{GrantIsSeen, GrantIsTold, GrantStays, HandedBefore, Handover, IsHandedOverIn, NoLateUpdate}
 use Rattle.trail_laws.proofs.Durable.{later_order, may_after}
 use Rattle.trail_laws.proofs.HoldGoes.{HoldGoes, Stay, stands, follow_at, follow_there}
 use Rattle.trail_laws.proofs.ServerGoes.{ServerGoes, grip, goes}
@@ -81,12 +81,12 @@ handed s t i h k held all up is now off touch = go (and_cases h.in_force (not h.
     settled same (inr c) =
         let grew : issued_of (t.session_at h.session) ≡ issued_of (s.session_at h.session) ++ (all.issued h.session).1.0 = (all.issued h.session).1.1 in
         let front : take c.0.before (issued_of (t.session_at h.session)) ≡ take c.0.before (issued_of (s.session_at h.session)) =
-          ap (take c.0.before) grew ∙ take-append-le c.0.before (issued_of (s.session_at h.session)) (all.issued h.session).1.0 (held.before c.0 c.1)
+        ap (take c.0.before) grew ∙ take-append-le c.0.before (issued_of (s.session_at h.session)) (all.issued h.session).1.0 (held.before c.0 c.1)
         in
         let there : all_stand s.order h.session h.job 0 (take c.0.before (issued_of (t.session_at h.session))) ≡ true = ap (all_stand s.order h.session h.job 0) front ∙ c.2 in
         inr (some_and k.given (λ (g : Given). all_stand s.order k.session k.job 0 (take g.before (issued_in t k.session)) ≡ true) c.0 (same ∙ c.1)
-             (subst (λ n. all_stand s.order n k.job 0 (take c.0.before (issued_of (t.session_at n))) ≡ true) (sym on.session)
-              (subst (λ j. all_stand s.order h.session j 0 (take c.0.before (issued_of (t.session_at h.session))) ≡ true) (sym on.job) there)))
+        (subst (λ n. all_stand s.order n k.job 0 (take c.0.before (issued_of (t.session_at n))) ≡ true) (sym on.session)
+        (subst (λ j. all_stand s.order h.session j 0 (take c.0.before (issued_of (t.session_at h.session))) ≡ true) (sym on.job) there)))
 
     go : (h.in_force ≡ false) ⊎ (not h.gone ≡ false) → (b : Bool) → h.gone ≡ b → IsHandedOverIn s.order t k
     go c true e =
@@ -198,6 +198,15 @@ grant_is_told l before later d session job mode key at n m run is ans met = gran
 
     same : on.0 ≡ m.told
     same = cc (now, on.1.0)
+
+pub grant_is_seen : GrantIsSeen
+grant_is_seen l acts job line d at run =
+    subst (λ (p : Plain). at ≤ ((p.server_at d).known_at job).seen) (sym (after_all-more l start acts (Granted job line d at)))
+    (subst (λ (b : Bool). at ≤ ((if b then granted s (app_of l job) job at else s).known_at job).seen) (sym (eq-eqb d d refl))
+    (subst (λ (b : Bool). at ≤ (if b then record (acts_on (s.known_at job)) { seen = max (s.known_at job).seen at } else s.known_at job).seen) (sym (eq-eqb job job refl)) (omega arith)))
+  where
+    s : Server
+    s = server_after l acts d
 
 -- in an ordered list a session that is closed isn't live
 abbrev IsDead : ℕ → List Entry → Type 0
@@ -325,10 +334,10 @@ enters l clock s n job e may its by = go e may its by
     of_item session w f is m same h =
         subst (λ k. Enters s k job f) same
         (record {
-           is_live = m.is_live;
-           next = is ∙ m.next;
-           item = subst (λ k. (x : Issued) × ((slice_get (issued_in s session) (k - 1) ≡ Some x) × (x.job ≡ job))) (sym is) (found session w f (slice_get (issued_in s session) (w - 1)) refl m.issued h);
-         })
+          is_live = m.is_live;
+          next = is ∙ m.next;
+          item = subst (λ k. (x : Issued) × ((slice_get (issued_in s session) (k - 1) ≡ Some x) × (x.job ≡ job))) (sym is) (found session w f (slice_get (issued_in s session) (w - 1)) refl m.issued h);
+        })
 
     go : (f : Entry) → EnterMay l clock s f → is_item_of n f ≡ true → is_by job f ≡ true → Enters s n job f
     go (Epoch number) m i b = absurd m
@@ -353,7 +362,7 @@ late es s t k g e in_ o all ent is (inr some) = go (cases_lt g.before (w_of e))
     go (inl high) = high
     go (inr low) =
         let one : has_item es k.session (0 + (w_of e - 1) + 1) ≡ true =
-          stands_one es k.session k.job 0 (take g.before (issued_in t k.session)) (w_of e - 1) ent.item.0 stood (got_front g.before (issued_in t k.session) (w_of e - 1) (omega (arith, low, ent.next)) ∙ later) ent.item.1.1
+        stands_one es k.session k.job 0 (take g.before (issued_in t k.session)) (w_of e - 1) ent.item.0 stood (got_front g.before (issued_in t k.session) (w_of e - 1) (omega (arith, low, ent.next)) ∙ later) ent.item.1.1
         in
         absurd (omega (arith, ent.next, counted 0 s.order k.session (0 + (w_of e - 1) + 1) (in_ (is_item_at k.session (0 + (w_of e - 1) + 1)) one)))
 

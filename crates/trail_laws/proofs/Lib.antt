@@ -10,3 +10,4 @@ pub mod HoldGoes
 pub mod ServerGoes
 pub mod Handover
 pub mod NoTrace
+pub mod ExampleRuns

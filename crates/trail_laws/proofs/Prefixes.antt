@@ -1,30 +1,27 @@
 -- What a job has seen falls only where a restart had cut the list.
-use Rattle.std.proofs.Common.{◌≡◌, ℕ, zero, suc, ◌≤◌, ◌<◌, ◌+◌, min, List, [], ◌∷◌, ◌++◌, length, take, refl, subst, sym, ap, ◌∙◌, Bool, true, false, eqb, ◌==◌, if◌then◌else◌, arith, length-append, get_or, ◌⊎◌, inl, inr, Option, Some, None, ◌&&◌}
+use Rattle.std.proofs.Common.{◌≡◌, ℕ, zero, suc, ◌≤◌, ◌<◌, ◌+◌, min, List, [], ◌∷◌, ◌++◌, length, take, refl, subst, sym, ◌∙◌, Bool, true, false, eqb, ◌==◌, if◌then◌else◌, arith, length-append, ◌⊎◌, inl, inr, Option, Some, None}
 use Rattle.std.specs.Prelude.{is_some, unwrap_or, nat_lt}
 use Rattle.std.proofs.lemmas.Bool.{eqb-true, and_parts, ltb-true}
 use Rattle.std.proofs.lemmas.Option.{same_Some}
 use Rattle.plain_orders.specs.declared.act.Act.{Act}
-use Rattle.plain_orders.specs.declared.act.Act.TheVariants.{Opened, Enter, Synced, Shut, Release, Met, Told, Back, Crash, Issue, Read, Grant, Granted, GiveUp, Quit, Free, Counted, NotWhole, Range, Committed, RolledBack, Reached, Level, Done, Refused, Broke, Mended, Tick, Lose, Died}
+use Rattle.plain_orders.specs.declared.act.Act.TheVariants.{Met, Told}
 use Rattle.plain_orders.specs.declared.entry.Entry.{Entry}
 use Rattle.plain_orders.specs.declared.entry.Entry.TheVariants.{Epoch, Opened as OpenedEntry, Closed, Update, Commit, Rollback}
 use Rattle.plain_orders.specs.declared.layout.Layout.{Layout}
-use Rattle.plain_orders.specs.Entries.{epoch_after, epoch_from, entry_at, last_epoch}
+use Rattle.plain_orders.specs.Entries.{last_epoch}
 use Rattle.plain_orders.specs.Ordered.{IsOrdered, MayFollow}
 use Rattle.plain_orders.specs.Sessions.{place_of_epoch}
 use Rattle.plain_orders.proofs.EntryLemmas.{last_epoch-push}
 use Rattle.plain_orders.proofs.OrderLemmas.{ordered_induction}
-use Rattle.plain_runs.specs.Plain.{Plain, Server, Session, Entered, Known, start, put, app_of, runs_on, session_in, order_at, orders, pair_session, told_order}
+use Rattle.plain_runs.specs.Plain.{Plain, Server, Session, Entered, start, app_of, runs_on, session_in, order_at, orders}
 use Rattle.plain_runs.specs.EndRows.{MetMay, ToldMay, met_by, told_of, begun_by, begun_from}
-use Rattle.plain_runs.specs.JobRows.{has_session}
 use Rattle.plain_runs.specs.Step.{MayCome, after}
-use Rattle.plain_runs.specs.Run.{IsRun, RunFrom, after_all, state_after}
+use Rattle.plain_runs.specs.Run.{IsRun, RunFrom, state_after}
 use Rattle.plain_runs.specs.Laws.{SeenNeverFalls, may_fall, server_after}
 use Rattle.plain_runs.proofs.RunLemmas.{after_all-more, run_parts}
 use Rattle.plain_runs.proofs.Bases.{ToldKept, sight, told_in, owner_in}
-use Rattle.plain_runs.proofs.SeenLaw.{told_kept, told_place_is}
+use Rattle.plain_runs.proofs.SeenLaw.{told_kept}
 use Rattle.plain_runs.proofs.Ordered.{each_is_ordered}
-use Rattle.plain_runs.proofs.Lists.{both_ways}
-use Rattle.plain_runs.proofs.ToldItems.{nth}
 use Rattle.trail_laws.specs.PrefixLaw.{SeenFallsWhereCut, WasCut, seen_after}
 use Rattle.trail_laws.proofs.Seen.{SeenKept, glimpse, runs_its}
 use Rattle.trail_laws.proofs.SeenRuns.{seen_kept}
@@ -42,7 +39,6 @@ place_pushed n c (Closed session ∷ es) e h f = place_pushed n (c + 1) es e h f
 place_pushed n c (Update session w job txn op ∷ es) e h f = place_pushed n (c + 1) es e h f
 place_pushed n c (Commit session w job txn ∷ es) e h f = place_pushed n (c + 1) es e h f
 place_pushed n c (Rollback session w job txn ∷ es) e h f = place_pushed n (c + 1) es e h f
-
 
 abbrev NoneAbove : List Entry → Type 0
 NoneAbove es = (n : ℕ) → last_epoch es ≤ n → place_of_epoch n 0 es ≡ None
@@ -169,7 +165,7 @@ told_cut l C s app session epoch kept j ordered may told k less = go (runs_on l 
     late under (inl same) =
         let front : place_of_epoch (last_epoch (order_at s b)) 0 (take n (order_at s c)) ≡ Some kept = place_front (last_epoch (order_at s b)) 0 n kept (order_at s c) may.place (omega (arith, under)) in
         let whole : place_of_epoch (last_epoch (order_at s b)) 0 (order_at s b) ≡ Some kept =
-          place_whole (last_epoch (order_at s b)) 0 n kept (order_at s b) (subst (λ (es : List Entry). place_of_epoch (last_epoch (order_at s b)) 0 es ≡ Some kept) same front)
+        place_whole (last_epoch (order_at s b)) 0 n kept (order_at s b) (subst (λ (es : List Entry). place_of_epoch (last_epoch (order_at s b)) 0 es ≡ Some kept) same front)
         in
         absurd (cc (whole, none_above (order_at s b) (ordered b) (last_epoch (order_at s b)) (omega arith)))
 

@@ -2,4 +2,5 @@
 //! contract is a law; none takes memory. No clause says that a program's trail is a run.
 #![tactic(auto)]
 
+pub mod examples;
 pub mod laws;
