@@ -9,5 +9,6 @@ pub mod Increments
 pub mod HoldGoes
 pub mod ServerGoes
 pub mod Handover
+pub mod LateUpdates
 pub mod NoTrace
 pub mod ExampleRuns
