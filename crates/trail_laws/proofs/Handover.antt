@@ -24,7 +24,7 @@ use Rattle.plain_runs.proofs.LockLaws.{locks_kept}
 use Rattle.plain_runs.proofs.Lists.{both_ways, any_take}
 use Rattle.plain_runs.proofs.Bases.{ToldKept, sight, told_in, place_in, or_else}
 use Rattle.plain_runs.proofs.SeenLaw.{told_kept}
-use Rattle.trail_laws.specs.LockLaw.{GrantIsSeen, GrantIsTold, GrantStays, Handover, IsHandedOverIn}
+use Rattle.trail_laws.specs.LockLaw.{GrantIsTold, GrantStays, Handover, IsHandedOverIn}
 use Rattle.trail_laws.proofs.Durable.{may_after}
 use Rattle.trail_laws.proofs.HoldGoes.{HoldGoes, Stay, stands, follow_at, follow_there}
 use Rattle.trail_laws.proofs.ServerGoes.{ServerGoes, grip, goes}
@@ -182,12 +182,3 @@ grant_is_told l before later d session job mode key at n m run is ans met = gran
 
     same : on.0 ≡ m.told
     same = cc (now, on.1.0)
-
-pub grant_is_seen : GrantIsSeen
-grant_is_seen l acts job line d at run =
-    subst (λ (p : Plain). at ≤ ((p.server_at d).known_at job).seen) (sym (after_all-more l start acts (Granted job line d at)))
-    (subst (λ (b : Bool). at ≤ ((if b then granted s (app_of l job) job at else s).known_at job).seen) (sym (eq-eqb d d refl))
-    (subst (λ (b : Bool). at ≤ (if b then record (acts_on (s.known_at job)) { seen = max (s.known_at job).seen at } else s.known_at job).seen) (sym (eq-eqb job job refl)) (omega arith)))
-  where
-    s : Server
-    s = server_after l acts d

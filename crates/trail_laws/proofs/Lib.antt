@@ -12,3 +12,4 @@ pub mod Handover
 pub mod LateUpdates
 pub mod NoTrace
 pub mod ExampleRuns
+pub mod HeldSeen

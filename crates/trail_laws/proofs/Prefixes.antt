@@ -58,11 +58,11 @@ none_push es (Update session w job txn op) o none may n low = place_pushed n 0 e
 none_push es (Commit session w job txn) o none may n low = place_pushed n 0 es (Commit session w job txn) (none n (omega (arith, last_epoch-push es (Commit session w job txn), low))) (λ k. refl)
 none_push es (Rollback session w job txn) o none may n low = place_pushed n 0 es (Rollback session w job txn) (none n (omega (arith, last_epoch-push es (Rollback session w job txn), low))) (λ k. refl)
 
-none_above : (es : List Entry) → IsOrdered es → NoneAbove es
+pub none_above : (es : List Entry) → IsOrdered es → NoneAbove es
 none_above es o = ordered_induction NoneAbove (λ n low. refl) none_push es o
 
 -- the first Epoch above a number is in each front that reaches behind it
-place_front : (n c m p : ℕ) (es : List Entry) → place_of_epoch n c es ≡ Some p → p < c + m → place_of_epoch n c (take m es) ≡ Some p
+pub place_front : (n c m p : ℕ) (es : List Entry) → place_of_epoch n c es ≡ Some p → p < c + m → place_of_epoch n c (take m es) ≡ Some p
 place_front n c m p [] h low = absurd (cc (h))
 place_front n c zero p (x ∷ es) h low = absurd (omega (arith, low, place_high n c p (x ∷ es) h))
   where
@@ -89,7 +89,7 @@ place_front n c (suc m) p (Update session w job txn op ∷ es) h low = place_fro
 place_front n c (suc m) p (Commit session w job txn ∷ es) h low = place_front n (c + 1) m p es h (omega (arith, low))
 place_front n c (suc m) p (Rollback session w job txn ∷ es) h low = place_front n (c + 1) m p es h (omega (arith, low))
 
-place_whole : (n c m p : ℕ) (es : List Entry) → place_of_epoch n c (take m es) ≡ Some p → place_of_epoch n c es ≡ Some p
+pub place_whole : (n c m p : ℕ) (es : List Entry) → place_of_epoch n c (take m es) ≡ Some p → place_of_epoch n c es ≡ Some p
 place_whole n c zero p es h = absurd (cc (h))
 place_whole n c (suc m) p [] h = h
 place_whole n c (suc m) p (Epoch number ∷ es) h = go (nat_lt n number) (λ h. place_whole n (c + 1) m p es h) h
@@ -103,7 +103,7 @@ place_whole n c (suc m) p (Update session w job txn op ∷ es) h = place_whole n
 place_whole n c (suc m) p (Commit session w job txn ∷ es) h = place_whole n (c + 1) m p es h
 place_whole n c (suc m) p (Rollback session w job txn ∷ es) h = place_whole n (c + 1) m p es h
 
-begun_low : (epoch found i c : ℕ) (os : List (List Entry)) → found ≤ c → i + length os ≤ c + 1 → begun_from epoch found i os ≤ c
+pub begun_low : (epoch found i c : ℕ) (os : List (List Entry)) → found ≤ c → i + length os ≤ c + 1 → begun_from epoch found i os ≤ c
 begun_low epoch found i c [] low high = low
 begun_low epoch found i c (es ∷ more) low high = begun_low epoch (if last_epoch es == epoch then i else found) (i + 1) c more (go (last_epoch es == epoch)) (omega arith)
   where

@@ -81,10 +81,10 @@ based_same o n e = (n, (e, omega arith))
 based_to : (a b : Option ℕ) → a ≡ b → Based a b
 based_to a b same n e = (n, (sym same ∙ e, omega arith))
 
-still : (s : Server) (h : Hold) → Goes s.past s.order h h
+pub still : (s : Server) (h : Hold) → Goes s.past s.order h h
 still s h = hold_same s.past s.order s.past s.order h (λ _. stay_same h.at s.past s.order)
 
-away : (s : Server) (h : Hold) (force x : Bool) → Goes s.past s.order h (record h { in_force = force; gone = h.gone || x })
+pub away : (s : Server) (h : Hold) (force x : Bool) → Goes s.past s.order h (record h { in_force = force; gone = h.gone || x })
 away s h force x = hold_away s.past s.order s.past s.order h force x (λ _. stay_same h.at s.past s.order)
 
 module _ (l : Layout) where

@@ -5,13 +5,13 @@ use Rattle.plain_orders.specs.declared.op.Op.TheVariants.{Set}
 use Rattle.plain_orders.specs.declared.entry.Entry.{Entry}
 use Rattle.plain_orders.specs.declared.entry.Entry.TheVariants.{Update}
 use Rattle.plain_orders.specs.declared.act.Act.{Act}
-use Rattle.plain_orders.specs.declared.act.Act.TheVariants.{Enter, Grant, Granted}
+use Rattle.plain_orders.specs.declared.act.Act.TheVariants.{Enter, Grant}
 use Rattle.plain_orders.specs.declared.layout.Layout.{Layout}
 use Rattle.plain_orders.specs.declared.mode.Mode.{Mode}
 use Rattle.plain_orders.specs.declared.mode.Mode.TheVariants.{Exclusive}
 use Rattle.plain_orders.specs.Entries.{closes}
 use Rattle.plain_orders.specs.ItemEntries.{is_item_of, w_of}
-use Rattle.plain_runs.specs.Plain.{Server, Session, Hold, Given, current, issued_in, order_at}
+use Rattle.plain_runs.specs.Plain.{Server, Session, Hold, Given, app_of, current, issued_in, order_at}
 use Rattle.plain_runs.specs.Holds.{binds, opposes, touched}
 use Rattle.plain_runs.specs.Items.{all_stand}
 use Rattle.plain_runs.specs.Run.{IsRun}
@@ -61,11 +61,12 @@ GrantIsTold =
     → (server_after layout (before ++ Grant d session job mode key at ∷ later) d).session_at session ≡ Some m
     → take at (order_at (server_after layout (before ++ Grant d session job mode key at ∷ later) d) m.told) ≡ (server_after layout before d).order
 
--- The new holder has seen these entries when it is answered.
-abbrev pub GrantIsSeen : Type 0
-GrantIsSeen =
-    (layout : Layout) (acts : List Act) (job line d at : ℕ) → IsRun layout (acts ++ Granted job line d at ∷ [])
-    → at ≤ seen_after layout (acts ++ Granted job line d at ∷ []) d job
+-- A job whose hold is answered has seen as many entries as stood when it was granted, as long as its pair has the hold's session.
+abbrev pub HoldIsSeen : Type 0
+HoldIsSeen =
+    (layout : Layout) (acts : List Act) (d i : ℕ) (h : Hold) → IsRun layout acts → IsHold (server_after layout acts d) i h → h.answered ≡ true
+    → ((server_after layout acts d).pair_at (app_of layout h.job)).session ≡ Some h.session
+    → h.at ≤ seen_after layout acts d h.job
 
 -- Where the grant is answered, no item enters after it that the conflicting hold's job had issued in its session before it gave that hold up.
 abbrev pub NoLateUpdate : Type 0
