@@ -1,20 +1,19 @@
 -- What stands in the order when a lock goes from one holder to another.
-use Rattle.std.proofs.Common.{◌≡◌, ℕ, zero, suc, ◌≤◌, List, [], ◌∷◌, ◌++◌, length, take, max, refl, subst, sym, ap, ◌∙◌, Bool, true, false, if◌then◌else◌, arith, append_assoc, ◌⊎◌, inl, inr, Option, Some, None, slice_get, ◌&&◌, ◌||◌, not}
+use Rattle.std.proofs.Common.{◌≡◌, ℕ, zero, suc, ◌≤◌, List, [], ◌∷◌, ◌++◌, length, take, refl, subst, sym, ap, ◌∙◌, Bool, true, false, if◌then◌else◌, arith, append_assoc, ◌⊎◌, inl, inr, Option, Some, None, slice_get, ◌&&◌, ◌||◌, not}
 use Rattle.std.specs.Prelude.{is_some, IsSomeAnd}
 use Rattle.std.specs.List.{list_any}
 use Rattle.std.proofs.lemmas.Bool.{and_cases, or_parts, not-false, eq-eqb}
 use Rattle.std.proofs.lemmas.Option.{same_Some}
 use Rattle.std.proofs.lemmas.List.{take_all, take-append-le}
 use Rattle.plain_orders.specs.declared.act.Act.{Act}
-use Rattle.plain_orders.specs.declared.act.Act.TheVariants.{Grant, Granted}
+use Rattle.plain_orders.specs.declared.act.Act.TheVariants.{Grant}
 use Rattle.plain_orders.specs.declared.mode.Mode.{Mode}
 use Rattle.plain_orders.specs.declared.layout.Layout.{Layout}
 use Rattle.plain_orders.specs.Entries.{closes}
-use Rattle.plain_runs.specs.Plain.{Plain, Server, Session, Hold, Given, app_of, issued_in, start}
+use Rattle.plain_runs.specs.Plain.{Plain, Server, Session, Hold, Given, issued_in, start}
 use Rattle.plain_runs.specs.Holds.{binds, opposes, touched, new_hold}
 use Rattle.plain_runs.specs.Items.{all_stand}
-use Rattle.plain_runs.specs.LockRows.{GrantMay, granted, grants, first_quit, is_quit}
-use Rattle.plain_runs.specs.JobRows.{acts as acts_on}
+use Rattle.plain_runs.specs.LockRows.{GrantMay, grants, first_quit, is_quit}
 use Rattle.plain_runs.specs.Run.{IsRun}
 use Rattle.plain_runs.specs.Laws.{IsHold, server_after}
 use Rattle.plain_runs.proofs.RunLemmas.{after_all-more, run_parts}

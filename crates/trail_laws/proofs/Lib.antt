@@ -13,3 +13,4 @@ pub mod LateUpdates
 pub mod NoTrace
 pub mod ExampleRuns
 pub mod HeldSeen
+pub mod HeldRuns
