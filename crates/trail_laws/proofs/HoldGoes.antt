@@ -1,5 +1,5 @@
 -- What becomes of each hold of a server, and of the entries that stood when it was granted.
-use Rattle.std.proofs.Common.{◌≡◌, ℕ, zero, suc, ◌≤◌, ◌<◌, ◌+◌, List, [], ◌∷◌, ◌++◌, length, take, map, refl, subst, sym, ap, ◌∙◌, Bool, true, false, cond, if◌then◌else◌, arith, length-append, ◌⊎◌, inl, inr, Option, Some, None, slice_get, ◌&&◌, ◌||◌, not, ◌==◌}
+use Rattle.std.proofs.Common.{◌≡◌, ℕ, zero, suc, ◌≤◌, ◌<◌, List, [], ◌∷◌, ◌++◌, length, take, map, refl, subst, sym, ap, ◌∙◌, Bool, true, false, cond, arith, length-append, ◌⊎◌, inl, inr, Option, Some, slice_get, ◌&&◌, ◌||◌, not}
 use Rattle.std.specs.Prelude.{is_some, nat_lt}
 use Rattle.std.specs.List.{list_any}
 use Rattle.std.proofs.lemmas.Bool.{and_parts, and_from, or_parts, or_from, not-true, ltb-false, cases_lt}
@@ -169,8 +169,8 @@ hold_crash past o d due ses kept e h low within k =
         let parts = and_parts (not (h.gone || lost)) (not (is_some h.given)) rest in
         let there = or_parts h.gone lost (not-true (h.gone || lost) parts.0) in
         let sent : is_sent h ≡ true =
-          and_from (not h.answered) (not (is_some h.given) && not h.gone) (ap not a)
-          (and_from (not (is_some h.given)) (not h.gone) parts.1 (ap not there.0))
+        and_from (not h.answered) (not (is_some h.given) && not h.gone) (ap not a)
+        (and_from (not (is_some h.given)) (not h.gone) parts.1 (ap not there.0))
         in
         ltb-false kept h.at (subst (λ (b : Bool). (b && nat_lt kept h.at) ≡ false) sent there.1)
 

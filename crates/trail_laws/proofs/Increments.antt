@@ -1,7 +1,6 @@
 -- Two increments of one node never answer the same number.
-use Rattle.std.proofs.Common.{◌≡◌, ◌≢◌, ℕ, zero, suc, ◌≤◌, ◌<◌, ◌+◌, ◌-◌, List, [], ◌∷◌, ◌++◌, length, take, refl, subst, sym, ap, ◌∙◌, Bool, true, false, cond, if◌then◌else◌, arith, slice_get, ◌⊎◌, inl, inr, Option, Some, None, ◌&&◌, nat_eq, ℤ, pos, negsuc}
-use Rattle.std.specs.Prelude.{IsSomeAnd, ◌+ℤ◌, neg_ℤ, min, max, nat_lt}
-use Rattle.std.specs.BTreeMap.{is_at}
+use Rattle.std.proofs.Common.{◌≡◌, ◌≢◌, ℕ, zero, suc, ◌≤◌, ◌<◌, ◌+◌, ◌-◌, List, [], ◌∷◌, ◌++◌, take, refl, subst, sym, ap, ◌∙◌, Bool, true, false, cond, if◌then◌else◌, arith, slice_get, ◌⊎◌, inl, inr, Option, Some, None, nat_eq, ℤ, pos, negsuc}
+use Rattle.std.specs.Prelude.{IsSomeAnd, ◌+ℤ◌, neg_ℤ}
 use Rattle.std.specs.Ordering.{is_eq}
 use Rattle.std.specs.Cmp.Lexicographic.{pointwise, bytes_decides}
 use Rattle.std.proofs.lemmas.Bool.{and_parts, ltb-true, cases_lt}
@@ -9,7 +8,6 @@ use Rattle.std.proofs.lemmas.Option.{same_Some}
 use Rattle.std.proofs.lemmas.List.{take-take}
 use Rattle.std.proofs.Math.IntN.{+ℤ-neg_ℤ_cancel, +ℤ_comm, +ℤ_invr}
 use Rattle.subscript_keys.proofs.Ties.{itself}
-use Rattle.plain_orders.specs.declared.op.Op.{Op}
 use Rattle.plain_orders.specs.declared.op.Op.TheVariants.{Set, Kill, Add}
 use Rattle.plain_orders.specs.declared.sum.Sum.{Sum}
 use Rattle.plain_orders.specs.declared.sum.Sum.TheVariants.{Nothing, Whole, NotWhole, Range}
@@ -17,19 +15,17 @@ use Rattle.plain_orders.specs.declared.entry.Entry.{Entry}
 use Rattle.plain_orders.specs.declared.entry.Entry.TheVariants.{Epoch, Opened, Closed, Update, Commit, Rollback}
 use Rattle.plain_orders.specs.declared.act.Act.{Act}
 use Rattle.plain_orders.specs.declared.act.Act.TheVariants.{Counted}
-use Rattle.plain_orders.specs.declared.layout.Layout.{Layout}
 use Rattle.plain_orders.specs.Answers.{entry_sum, sum_at, sum_if}
-use Rattle.plain_orders.specs.Entries.{entry_at}
 use Rattle.plain_orders.specs.Fold.{Folded, fold, fold_step, op_after, sum_of, sum_on, sum_with}
 use Rattle.plain_orders.specs.Numbers.{integer_text, is_short, whole_of}
 use Rattle.plain_orders.specs.Ordered.{IsOrdered}
-use Rattle.plain_orders.specs.PairMap.{Map, key_cmp, put, value_at}
+use Rattle.plain_orders.specs.PairMap.{Map, put, value_at}
 use Rattle.plain_orders.proofs.FoldLemmas.{fold-push}
 use Rattle.plain_orders.proofs.FrontLemmas.{ordered-take}
 use Rattle.plain_orders.proofs.OrderKeys.{folded_keys}
 use Rattle.plain_orders.proofs.RisingLemmas.{fold_rises}
 use Rattle.plain_orders.proofs.Values.{put_value}
-use Rattle.plain_runs.specs.Plain.{Server, current, order_at, start}
+use Rattle.plain_runs.specs.Plain.{Server, current, start}
 use Rattle.plain_runs.specs.Step.{MayCome}
 use Rattle.plain_runs.specs.Run.{IsRun, state_after}
 use Rattle.plain_runs.specs.Laws.{server_after}
@@ -37,8 +33,8 @@ use Rattle.plain_runs.proofs.RunLemmas.{run_parts}
 use Rattle.plain_runs.proofs.OrderLaws.{synced_stays}
 use Rattle.plain_runs.proofs.Ordered.{each_is_ordered}
 use Rattle.plain_runs.proofs.ToldItems.{last_nth}
-use Rattle.trail_laws.specs.Touches.{entry_touches, touched_at, touches_if}
-use Rattle.trail_laws.specs.IncrementLaw.{is_positive, is_rise, is_rise_op, RisesAt, NoneBetween, IncrementsDiffer}
+use Rattle.trail_laws.specs.Touches.{touched_at, touches_if}
+use Rattle.trail_laws.specs.IncrementLaw.{is_positive, is_rise, RisesAt, NoneBetween, IncrementsDiffer}
 use Rattle.trail_laws.proofs.Durable.{may_after, got_taken, later_order}
 use Rattle.trail_laws.proofs.NodeValues.{entry_still}
 use Rattle.trail_laws.proofs.WholeTexts.{whole_back}

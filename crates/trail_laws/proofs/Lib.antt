@@ -9,4 +9,8 @@ pub mod Increments
 pub mod HoldGoes
 pub mod ServerGoes
 pub mod Handover
+pub mod LateUpdates
 pub mod NoTrace
+pub mod ExampleRuns
+pub mod HeldSeen
+pub mod HeldRuns

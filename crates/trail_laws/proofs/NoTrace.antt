@@ -1,10 +1,9 @@
 -- What a transaction did at one node is put back.
-use Rattle.std.proofs.Common.{◌≡◌, ℕ, List, [], ◌∷◌, ◌++◌, refl, subst, sym, ap, ◌∙◌, Bool, true, false, cond, eqb, if◌then◌else◌, Option, Some, None, ◌⊎◌, inl, inr, ◌&&◌, ◌||◌, ◌==◌, not}
-use Rattle.std.specs.List.{AllByRecursion, list_any, filter}
+use Rattle.std.proofs.Common.{◌≡◌, ℕ, List, [], ◌∷◌, ◌++◌, refl, subst, sym, ap, ◌∙◌, Bool, true, false, cond, if◌then◌else◌, Option, Some, None, ◌⊎◌, inl, inr, ◌&&◌, ◌||◌, ◌==◌, not}
+use Rattle.std.specs.List.{AllByRecursion, filter}
 use Rattle.std.proofs.lemmas.Bool.{eqb-true, eq-eqb, and_parts, and_from, or_parts, not-true, false_from_ne_true}
 use Rattle.plain_orders.specs.declared.op.Op.{Op}
 use Rattle.plain_orders.specs.declared.op.Op.TheVariants.{Set, Kill, Add}
-use Rattle.plain_orders.specs.declared.act.Act.{Act}
 use Rattle.plain_orders.specs.declared.entry.Entry.{Entry}
 use Rattle.plain_orders.specs.declared.entry.Entry.TheVariants.{Epoch, Opened, Closed, Update, Commit, Rollback}
 use Rattle.plain_orders.specs.Begun.{can_be_undone, is_named, is_of_one}
@@ -186,8 +185,8 @@ module _ (s j t : ℕ) (q : List ℕ) where
   noted_own old f op some c r h =
       let u = item_of f.pairs op c in
       let is : noted s j t (Some u.0) f.begun ≡ undo_added s j t u.0 f.begun =
-        ap (λ (d : Bool). if d then f.begun else (if is_begun s j t f.begun then undo_added s j t u.0 f.begun else beginning s j t u.0 ∷ f.begun)) some
-        ∙ ap (λ (d : Bool). if d then undo_added s j t u.0 f.begun else beginning s j t u.0 ∷ f.begun) (has_begun old f.begun (value_at f.pairs q) h)
+      ap (λ (d : Bool). if d then f.begun else (if is_begun s j t f.begun then undo_added s j t u.0 f.begun else beginning s j t u.0 ∷ f.begun)) some
+      ∙ ap (λ (d : Bool). if d then undo_added s j t u.0 f.begun else beginning s j t u.0 ∷ f.begun) (has_begun old f.begun (value_at f.pairs q) h)
       in
       subst (λ (ts : List Transaction). Has old ts (value_at (op_after f.pairs op) q)) (sym (ap (λ o. noted s j t o f.begun) u.1 ∙ is))
       (has_own u.0 old f.begun (value_at f.pairs q) (value_at (op_after f.pairs op) q) (op_back q f.pairs op u.0 u.1 r) h)
@@ -236,8 +235,8 @@ module _ (s j t : ℕ) (q : List ℕ) where
           let i = its_ids session job txn x.0 in
           subst (λ (k : ℕ). Has old (noted k job txn (undo_of f.pairs op) f.begun) (value_at (op_after f.pairs op) q)) (sym i.0)
           (subst (λ (k : ℕ). Has old (noted s k txn (undo_of f.pairs op) f.begun) (value_at (op_after f.pairs op) q)) (sym i.1)
-           (subst (λ (k : ℕ). Has old (noted s j k (undo_of f.pairs op) f.begun) (value_at (op_after f.pairs op) q)) (sym i.2)
-            (noted_own old f op (subst (λ (k : ℕ). (k == 0) ≡ false) i.2 (not-true (txn == 0) y.0)) y.1 r h)))
+          (subst (λ (k : ℕ). Has old (noted s j k (undo_of f.pairs op) f.begun) (value_at (op_after f.pairs op) q)) (sym i.2)
+          (noted_own old f op (subst (λ (k : ℕ). (k == 0) ≡ false) i.2 (not-true (txn == 0) y.0)) y.1 r h)))
       go false e = subst (Has old (noted session job txn (undo_of f.pairs op) f.begun)) (sym (op_still q f.pairs op (o e))) (noted_other old session job txn f.pairs op f.begun (value_at f.pairs q) (o e) h)
 
   steps : (old : Option (List ℕ)) (f : Folded) (es : List Entry) → AllByRecursion (λ e. ends_it s j t e ≡ false) es → AllByRecursion (λ e. is_update_in s j t e ≡ false → update_touches q e ≡ false) es → IsRising f.pairs → Begun old f
@@ -257,14 +256,14 @@ module _ (s j t : ℕ) (q : List ℕ) where
       let i = its_ids session job txn x.0 in
       subst (λ (k : ℕ). Has (value_at f.pairs q) (noted k job txn (undo_of f.pairs op) f.begun) (value_at (op_after f.pairs op) q)) (sym i.0)
       (subst (λ (k : ℕ). Has (value_at f.pairs q) (noted s k txn (undo_of f.pairs op) f.begun) (value_at (op_after f.pairs op) q)) (sym i.1)
-       (subst (λ (k : ℕ). Has (value_at f.pairs q) (noted s j k (undo_of f.pairs op) f.begun) (value_at (op_after f.pairs op) q)) (sym i.2)
-        (new (subst (λ (k : ℕ). (k == 0) ≡ false) i.2 (not-true (txn == 0) y.0)) (item_of f.pairs op y.1))))
+      (subst (λ (k : ℕ). Has (value_at f.pairs q) (noted s j k (undo_of f.pairs op) f.begun) (value_at (op_after f.pairs op) q)) (sym i.2)
+      (new (subst (λ (k : ℕ). (k == 0) ≡ false) i.2 (not-true (txn == 0) y.0)) (item_of f.pairs op y.1))))
     where
       new : (t == 0) ≡ false → (u : Undo) × (undo_of f.pairs op ≡ Some u) → Has (value_at f.pairs q) (noted s j t (undo_of f.pairs op) f.begun) (value_at (op_after f.pairs op) q)
       new some u =
           let is : noted s j t (Some u.0) f.begun ≡ beginning s j t u.0 ∷ f.begun =
-            ap (λ (d : Bool). if d then f.begun else (if is_begun s j t f.begun then undo_added s j t u.0 f.begun else beginning s j t u.0 ∷ f.begun)) some
-            ∙ ap (λ (d : Bool). if d then undo_added s j t u.0 f.begun else beginning s j t u.0 ∷ f.begun) b
+          ap (λ (d : Bool). if d then f.begun else (if is_begun s j t f.begun then undo_added s j t u.0 f.begun else beginning s j t u.0 ∷ f.begun)) some
+          ∙ ap (λ (d : Bool). if d then undo_added s j t u.0 f.begun else beginning s j t u.0 ∷ f.begun) b
           in
           subst (λ (ts : List Transaction). Has (value_at f.pairs q) ts (value_at (op_after f.pairs op) q)) (sym (ap (λ o. noted s j t o f.begun) u.1 ∙ is))
           (inl (and_from (s == s && j == j) (t == t) (and_from (s == s) (j == j) (eq-eqb s s refl) (eq-eqb j j refl)) (eq-eqb t t refl), op_back q f.pairs op u.0 u.1 r, h))

@@ -1,5 +1,5 @@
 -- What entries make of the value of one node.
-use Rattle.std.proofs.Common.{◌≡◌, ℕ, Bool, true, false, not, cond, List, [], ◌∷◌, Option, Some, None, refl, sym, ◌∙◌, ap, subst, if◌then◌else◌, nat_eq, ◌||◌, ◌&&◌, ◌==◌, ℤ}
+use Rattle.std.proofs.Common.{◌≡◌, ℕ, Bool, true, false, not, cond, List, [], ◌∷◌, Option, Some, None, refl, sym, ◌∙◌, ap, subst, if◌then◌else◌, nat_eq, ◌&&◌, ◌==◌}
 use Rattle.std.specs.Ordering.{is_eq}
 use Rattle.std.specs.List.{AllByRecursion, list_any}
 use Rattle.std.specs.BTreeMap.{is_at}
@@ -12,7 +12,6 @@ use Rattle.plain_orders.specs.declared.sum.Sum.{Sum}
 use Rattle.plain_orders.specs.declared.sum.Sum.TheVariants.{Nothing, Whole, NotWhole, Range}
 use Rattle.plain_orders.specs.declared.entry.Entry.{Entry}
 use Rattle.plain_orders.specs.declared.entry.Entry.TheVariants.{Epoch, Opened, Closed, Update, Commit, Rollback}
-use Rattle.plain_orders.specs.Begun.{can_be_undone}
 use Rattle.plain_orders.specs.Numbers.{integer_text}
 use Rattle.plain_orders.specs.Own.{op_touches}
 use Rattle.plain_orders.specs.PairMap.{Map, key_cmp, put, put_all, pairs_under, is_under, is_inside, value_at, IsBeforeAll, IsRising}

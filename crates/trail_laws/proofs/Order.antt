@@ -1,5 +1,5 @@
 -- The items of a job stand in order where those of its session do.
-use Rattle.std.proofs.Common.{◌≡◌, ℕ, zero, suc, ◌<◌, ◌+◌, List, [], ◌∷◌, length, refl, subst, sym, Bool, true, false, if◌then◌else◌, arith, ◌&&◌}
+use Rattle.std.proofs.Common.{◌≡◌, ℕ, zero, suc, ◌<◌, ◌+◌, List, [], ◌∷◌, length, subst, sym, Bool, true, false, if◌then◌else◌, arith, ◌&&◌}
 use Rattle.plain_orders.specs.declared.entry.Entry.{Entry}
 use Rattle.plain_orders.specs.ItemEntries.{is_item_of, numbers, w_of}
 use Rattle.plain_runs.specs.Laws.{count_up}

@@ -1,30 +1,27 @@
 -- What a job has seen falls only where a restart had cut the list.
-use Rattle.std.proofs.Common.{◌≡◌, ℕ, zero, suc, ◌≤◌, ◌<◌, ◌+◌, min, List, [], ◌∷◌, ◌++◌, length, take, refl, subst, sym, ap, ◌∙◌, Bool, true, false, eqb, ◌==◌, if◌then◌else◌, arith, length-append, get_or, ◌⊎◌, inl, inr, Option, Some, None, ◌&&◌}
+use Rattle.std.proofs.Common.{◌≡◌, ℕ, zero, suc, ◌≤◌, ◌<◌, ◌+◌, min, List, [], ◌∷◌, ◌++◌, length, take, refl, subst, sym, ◌∙◌, Bool, true, false, eqb, ◌==◌, if◌then◌else◌, arith, length-append, ◌⊎◌, inl, inr, Option, Some, None}
 use Rattle.std.specs.Prelude.{is_some, unwrap_or, nat_lt}
 use Rattle.std.proofs.lemmas.Bool.{eqb-true, and_parts, ltb-true}
 use Rattle.std.proofs.lemmas.Option.{same_Some}
 use Rattle.plain_orders.specs.declared.act.Act.{Act}
-use Rattle.plain_orders.specs.declared.act.Act.TheVariants.{Opened, Enter, Synced, Shut, Release, Met, Told, Back, Crash, Issue, Read, Grant, Granted, GiveUp, Quit, Free, Counted, NotWhole, Range, Committed, RolledBack, Reached, Level, Done, Refused, Broke, Mended, Tick, Lose, Died}
+use Rattle.plain_orders.specs.declared.act.Act.TheVariants.{Met, Told}
 use Rattle.plain_orders.specs.declared.entry.Entry.{Entry}
 use Rattle.plain_orders.specs.declared.entry.Entry.TheVariants.{Epoch, Opened as OpenedEntry, Closed, Update, Commit, Rollback}
 use Rattle.plain_orders.specs.declared.layout.Layout.{Layout}
-use Rattle.plain_orders.specs.Entries.{epoch_after, epoch_from, entry_at, last_epoch}
+use Rattle.plain_orders.specs.Entries.{last_epoch}
 use Rattle.plain_orders.specs.Ordered.{IsOrdered, MayFollow}
 use Rattle.plain_orders.specs.Sessions.{place_of_epoch}
 use Rattle.plain_orders.proofs.EntryLemmas.{last_epoch-push}
 use Rattle.plain_orders.proofs.OrderLemmas.{ordered_induction}
-use Rattle.plain_runs.specs.Plain.{Plain, Server, Session, Entered, Known, start, put, app_of, runs_on, session_in, order_at, orders, pair_session, told_order}
+use Rattle.plain_runs.specs.Plain.{Plain, Server, Session, Entered, start, app_of, runs_on, session_in, order_at, orders}
 use Rattle.plain_runs.specs.EndRows.{MetMay, ToldMay, met_by, told_of, begun_by, begun_from}
-use Rattle.plain_runs.specs.JobRows.{has_session}
 use Rattle.plain_runs.specs.Step.{MayCome, after}
-use Rattle.plain_runs.specs.Run.{IsRun, RunFrom, after_all, state_after}
+use Rattle.plain_runs.specs.Run.{IsRun, RunFrom, state_after}
 use Rattle.plain_runs.specs.Laws.{SeenNeverFalls, may_fall, server_after}
 use Rattle.plain_runs.proofs.RunLemmas.{after_all-more, run_parts}
 use Rattle.plain_runs.proofs.Bases.{ToldKept, sight, told_in, owner_in}
-use Rattle.plain_runs.proofs.SeenLaw.{told_kept, told_place_is}
+use Rattle.plain_runs.proofs.SeenLaw.{told_kept}
 use Rattle.plain_runs.proofs.Ordered.{each_is_ordered}
-use Rattle.plain_runs.proofs.Lists.{both_ways}
-use Rattle.plain_runs.proofs.ToldItems.{nth}
 use Rattle.trail_laws.specs.PrefixLaw.{SeenFallsWhereCut, WasCut, seen_after}
 use Rattle.trail_laws.proofs.Seen.{SeenKept, glimpse, runs_its}
 use Rattle.trail_laws.proofs.SeenRuns.{seen_kept}
@@ -42,7 +39,6 @@ place_pushed n c (Closed session ∷ es) e h f = place_pushed n (c + 1) es e h f
 place_pushed n c (Update session w job txn op ∷ es) e h f = place_pushed n (c + 1) es e h f
 place_pushed n c (Commit session w job txn ∷ es) e h f = place_pushed n (c + 1) es e h f
 place_pushed n c (Rollback session w job txn ∷ es) e h f = place_pushed n (c + 1) es e h f
-
 
 abbrev NoneAbove : List Entry → Type 0
 NoneAbove es = (n : ℕ) → last_epoch es ≤ n → place_of_epoch n 0 es ≡ None
@@ -62,11 +58,11 @@ none_push es (Update session w job txn op) o none may n low = place_pushed n 0 e
 none_push es (Commit session w job txn) o none may n low = place_pushed n 0 es (Commit session w job txn) (none n (omega (arith, last_epoch-push es (Commit session w job txn), low))) (λ k. refl)
 none_push es (Rollback session w job txn) o none may n low = place_pushed n 0 es (Rollback session w job txn) (none n (omega (arith, last_epoch-push es (Rollback session w job txn), low))) (λ k. refl)
 
-none_above : (es : List Entry) → IsOrdered es → NoneAbove es
+pub none_above : (es : List Entry) → IsOrdered es → NoneAbove es
 none_above es o = ordered_induction NoneAbove (λ n low. refl) none_push es o
 
 -- the first Epoch above a number is in each front that reaches behind it
-place_front : (n c m p : ℕ) (es : List Entry) → place_of_epoch n c es ≡ Some p → p < c + m → place_of_epoch n c (take m es) ≡ Some p
+pub place_front : (n c m p : ℕ) (es : List Entry) → place_of_epoch n c es ≡ Some p → p < c + m → place_of_epoch n c (take m es) ≡ Some p
 place_front n c m p [] h low = absurd (cc (h))
 place_front n c zero p (x ∷ es) h low = absurd (omega (arith, low, place_high n c p (x ∷ es) h))
   where
@@ -93,7 +89,7 @@ place_front n c (suc m) p (Update session w job txn op ∷ es) h low = place_fro
 place_front n c (suc m) p (Commit session w job txn ∷ es) h low = place_front n (c + 1) m p es h (omega (arith, low))
 place_front n c (suc m) p (Rollback session w job txn ∷ es) h low = place_front n (c + 1) m p es h (omega (arith, low))
 
-place_whole : (n c m p : ℕ) (es : List Entry) → place_of_epoch n c (take m es) ≡ Some p → place_of_epoch n c es ≡ Some p
+pub place_whole : (n c m p : ℕ) (es : List Entry) → place_of_epoch n c (take m es) ≡ Some p → place_of_epoch n c es ≡ Some p
 place_whole n c zero p es h = absurd (cc (h))
 place_whole n c (suc m) p [] h = h
 place_whole n c (suc m) p (Epoch number ∷ es) h = go (nat_lt n number) (λ h. place_whole n (c + 1) m p es h) h
@@ -107,7 +103,7 @@ place_whole n c (suc m) p (Update session w job txn op ∷ es) h = place_whole n
 place_whole n c (suc m) p (Commit session w job txn ∷ es) h = place_whole n (c + 1) m p es h
 place_whole n c (suc m) p (Rollback session w job txn ∷ es) h = place_whole n (c + 1) m p es h
 
-begun_low : (epoch found i c : ℕ) (os : List (List Entry)) → found ≤ c → i + length os ≤ c + 1 → begun_from epoch found i os ≤ c
+pub begun_low : (epoch found i c : ℕ) (os : List (List Entry)) → found ≤ c → i + length os ≤ c + 1 → begun_from epoch found i os ≤ c
 begun_low epoch found i c [] low high = low
 begun_low epoch found i c (es ∷ more) low high = begun_low epoch (if last_epoch es == epoch then i else found) (i + 1) c more (go (last_epoch es == epoch)) (omega arith)
   where
@@ -169,7 +165,7 @@ told_cut l C s app session epoch kept j ordered may told k less = go (runs_on l 
     late under (inl same) =
         let front : place_of_epoch (last_epoch (order_at s b)) 0 (take n (order_at s c)) ≡ Some kept = place_front (last_epoch (order_at s b)) 0 n kept (order_at s c) may.place (omega (arith, under)) in
         let whole : place_of_epoch (last_epoch (order_at s b)) 0 (order_at s b) ≡ Some kept =
-          place_whole (last_epoch (order_at s b)) 0 n kept (order_at s b) (subst (λ (es : List Entry). place_of_epoch (last_epoch (order_at s b)) 0 es ≡ Some kept) same front)
+        place_whole (last_epoch (order_at s b)) 0 n kept (order_at s b) (subst (λ (es : List Entry). place_of_epoch (last_epoch (order_at s b)) 0 es ≡ Some kept) same front)
         in
         absurd (cc (whole, none_above (order_at s b) (ordered b) (last_epoch (order_at s b)) (omega arith)))
 

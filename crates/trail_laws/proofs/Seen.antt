@@ -1,5 +1,5 @@
 -- What jobs have seen, against the orders that came since.
-use Rattle.std.proofs.Common.{◌≡◌, ℕ, zero, suc, ◌≤◌, ◌<◌, ◌+◌, min, List, [], ◌∷◌, ◌++◌, length, take, refl, subst, sym, ap, ◌∙◌, Bool, true, false, eqb, ◌==◌, if◌then◌else◌, arith, length-append, ◌⊎◌, inl, inr, Option, Some, None, ◌&&◌, ◌||◌}
+use Rattle.std.proofs.Common.{◌≡◌, ℕ, ◌≤◌, ◌<◌, ◌+◌, List, [], ◌∷◌, ◌++◌, length, take, refl, subst, sym, ap, ◌∙◌, Bool, true, false, eqb, ◌==◌, if◌then◌else◌, arith, length-append, ◌⊎◌, inl, inr, Option, Some, None, ◌||◌}
 use Rattle.std.specs.Prelude.{is_some, nat_lt}
 use Rattle.std.proofs.lemmas.Bool.{eqb-true, eq-eqb, and_parts, or_parts, cases_lt}
 use Rattle.std.proofs.lemmas.Option.{same_Some}
@@ -10,14 +10,14 @@ use Rattle.plain_orders.specs.declared.layout.Layout.{Layout}
 use Rattle.plain_orders.specs.declared.refused.ReasonName.{ReasonName}
 use Rattle.plain_orders.specs.Entries.{entry_at, last_epoch}
 use Rattle.plain_orders.proofs.Places.{entry_pushed, entry_last, entry_taken}
-use Rattle.plain_runs.specs.Plain.{Server, Session, Entered, Known, Pair, put, app_of, runs_on, pair_session}
+use Rattle.plain_runs.specs.Plain.{Server, Session, Entered, Known, put, app_of, runs_on}
 use Rattle.plain_runs.specs.OrderRows.{OpenedMay, EnterMay, CrashMay, entered, opened_with, crashed}
 use Rattle.plain_runs.specs.EndRows.{without_session, since_loss, knows_loss}
 use Rattle.plain_runs.proofs.Orders.{facet, OrdersKept}
 use Rattle.plain_runs.proofs.Bases.{ToldKept, sight, told_in, owner_in, or_else, place_in}
 use Rattle.plain_runs.proofs.Issued.{IssuedKept, view}
 use Rattle.plain_runs.proofs.Lists.{both_ways}
-use Rattle.plain_runs.proofs.ToldItems.{nth, last_nth, here_or_before, before_stays}
+use Rattle.plain_runs.proofs.ToldItems.{nth, last_nth, before_stays}
 
 -- what this sees of a server
 pub record Glimpse : Type 0 where

@@ -1,12 +1,11 @@
 -- What a job has seen falls only where a restart had cut the list.
-use Rattle.std.proofs.Common.{◌≡◌, ℕ, zero, suc, ◌≤◌, ◌<◌, ◌+◌, min, List, [], ◌∷◌, ◌++◌, length, take, refl, subst, sym, ap, ◌∙◌, Bool, true, false, eqb, ◌==◌, if◌then◌else◌, arith, append_assoc, ◌⊎◌, inl, inr, Option, Some, None}
+use Rattle.std.proofs.Common.{◌≡◌, ℕ, ◌≤◌, ◌<◌, min, List, [], ◌∷◌, ◌++◌, length, take, refl, subst, sym, ap, ◌∙◌, Bool, true, false, eqb, if◌then◌else◌, arith, append_assoc, inl, Option, Some, None}
 use Rattle.std.specs.Prelude.{is_some}
 use Rattle.std.specs.Option.{option_map}
-use Rattle.std.proofs.lemmas.Bool.{eqb-true, eq-eqb, cases_lt}
+use Rattle.std.proofs.lemmas.Bool.{eqb-true, eq-eqb}
 use Rattle.std.proofs.lemmas.List.{append-nil}
 use Rattle.plain_orders.specs.declared.act.Act.{Act}
 use Rattle.plain_orders.specs.declared.act.Act.TheVariants.{Opened, Enter, Synced, Shut, Release, Met, Told, Back, Crash, Issue, Read, Grant, Granted, GiveUp, Quit, Free, Counted, NotWhole, Range, Committed, RolledBack, Reached, Level, Done, Refused, Broke, Mended, Tick, Lose, Died}
-use Rattle.plain_orders.specs.declared.entry.Entry.{Entry}
 use Rattle.plain_orders.specs.declared.entry.Entry.TheVariants.{Closed}
 use Rattle.plain_orders.specs.declared.layout.Layout.{Layout}
 use Rattle.plain_orders.specs.declared.refused.Refused.{Refused as Refusal}
@@ -20,7 +19,7 @@ use Rattle.plain_orders.specs.Own.{Issued}
 use Rattle.plain_runs.specs.Plain.{Plain, Server, Session, Known, Pair, start, put, app_of, runs_on, pair_session, with_known}
 use Rattle.plain_runs.specs.OrderRows.{CrashMay, crashed}
 use Rattle.plain_runs.specs.EndRows.{broke, lost, shut, met_by, told_of, begun_by, knows_noway, new_session}
-use Rattle.plain_runs.specs.JobRows.{acts, acted, issues, refused, sees_up, txn_of, has_session, told_loss}
+use Rattle.plain_runs.specs.JobRows.{acts, issues, refused, sees_up, txn_of, has_session}
 use Rattle.plain_runs.specs.Step.{MayCome, after}
 use Rattle.plain_runs.specs.Run.{IsRun, RunFrom, after_all, state_after}
 use Rattle.plain_runs.specs.Laws.{server_after}
@@ -65,7 +64,7 @@ module _ (l : Layout) (C D : ℕ → Type 0) (more : (n : ℕ) → C n → D n) 
   no_pair s app x some a = go (eqb a app) refl
     where
       go : (b : Bool) → eqb a app ≡ b → (if b then x else s.pair_at a).session ≡ None → ((a ≡ app) → ⊥) × ((s.pair_at a).session ≡ None)
-      go true e p = absurd (cc (some, ap is_some p))
+      go true e p = absurd (cc (some, p))
       go false e p = ((λ same. absurd (cc (e, eq-eqb a app same))), p)
 
   met_seen : (s : Server) (app session : ℕ) → S s (met_by l s app session)

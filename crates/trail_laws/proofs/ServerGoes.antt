@@ -1,9 +1,8 @@
 -- What becomes of a server's holds, of what was issued, and of the orders that sessions are told of.
-use Rattle.std.proofs.Common.{◌≡◌, ℕ, zero, suc, ◌≤◌, ◌<◌, ◌+◌, List, [], ◌∷◌, ◌++◌, length, take, refl, subst, sym, ap, ◌∙◌, Bool, true, false, eqb, if◌then◌else◌, arith, append_assoc, ◌⊎◌, inl, inr, Option, Some, None, ◌&&◌, ◌||◌, not, ◌==◌}
+use Rattle.std.proofs.Common.{◌≡◌, ℕ, ◌≤◌, ◌<◌, ◌+◌, List, [], ◌∷◌, ◌++◌, length, take, refl, subst, sym, ap, ◌∙◌, Bool, true, false, eqb, if◌then◌else◌, arith, append_assoc, ◌⊎◌, inl, inr, Option, Some, None, ◌&&◌, ◌||◌, not, ◌==◌}
 use Rattle.std.specs.Prelude.{is_some, unwrap_or}
 use Rattle.std.specs.Option.{option_map}
 use Rattle.std.proofs.lemmas.Bool.{and_parts, not-true, cases_lt, eqb-true}
-use Rattle.std.proofs.lemmas.Option.{same_Some}
 use Rattle.std.proofs.lemmas.List.{append-nil}
 use Rattle.plain_orders.specs.declared.act.Act.{Act}
 use Rattle.plain_orders.specs.declared.act.Act.TheVariants.{Opened, Enter, Synced, Shut, Release, Met, Told, Back, Crash, Issue, Read, Grant, Granted, GiveUp, Quit, Free, Counted, NotWhole, Range, Committed, RolledBack, Reached, Level, Done, Refused, Broke, Mended, Tick, Lose, Died}
@@ -21,7 +20,7 @@ use Rattle.plain_orders.specs.declared.causes.PairEnd.{PairEnd}
 use Rattle.plain_orders.specs.declared.causes.PairEnd.TheVariants.{App as AppEnd, Server as ServerEnd}
 use Rattle.plain_orders.specs.Entries.{last_epoch}
 use Rattle.plain_orders.specs.Own.{Issued}
-use Rattle.plain_runs.specs.Plain.{Plain, Server, Session, Entered, Hold, Given, put, start, app_of, pair_session, session_in}
+use Rattle.plain_runs.specs.Plain.{Plain, Server, Session, Entered, Hold, start, app_of, pair_session}
 use Rattle.plain_runs.specs.Holds.{is_sent, is_of, is_lock, is_kept, is_asked, is_sent_at, answered_hold, given_up, released_hold, freed_hold, hold_after_back, hold_after_crash}
 use Rattle.plain_runs.specs.OrderRows.{OpenedMay, EnterMay, CrashMay, entered, opened_with, crashed, came_back}
 use Rattle.plain_runs.specs.EndRows.{MetMay, ToldMay, broke, lost, shut, met_by, told_of, begun_by, since_loss, new_session, without_session}
@@ -33,14 +32,14 @@ use Rattle.plain_runs.specs.Laws.{server_after}
 use Rattle.plain_runs.proofs.RunLemmas.{at_put, after_all-more, run_parts}
 use Rattle.plain_runs.proofs.Orders.{Each, OrdersGo, OrdersKept, facet}
 use Rattle.plain_runs.proofs.OrderLaws.{orders_kept}
-use Rattle.plain_runs.proofs.HoldRows.{HoldKept, IssuedGrows, issued_of, sent_facts}
+use Rattle.plain_runs.proofs.HoldRows.{IssuedGrows, issued_of, sent_facts}
 use Rattle.plain_runs.proofs.LockRows.{LocksKept, HoldOf, locks}
 use Rattle.plain_runs.proofs.LockLaws.{locks_kept}
 use Rattle.plain_runs.proofs.Bases.{ToldKept, sight, told_in, place_in, or_else}
 use Rattle.plain_runs.proofs.SeenLaw.{told_kept}
 use Rattle.plain_runs.proofs.ToldItems.{nth, last_nth}
 use Rattle.trail_laws.proofs.Durable.{orders_go}
-use Rattle.trail_laws.proofs.HoldGoes.{HoldGoes, Goes, Follow, Stay, stands, stands_low, stay_same, stay_longer, hold_same, hold_answered, hold_given, hold_released, hold_away, hold_crash, follow_same, follow_any, follow_map, follow_push, follow_first, follow_last, follow_on}
+use Rattle.trail_laws.proofs.HoldGoes.{HoldGoes, Goes, Follow, stands, stands_low, stay_same, stay_longer, hold_same, hold_answered, hold_given, hold_released, hold_away, hold_crash, follow_same, follow_any, follow_map, follow_push, follow_first, follow_last, follow_on}
 
 -- what this sees of a server
 pub record Grip : Type 0 where
@@ -82,10 +81,10 @@ based_same o n e = (n, (e, omega arith))
 based_to : (a b : Option ℕ) → a ≡ b → Based a b
 based_to a b same n e = (n, (sym same ∙ e, omega arith))
 
-still : (s : Server) (h : Hold) → Goes s.past s.order h h
+pub still : (s : Server) (h : Hold) → Goes s.past s.order h h
 still s h = hold_same s.past s.order s.past s.order h (λ _. stay_same h.at s.past s.order)
 
-away : (s : Server) (h : Hold) (force x : Bool) → Goes s.past s.order h (record h { in_force = force; gone = h.gone || x })
+pub away : (s : Server) (h : Hold) (force x : Bool) → Goes s.past s.order h (record h { in_force = force; gone = h.gone || x })
 away s h force x = hold_away s.past s.order s.past s.order h force x (λ _. stay_same h.at s.past s.order)
 
 module _ (l : Layout) where

@@ -1,11 +1,11 @@
 -- The text of a whole number of few digits is read back as it.
-use Rattle.std.proofs.Common.{◌≡◌, ℕ, zero, suc, ◌≤◌, ◌<◌, ◌+◌, ◌-◌, ◌*◌, ◌≢◌, ◌/◌, ◌%◌, ◌^◌, List, [], ◌∷◌, length, refl, subst, sym, ap, ◌∙◌, Bool, true, false, cond, ◌&&◌, ◌||◌, ◌==◌, if◌then◌else◌, arith, ◌⊎◌, inl, inr, Option, Some, None, ℤ, pos, negsuc}
-use Rattle.std.specs.Prelude.{nat_le, nat_lt, unsigned_abs, neg_ℤ}
+use Rattle.std.proofs.Common.{◌≡◌, ℕ, zero, suc, ◌≤◌, ◌<◌, ◌+◌, ◌*◌, ◌≢◌, ◌/◌, ◌%◌, ◌^◌, List, [], ◌∷◌, length, refl, ap, ◌∙◌, Bool, true, false, ◌&&◌, ◌||◌, ◌==◌, if◌then◌else◌, arith, ◌⊎◌, inl, inr, Some, None, ℤ, pos, negsuc}
+use Rattle.std.specs.Prelude.{nat_le, nat_lt, neg_ℤ}
 use Rattle.std.specs.List.{list_all}
 use Rattle.std.proofs.Math.Nat.{pow-suc}
-use Rattle.std.proofs.lemmas.Bool.{eqb-true, eqb-false, eq-eqb, and_parts, and_from, ltb-true, lt-ltb, le-leb}
+use Rattle.std.proofs.lemmas.Bool.{eqb-true, eqb-false, and_from, ltb-true, lt-ltb, le-leb}
 use Rattle.subscript_keys.specs.declared.limits.TheConstants.{DIGIT_LIMIT, NUMBER_LIMIT}
-use Rattle.plain_orders.specs.Numbers.{is_short, digits_before, natural_text, integer_text, is_digit, number_from, is_natural, negative_of, whole_of}
+use Rattle.plain_orders.specs.Numbers.{is_short, digits_before, natural_text, integer_text, is_digit, number_from, is_natural, whole_of}
 
 -- the digits of a number in front of a text write it in front
 digits_number : (t n : ℕ) (text : List ℕ) → n ≤ t → number_from 0 (digits_before (suc t) n text) ≡ number_from n text

@@ -1,5 +1,5 @@
 -- What is synced stays, and what was answered.
-use Rattle.std.specs.Prelude.{◌≡◌, ℕ, Bool, true, false, ◌==◌, ◌&&◌, ◌≤◌, List, [], ◌∷◌, ◌++◌, Option, Some, None, IsSomeAnd}
+use Rattle.std.specs.Prelude.{◌≡◌, ℕ, Bool, true, false, ◌==◌, ◌&&◌, ◌≤◌, List, [], ◌∷◌, ◌++◌, Option, Some, None, IsSomeAnd, pos}
 use Rattle.plain_orders.specs.declared.entry.Entry.{Entry}
 use Rattle.plain_orders.specs.declared.entry.Entry.TheVariants.{Epoch, Opened as OpenEntry, Closed, Update, Commit, Rollback}
 use Rattle.plain_orders.specs.declared.act.Act.{Act}
@@ -10,6 +10,7 @@ use Rattle.plain_runs.specs.Plain.{current, order_at}
 use Rattle.plain_runs.specs.Items.{is_add_op}
 use Rattle.plain_runs.specs.Run.{IsRun}
 use Rattle.plain_runs.specs.Laws.{server_after}
+use Rattle.trail_laws.specs.ExampleTrails.{added, two_jobs}
 
 -- An entry at a position that is synced stands there in every order from then on.
 abbrev pub EntriesStay : Type 0
@@ -92,3 +93,7 @@ AnswersStay =
     → current (server_after layout before answer.server) ≤ k → k ≤ current (server_after layout (before ++ a ∷ later) answer.server)
     → (entry_at (order_at (server_after layout (before ++ a ∷ later) answer.server) k) answer.at ≡ entry_at (server_after layout before answer.server).order answer.at)
     × IsSomeAnd (entry_at (server_after layout before answer.server).order answer.at) (λ e. answer.its e ≡ true)
+
+-- An increment is answered and a later order begins.
+abbrev pub DurableExample : Type 0
+DurableExample = IsRun two_jobs (added ++ Counted 0 5 0 3 (pos 1) ∷ Crash 0 4 ∷ []) × (current (server_after two_jobs (added ++ Counted 0 5 0 3 (pos 1) ∷ Crash 0 4 ∷ []) 0) ≡ 1)

@@ -1,5 +1,5 @@
 -- Two increments never both answer the same number.
-use Rattle.std.specs.Prelude.{◌≡◌, ◌≢◌, ℕ, zero, suc, Bool, true, false, ◌&&◌, ◌<◌, List, [], ◌∷◌, ◌++◌, IsSomeAnd, ℤ, pos, negsuc, nat_eq, nat_lt, min, max}
+use Rattle.std.specs.Prelude.{◌≡◌, ◌≢◌, ℕ, Bool, true, false, ◌&&◌, ◌<◌, List, [], ◌∷◌, ◌++◌, IsSomeAnd, ℤ, pos, negsuc, nat_eq, nat_lt, min, max}
 use Rattle.std.specs.Cmp.Lexicographic.{pointwise}
 use Rattle.plain_orders.specs.declared.op.Op.{Op}
 use Rattle.plain_orders.specs.declared.op.Op.TheVariants.{Set, Kill, Add}
@@ -11,6 +11,7 @@ use Rattle.plain_orders.specs.declared.layout.Layout.{Layout}
 use Rattle.plain_orders.specs.Entries.{entry_at}
 use Rattle.plain_runs.specs.Run.{IsRun}
 use Rattle.plain_runs.specs.Laws.{server_after}
+use Rattle.trail_laws.specs.ExampleTrails.{added, two_jobs, x_node}
 use Rattle.trail_laws.specs.Touches.{touched_at}
 
 -- a whole number is positive
@@ -52,3 +53,12 @@ IncrementsDiffer =
     → RisesAt (server_after layout (before ++ Counted job line d at sum ∷ middle) d).order node other_at
     → NoneBetween (server_after layout (before ++ Counted job line d at sum ∷ middle) d).order node at other_at
     → sum ≢ other_sum
+
+-- Two increments are answered by 1 and 3.
+abbrev pub IncrementExample : Type 0
+IncrementExample =
+    IsRun two_jobs (added ++ Counted 0 5 0 3 (pos 1) ∷ [] ++ Counted 0 6 0 4 (pos 3) ∷ [])
+    × (◌≢◌ {A = ℕ} 3 4)
+    × RisesAt (server_after two_jobs (added ++ Counted 0 5 0 3 (pos 1) ∷ []) 0).order x_node 3
+    × RisesAt (server_after two_jobs (added ++ Counted 0 5 0 3 (pos 1) ∷ []) 0).order x_node 4
+    × NoneBetween (server_after two_jobs (added ++ Counted 0 5 0 3 (pos 1) ∷ []) 0).order x_node 3 4

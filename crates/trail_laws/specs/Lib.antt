@@ -1,3 +1,4 @@
+pub mod ExampleTrails
 pub mod OrderLaw
 pub mod DurableLaw
 pub mod PrefixLaw

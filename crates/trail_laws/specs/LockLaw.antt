@@ -1,19 +1,24 @@
 -- What stands in the order when a lock goes from one holder to another, and what no longer enters then.
 use Rattle.std.specs.Prelude.{◌≡◌, ℕ, true, false, ◌<◌, ◌≤◌, List, [], ◌∷◌, ◌++◌, length, take, Some, ◌⊎◌, IsSomeAnd}
 use Rattle.std.specs.List.{list_any}
+use Rattle.plain_orders.specs.declared.op.Op.TheVariants.{Set}
 use Rattle.plain_orders.specs.declared.entry.Entry.{Entry}
+use Rattle.plain_orders.specs.declared.entry.Entry.TheVariants.{Update}
 use Rattle.plain_orders.specs.declared.act.Act.{Act}
 use Rattle.plain_orders.specs.declared.act.Act.TheVariants.{Enter, Grant}
 use Rattle.plain_orders.specs.declared.layout.Layout.{Layout}
 use Rattle.plain_orders.specs.declared.mode.Mode.{Mode}
+use Rattle.plain_orders.specs.declared.mode.Mode.TheVariants.{Exclusive}
 use Rattle.plain_orders.specs.Entries.{closes}
 use Rattle.plain_orders.specs.ItemEntries.{is_item_of, w_of}
-use Rattle.plain_runs.specs.Plain.{Server, Session, Hold, Given, current, issued_in, order_at}
+use Rattle.plain_runs.specs.Plain.{Server, Session, Hold, Given, app_of, current, issued_in, order_at}
 use Rattle.plain_runs.specs.Holds.{binds, opposes, touched}
 use Rattle.plain_runs.specs.Items.{all_stand}
 use Rattle.plain_runs.specs.Run.{IsRun}
 use Rattle.plain_runs.specs.Laws.{IsHold, server_after}
+use Rattle.trail_laws.specs.ExampleTrails.{first_hold, handed_over, second_hold, taken_over, two_jobs, x_node}
 use Rattle.trail_laws.specs.OrderLaw.{is_by}
+use Rattle.trail_laws.specs.PrefixLaw.{seen_after}
 
 -- A Close of the hold's session is among the entries, or it was given up and all that its job had issued in its session before is.
 abbrev pub IsHandedOverIn : List Entry → Server → Hold → Type 0
@@ -56,6 +61,13 @@ GrantIsTold =
     → (server_after layout (before ++ Grant d session job mode key at ∷ later) d).session_at session ≡ Some m
     → take at (order_at (server_after layout (before ++ Grant d session job mode key at ∷ later) d) m.told) ≡ (server_after layout before d).order
 
+-- A job whose hold is answered has seen as many entries as stood when it was granted, as long as its pair has the hold's session.
+abbrev pub HoldIsSeen : Type 0
+HoldIsSeen =
+    (layout : Layout) (acts : List Act) (d i : ℕ) (h : Hold) → IsRun layout acts → IsHold (server_after layout acts d) i h → h.answered ≡ true
+    → ((server_after layout acts d).pair_at (app_of layout h.job)).session ≡ Some h.session
+    → h.at ≤ seen_after layout acts d h.job
+
 -- Where the grant is answered, no item enters after it that the conflicting hold's job had issued in its session before it gave that hold up.
 abbrev pub NoLateUpdate : Type 0
 NoLateUpdate =
@@ -66,3 +78,13 @@ NoLateUpdate =
     → IsHold (server_after layout (before ++ Grant d session job mode key at ∷ middle ++ Enter d e ∷ later) d) (length (server_after layout before d).holds) n → n.answered ≡ true
     → is_item_of k.session e ≡ true → is_by k.job e ≡ true
     → g.before < w_of e
+
+-- A lock goes from job 0 to job 1, and then an item of job 0 enters that it issued after it had given the lock up.
+abbrev pub LockExample : Type 0
+LockExample =
+    IsRun two_jobs (handed_over ++ Grant 0 2 1 Exclusive x_node 3 ∷ taken_over ++ Enter 0 (Update 2 2 0 0 (Set x_node (54 ∷ []))) ∷ [])
+    × IsHold (server_after two_jobs handed_over 0) 0 first_hold
+    × (opposes 2 1 Exclusive x_node first_hold ≡ true)
+    × IsHold (server_after two_jobs (handed_over ++ Grant 0 2 1 Exclusive x_node 3 ∷ taken_over ++ Enter 0 (Update 2 2 0 0 (Set x_node (54 ∷ []))) ∷ []) 0) 0 first_hold
+    × (length (server_after two_jobs handed_over 0).holds ≡ 1)
+    × IsHold (server_after two_jobs (handed_over ++ Grant 0 2 1 Exclusive x_node 3 ∷ taken_over ++ Enter 0 (Update 2 2 0 0 (Set x_node (54 ∷ []))) ∷ []) 0) 1 second_hold

@@ -1,5 +1,5 @@
 -- The items of a session and of its jobs stand in order.
-use Rattle.std.specs.Prelude.{ℕ, Bool, false, ◌==◌, ◌&&◌, ◌<◌, if◌then◌else◌, List, [], ◌∷◌}
+use Rattle.std.specs.Prelude.{◌≡◌, ℕ, Bool, false, ◌==◌, ◌&&◌, ◌<◌, if◌then◌else◌, List, [], ◌∷◌}
 use Rattle.plain_orders.specs.declared.entry.Entry.{Entry}
 use Rattle.plain_orders.specs.declared.entry.Entry.TheVariants.{Epoch, Opened, Closed, Update, Commit, Rollback}
 use Rattle.plain_orders.specs.declared.act.Act.{Act}
@@ -8,6 +8,7 @@ use Rattle.plain_orders.specs.ItemEntries.{is_item_of, w_of}
 use Rattle.plain_runs.specs.Plain.{order_at}
 use Rattle.plain_runs.specs.Run.{IsRun}
 use Rattle.plain_runs.specs.Laws.{server_after}
+use Rattle.trail_laws.specs.ExampleTrails.{rolled_back, two_jobs}
 
 -- the entry is an item of this job
 abbrev pub is_by : ℕ → Entry → Bool
@@ -33,3 +34,7 @@ abbrev pub JobsInOrder : Type 0
 JobsInOrder =
     (layout : Layout) (acts : List Act) (d k session job : ℕ) → IsRun layout acts
     → RiseAbove 0 (job_numbers (order_at (server_after layout acts d) k) session job)
+
+-- A job has two items in a session.
+abbrev pub OrderExample : Type 0
+OrderExample = IsRun two_jobs rolled_back × (job_numbers (order_at (server_after two_jobs rolled_back 0) 0) 2 0 ≡ 1 ∷ 2 ∷ [])

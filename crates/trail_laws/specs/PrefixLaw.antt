@@ -1,10 +1,11 @@
 -- What a job has seen falls only where a restart had cut the list.
 use Rattle.std.specs.Prelude.{◌≡◌, ℕ, true, ◌<◌, ◌≤◌, List, [], ◌∷◌, ◌++◌, length}
 use Rattle.plain_orders.specs.declared.act.Act.{Act}
-use Rattle.plain_orders.specs.declared.act.Act.TheVariants.{Crash}
+use Rattle.plain_orders.specs.declared.act.Act.TheVariants.{Crash, Told}
 use Rattle.plain_orders.specs.declared.layout.Layout.{Layout}
 use Rattle.plain_runs.specs.Run.{IsRun}
 use Rattle.plain_runs.specs.Laws.{may_fall, server_after}
+use Rattle.trail_laws.specs.ExampleTrails.{cut_off, two_jobs}
 
 -- what a job has seen of a server after a trail
 abbrev pub seen_after : Layout → List Act → ℕ → ℕ → ℕ
@@ -25,3 +26,7 @@ SeenFallsWhereCut =
     (layout : Layout) (acts : List Act) (a : Act) (d j : ℕ) → IsRun layout (acts ++ a ∷ [])
     → seen_after layout (acts ++ a ∷ []) d j < seen_after layout acts d j
     → (may_fall a ≡ true) × WasCut layout acts d (seen_after layout acts d j)
+
+-- What a job has seen falls by a `told`.
+abbrev pub PrefixExample : Type 0
+PrefixExample = IsRun two_jobs (cut_off ++ Told 0 0 2 2 2 ∷ []) × (seen_after two_jobs (cut_off ++ Told 0 0 2 2 2 ∷ []) 0 0 < seen_after two_jobs cut_off 0 0)

@@ -1,6 +1,7 @@
 -- A transaction that is rolled back leaves no trace.
 use Rattle.std.specs.Prelude.{◌≡◌, ℕ, Bool, true, false, ◌==◌, ◌&&◌, List, [], ◌∷◌, ◌++◌}
 use Rattle.std.specs.List.{AllByRecursion}
+use Rattle.plain_orders.specs.declared.op.Op.TheVariants.{Set}
 use Rattle.plain_orders.specs.declared.entry.Entry.{Entry}
 use Rattle.plain_orders.specs.declared.entry.Entry.TheVariants.{Epoch, Opened, Closed, Update, Commit, Rollback}
 use Rattle.plain_orders.specs.declared.act.Act.{Act}
@@ -12,6 +13,7 @@ use Rattle.plain_orders.specs.PairMap.{value_at}
 use Rattle.plain_runs.specs.Plain.{order_at}
 use Rattle.plain_runs.specs.Run.{IsRun}
 use Rattle.plain_runs.specs.Laws.{server_after}
+use Rattle.trail_laws.specs.ExampleTrails.{rolled_back, two_jobs, x_node}
 use Rattle.trail_laws.specs.Touches.{has_touched}
 
 -- the entry is an update of the transaction
@@ -62,3 +64,12 @@ LeavesNoTrace =
     → AllByRecursion (λ e. is_update_in session job txn e ≡ false → update_touches node e ≡ false) middle
     → AllByRecursion (λ (t : Transaction). has_touched node t ≡ false) (fold before).begun
     → value_at (fold (before ++ first ∷ middle ++ last ∷ [])).pairs node ≡ value_at (fold before).pairs node
+
+-- A transaction of job 0 sets a node and is rolled back.
+abbrev pub RollbackExample : Type 0
+RollbackExample =
+    IsRun two_jobs rolled_back
+    × (order_at (server_after two_jobs rolled_back 0) 0 ≡ (Epoch 1 ∷ Opened 2 0 ∷ []) ++ Update 2 1 0 1 (Set x_node (53 ∷ [])) ∷ [] ++ Rollback 2 2 0 1 ∷ [])
+    × (is_begun 2 0 1 (fold (Epoch 1 ∷ Opened 2 0 ∷ [])).begun ≡ false)
+    × (is_update_in 2 0 1 (Update 2 1 0 1 (Set x_node (53 ∷ []))) ≡ true)
+    × (rolls_back 2 0 1 (Rollback 2 2 0 1) ≡ true)

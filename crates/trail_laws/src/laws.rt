@@ -2,7 +2,7 @@ ghost use Rattle.plain_runs.specs.Laws.{ItemsInOrder, ItemsWereIssued, SeenIsTol
 ghost use Rattle.trail_laws.specs.OrderLaw.{JobsInOrder};
 ghost use Rattle.trail_laws.specs.DurableLaw.{AnswersStay, EntriesStay};
 ghost use Rattle.trail_laws.specs.IncrementLaw.{IncrementsDiffer};
-ghost use Rattle.trail_laws.specs.LockLaw.{GrantIsTold, GrantStays, Handover, NoLateUpdate};
+ghost use Rattle.trail_laws.specs.LockLaw.{GrantIsTold, GrantStays, Handover, HoldIsSeen, NoLateUpdate};
 ghost use Rattle.trail_laws.specs.PrefixLaw.{SeenFallsWhereCut};
 ghost use Rattle.trail_laws.specs.RollbackLaw.{LeavesNoTrace};
 
@@ -41,11 +41,12 @@ pub fn law_increments()
 /// A hold that conflicts with a later grant to another holder was gone or no longer in force before it, and either a
 /// Close of its session stands in the entries of that moment, or all that its job had issued in its session before it
 /// gave the hold up. Once the grant is answered these entries stand in every order from then on, and in the one that
-/// the new holder's session is told of.
+/// the new holder's session is told of, and the new holder has seen them as long as its pair has that session.
 pub fn law_handover()
     ensures handover { Handover }
     ensures stays { GrantStays }
     ensures told { GrantIsTold }
+    ensures seen { HoldIsSeen }
 {}
 
 /// Nothing that a job issued in a session before it gave a hold up there enters after a conflicting grant that is
