@@ -1,12 +1,14 @@
 -- Moves that are refused since one condition fails.
-use Rattle.std.proofs.Common.{ℕ, List, refl, ap, ◌∙◌, arith, [], ◌∷◌, Option}
-use Rattle.std.specs.Prelude.{unwrap_or, false}
+use Rattle.std.proofs.Common.{◌≡◌, refl, ap, ◌∙◌, arith, [], ◌∷◌, Option}
+use Rattle.std.specs.Prelude.{unwrap_or}
 use Rattle.ecp_messages.specs.declared.up.UpFrame.{UpFrame}
 use Rattle.ecp_messages.specs.declared.down.DownFrame.{DownFrame}
+use Rattle.ecp_messages.specs.declared.up.Up.TheVariants.{Done}
+use Rattle.ecp_messages.specs.declared.down.Down.TheVariants.{Bare}
 use Rattle.block_cache.specs.declared.front.Front.{Front}
 use Rattle.app_rules.specs.Looks.{has_own_at, known_at}
 use Rattle.cluster_runs.specs.Views.{view_at}
-use Rattle.cluster_examples.specs.Scenes.{x_key, run_of, x_is_5}
+use Rattle.cluster_examples.specs.Scenes.{x_key, run_of, x_is_5, up_frame, down_frame}
 use Rattle.cluster_examples.specs.JobRefusals.{StepRefusals, LookRefusals, owning}
 use Rattle.cluster_examples.specs.EndRefusals.{AppRefusals, ServerRefusals, BeginRefusals}
 use Rattle.cluster_examples.proofs.Frames.{x_is_site}
@@ -56,7 +58,7 @@ app_refusals = (
   (λ may. omega (arith, may.now_may.clock)),
   (λ may. omega (arith, may.now_may.no_less)),
   (λ may. absurd (cc (may.takes))),
-  (λ may. absurd (cc (may.takes))),
+  (λ may. let e : 0 ≡ 1 = ap (λ (o : Option DownFrame). (unwrap_or o (down_frame 0 0 Bare)).seq) may.takes in omega (arith, e)),
   (λ may. absurd (cc (may.may.tried))),
   (λ may. omega (arith, may.may.rose)),
   (λ may. omega (arith, may.may)),
@@ -74,8 +76,8 @@ server_refusals = (
   (λ may. absurd (cc (may.takes.0))),
   (λ may. absurd (cc (may.takes.1.unlinked))),
   (λ may. absurd (cc (may.takes.1.unlinked))),
-  (λ may. absurd (cc (may.takes.1.first))),
-  (λ may. absurd (cc (may.takes.1))),
+  (λ may. let e : 0 ≡ 7 = ap (λ (o : Option UpFrame). (unwrap_or o (up_frame 0 0 Done)).ack) may.takes.1.first in omega (arith, e)),
+  (λ may. let e : 1 ≡ 2 = ap (λ (o : Option UpFrame). (unwrap_or o (up_frame 0 0 Done)).seq) may.takes.1 in omega (arith, e)),
   (λ may. absurd (cc (may.takes))),
   (λ may. omega (arith, may.may.no_less)),
   (λ may. omega (arith, may.may.within)),
