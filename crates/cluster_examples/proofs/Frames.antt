@@ -1,5 +1,5 @@
 -- Keys, frames and blocks of the runs have their forms.
-use Rattle.std.proofs.Common.{[], ◌∷◌, ℕ, refl, arith}
+use Rattle.std.proofs.Common.{[], ◌∷◌, refl, arith}
 use Rattle.subscript_keys.specs.Key.{IsKey, IsNode, key_of}
 use Rattle.plain_orders.specs.Ordered.{KeyMay}
 use Rattle.app_job.specs.Sites.{IsSite}

@@ -5,7 +5,7 @@ use Rattle.app_rules.specs.Looks.{nothing_shown}
 use Rattle.cluster_runs.specs.CoresState.{CoresState, start}
 use Rattle.cluster_runs.specs.Moves.{Allowed}
 use Rattle.cluster_runs.specs.declared.moves.Move.TheVariants.{Step, Looked}
-use Rattle.cluster_examples.specs.Scenes.{x, x_key, run_of, x_is_5}
+use Rattle.cluster_examples.specs.Scenes.{x, x_key}
 use Rattle.cluster_examples.specs.FirstRun.{layout, tried, issued, cached, read}
 use Rattle.plain_orders.specs.declared.op.Op.TheVariants as ops
 

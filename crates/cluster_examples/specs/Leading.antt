@@ -8,4 +8,3 @@ use Rattle.cluster_runs.specs.Steps.{Made, CoresStep}
 abbrev pub Leads : CoresState → List Made → CoresState → Type 0
 Leads c [] d = d ≡ c
 Leads c (made ∷ more) d = (next : CoresState) × Allowed c made.move × CoresStep c made next × Leads next more d
-
