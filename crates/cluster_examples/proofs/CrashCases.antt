@@ -1,15 +1,16 @@
 -- A data server crashes before it saved an item; a round, a Claim, and the item again.
 use Rattle.std.proofs.Common.{refl, inl, inr, arith, [], ◌∷◌}
-use Rattle.cluster_examples.proofs.Frames.{a_field, app_outs_of, x_field, x_may}
+use Rattle.cluster_examples.proofs.Frames.{a_field, a_may, app_outs_of, x_field, x_may}
 use Rattle.cluster_examples.specs.Leading.{Leads}
 use Rattle.cluster_examples.specs.Scenes.{down_frame, head}
 use Rattle.cluster_runs.specs.CoresState.{app_at}
 use Rattle.cluster_runs.specs.Moves.{Allowed}
 use Rattle.cluster_runs.specs.Steps.{CoresStep, app_takes}
 use Rattle.cluster_runs.specs.Views.{shown_at, with_shown}
+use Rattle.plain_runs.specs.Run.{IsRun}
 use Rattle.ecp_messages.specs.declared.down.Down.TheVariants as downs
 use Rattle.app_rules.specs.declared.app_in.AppIn.TheVariants as app_in
-use Rattle.cluster_examples.specs.Crash.{first, halted_by, halted, began_by, began, saved_epoch_node, saved_epoch_by, saved_epoch, broken_by, broken, joining_by, joining, dialed_by, dialed, accepted_node, accepted_by, accepted, returned_node, returned_by, returned, learned_by, learned, claimed_node, claimed_by, claimed, reentered_node, reentered_by, reentered, back_node, back_by, back, normal_by, normal, saved_node, saved_by, saved, CrashIsMended}
+use Rattle.cluster_examples.specs.Crash.{layout, first, halted_by, halted, began_by, began, saved_epoch_node, saved_epoch_by, saved_epoch, broken_by, broken, joining_by, joining, dialed_by, dialed, accepted_node, accepted_by, accepted, returned_node, returned_by, returned, learned_by, learned, claimed_node, claimed_by, claimed, reentered_node, reentered_by, reentered, back_node, back_by, back, normal_by, normal, saved_node, saved_by, saved, CrashIsMended}
 
 halted_may : Allowed first halted_by.move
 halted_may = record { known = omega arith; is_up = refl }
@@ -95,8 +96,11 @@ saved_may = record { known = omega arith; now_may = record { clock = refl; no_le
 saved_step : CoresStep normal saved_by saved
 saved_step = record { data_outs = record { frames = saved_by.outs.downs; cuts = saved_by.outs.data_cuts; acts = saved_by.acts }; state = saved_node; steps = refl; puts = refl; acts = refl; after = refl }
 
+is_run : IsRun layout saved.trail
+is_run = (record { fresh = refl; ordered = tt; low = omega arith }, (record { opened = refl; place = refl; alone = refl; up = refl }, (record { opened = refl; no_less = omega arith; within = omega arith }, ((refl, record { place = refl; synced = omega arith; entered = refl; not_lost = refl; fresh = refl; none = refl }), (record { is_live = refl; up = refl; here = refl; free = refl; node = a_may }, ((record { known = omega arith; alive = refl; free = refl }, record { session = refl; sent = refl; synced = omega arith }), ((record { known = omega arith; alive = refl; free = refl }, record { there = refl; unbroken = refl; next = refl; its = record { key_may = x_may; within = omega arith } }), (record { is_live = refl; told = refl; next = refl; issued = refl }, (record { opened = refl; no_less = omega arith; within = omega arith; low = omega arith }, (record { opened = refl; no_less = omega arith; within = omega arith }, (record { alive = refl; now = refl; there = refl; fresh = refl }, (record { alive = refl; broken = refl }, ((refl, record { its = refl; later = omega arith; place = refl }), (record { is_live = refl; told = refl; next = refl; issued = refl }, (record { recovering = refl; told = refl; counted = refl; closes = refl }, (record { opened = refl; no_less = omega arith; within = omega arith }, tt))))))))))))))))
+
 leads : Leads first (halted_by ∷ began_by ∷ saved_epoch_by ∷ broken_by ∷ joining_by ∷ dialed_by ∷ accepted_by ∷ returned_by ∷ learned_by ∷ claimed_by ∷ reentered_by ∷ back_by ∷ normal_by ∷ saved_by ∷ []) saved
 leads = (halted, halted_may, halted_step, (began, began_may, began_step, (saved_epoch, saved_epoch_may, saved_epoch_step, (broken, broken_may, broken_step, (joining, joining_may, joining_step, (dialed, dialed_may, dialed_step, (accepted, accepted_may, accepted_step, (returned, returned_may, returned_step, (learned, learned_may, learned_step, (claimed, claimed_may, claimed_step, (reentered, reentered_may, reentered_step, (back, back_may, back_step, (normal, normal_may, normal_step, (saved, saved_may, saved_step, refl))))))))))))))
 
 pub crash_is_mended : CrashIsMended
-crash_is_mended = leads
+crash_is_mended = (leads, is_run)

@@ -1,21 +1,22 @@
 -- The Cancel of a lock crosses its Grant.
-use Rattle.std.proofs.Common.{refl, inl, arith, [], ◌∷◌, Some, None, false}
+use Rattle.std.proofs.Common.{refl, inl, inr, arith, [], ◌∷◌, Some, None, false}
 use Rattle.app_rules.specs.JobStep.{work_of}
 use Rattle.app_rules.specs.Locking.{lock_turn, unlock_turn}
-use Rattle.cluster_examples.proofs.Frames.{a_field, a_is_site, app_outs_of}
+use Rattle.cluster_examples.proofs.Frames.{a_field, a_is_site, a_may, app_outs_of}
 use Rattle.cluster_examples.specs.Leading.{Leads}
 use Rattle.cluster_examples.specs.Scenes.{a, down_frame, head}
 use Rattle.cluster_runs.specs.CoresState.{app_at, job_at}
 use Rattle.cluster_runs.specs.Moves.{Allowed}
 use Rattle.cluster_runs.specs.Steps.{CoresStep, app_takes}
 use Rattle.cluster_runs.specs.Views.{shown_at, with_shown}
+use Rattle.plain_runs.specs.Run.{IsRun}
 use Rattle.plain_orders.specs.declared.mode.Mode.TheVariants as modes
 use Rattle.app_job.specs.declared.refusal.Refusal.TheVariants as refusals
 use Rattle.ecp_messages.specs.declared.down.Down.TheVariants as downs
 use Rattle.app_job.specs.declared.answer.Answer.TheVariants as answers
 use Rattle.app_job.specs.declared.why.Why.TheVariants as why
 use Rattle.app_rules.specs.declared.app_in.AppIn.TheVariants as app_in
-use Rattle.cluster_examples.specs.CrossingCancel.{first, ticked_by, ticked, timed_out_by, timed_out, unlocked_by, unlocked, granted_node, granted_by, granted, crossed_by, crossed, asking_by, asking, queued_node, queued_by, queued, cancelled_node, cancelled_by, cancelled, answered_by, answered, held_by, held, CancelCrossesGrant}
+use Rattle.cluster_examples.specs.CrossingCancel.{layout, first, ticked_by, ticked, timed_out_by, timed_out, unlocked_by, unlocked, granted_node, granted_by, granted, crossed_by, crossed, asking_by, asking, queued_node, queued_by, queued, cancelled_node, cancelled_by, cancelled, answered_by, answered, held_by, held, CancelCrossesGrant}
 
 ticked_may : Allowed first ticked_by.move
 ticked_may = tt
@@ -77,8 +78,11 @@ held_may = record { alive = record { known = omega arith; placed = omega arith; 
 held_step : CoresStep answered held_by held
 held_step = record { answer = answers.Granted 3; app_outs = app_outs_of held_by; app = app_at held 0; state = job_at held 0; steps = record { turn = lock_turn a modes.Exclusive None 1 (work_of (app_at answered 0) (job_at answered 0) 1 11); turns = refl; answered = refl; app = refl; puts = refl; job = refl }; puts = refl; acts = refl; after = refl }
 
+is_run : IsRun layout held.trail
+is_run = (record { fresh = refl; ordered = tt; low = omega arith }, (record { opened = refl; place = refl; alone = refl; up = refl }, (record { opened = refl; no_less = omega arith; within = omega arith }, ((refl, record { place = refl; synced = omega arith; entered = refl; not_lost = refl; fresh = refl; none = refl }), (record { is_live = refl; up = refl; here = refl; free = refl; node = a_may }, ((record { known = omega arith; alive = refl; free = refl }, record { session = refl; sent = refl; synced = omega arith }), (record { opened = refl; place = refl; alone = refl; up = refl }, (record { opened = refl; no_less = omega arith; within = omega arith }, ((refl, record { place = refl; synced = omega arith; entered = refl; not_lost = refl; fresh = refl; none = refl }), (tt, ((record { known = omega arith; alive = refl; free = refl }, record { session = refl; node = a_may }), ((record { known = omega arith; alive = refl }, refl), ((record { known = omega arith; alive = refl; free = refl }, record { session = refl; answered = refl }), (record { known = omega arith; alive = refl }, (record { given = refl; entered = refl }, (record { is_live = refl; up = refl; here = refl; free = refl; node = a_may }, (record { given = refl; entered = refl }, (record { is_live = refl; up = refl; here = refl; free = refl; node = a_may }, ((record { known = omega arith; alive = refl; free = refl }, record { session = refl; sent = refl; synced = omega arith }), tt)))))))))))))))))))
+
 leads : Leads first (ticked_by ∷ timed_out_by ∷ unlocked_by ∷ granted_by ∷ crossed_by ∷ asking_by ∷ queued_by ∷ cancelled_by ∷ answered_by ∷ held_by ∷ []) held
 leads = (ticked, ticked_may, ticked_step, (timed_out, timed_out_may, timed_out_step, (unlocked, unlocked_may, unlocked_step, (granted, granted_may, granted_step, (crossed, crossed_may, crossed_step, (asking, asking_may, asking_step, (queued, queued_may, queued_step, (cancelled, cancelled_may, cancelled_step, (answered, answered_may, answered_step, (held, held_may, held_step, refl))))))))))
 
 pub cancel_crosses_grant : CancelCrossesGrant
-cancel_crosses_grant = leads
+cancel_crosses_grant = (leads, is_run)

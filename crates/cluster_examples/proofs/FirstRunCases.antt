@@ -1,5 +1,5 @@
 -- The first worked run from the beginning: a job sets a node on a fresh server and reads it, move by move.
-use Rattle.std.proofs.Common.{refl, inl, arith, [], ◌∷◌, Some}
+use Rattle.std.proofs.Common.{refl, inl, inr, arith, [], ◌∷◌, Some}
 use Rattle.app_rules.specs.Issuing.{changes}
 use Rattle.app_rules.specs.JobStep.{work_of}
 use Rattle.app_rules.specs.Reading.{get_turn}
@@ -10,6 +10,7 @@ use Rattle.cluster_runs.specs.Moves.{Allowed}
 use Rattle.cluster_runs.specs.Reached.{CoresReachedBy}
 use Rattle.cluster_runs.specs.Steps.{CoresStep, app_takes}
 use Rattle.cluster_runs.specs.Views.{shown_at, with_shown}
+use Rattle.plain_runs.specs.Run.{IsRun}
 use Rattle.plain_orders.specs.declared.act.Act.TheVariants as acts
 use Rattle.plain_orders.specs.declared.op.Op.TheVariants as ops
 use Rattle.plain_orders.specs.declared.via.Via.TheVariants as vias
@@ -163,5 +164,8 @@ cached_reached = (fetched, fetched_reached, cached_may, cached_step)
 read_reached : CoresReachedBy layout (read_by ∷ cached_by ∷ fetched_by ∷ fetching_by ∷ acked_by ∷ saved_by ∷ entered_by ∷ issued_by ∷ met_by ∷ welcomed_by ∷ greeted_by ∷ accepted_by ∷ dialed_by ∷ tried_by ∷ saved_epoch_by ∷ began_by ∷ []) read
 read_reached = (cached, cached_reached, read_may, read_step)
 
+is_run : IsRun layout read.trail
+is_run = (record { fresh = refl; ordered = tt; low = omega arith }, (record { opened = refl; place = refl; alone = refl; up = refl }, (record { opened = refl; no_less = omega arith; within = omega arith }, ((refl, record { place = refl; synced = omega arith; entered = refl; not_lost = refl; fresh = refl; none = refl }), ((record { known = omega arith; alive = refl; free = refl }, record { there = refl; unbroken = refl; next = refl; its = record { key_may = x_may; within = omega arith } }), (record { is_live = refl; told = refl; next = refl; issued = refl }, (record { opened = refl; no_less = omega arith; within = omega arith }, ((record { known = omega arith; alive = refl; free = refl }, record { there = refl; no_less = omega arith; within = omega arith; answer = record { result = refl; by = refl; node = x_may } }), tt))))))))
+
 pub first_run_is_reached : FirstRunIsReached
-first_run_is_reached = read_reached
+first_run_is_reached = (read_reached, is_run)

@@ -59,3 +59,6 @@ block_1_is = record { has_block = record { span = refl; rising = (tt, tt); withi
 -- what an application server put, tried, ended and wrote, of what a move did
 abbrev pub app_outs_of : Made → AppOuts
 app_outs_of m = record { frames = m.outs.ups; connects = m.outs.connects; cuts = m.outs.app_cuts; acts = m.acts }
+
+pub a_may : KeyMay a_key
+a_may = record { is_key = a_is_key; within = omega arith }

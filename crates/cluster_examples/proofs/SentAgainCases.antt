@@ -9,11 +9,12 @@ use Rattle.cluster_runs.specs.CoresState.{app_at, job_at}
 use Rattle.cluster_runs.specs.Moves.{Allowed}
 use Rattle.cluster_runs.specs.Steps.{CoresStep, app_takes}
 use Rattle.cluster_runs.specs.Views.{shown_at, with_shown}
+use Rattle.plain_runs.specs.Run.{IsRun}
 use Rattle.plain_orders.specs.declared.op.Op.TheVariants as ops
 use Rattle.ecp_messages.specs.declared.down.Down.TheVariants as downs
 use Rattle.app_job.specs.declared.answer.Answer.TheVariants as answers
 use Rattle.app_rules.specs.declared.app_in.AppIn.TheVariants as app_in
-use Rattle.cluster_examples.specs.SentAgain.{first, issued_by, issued, reissued_by, reissued, entered_node, entered_by, entered, saved_node, saved_by, saved, left_node, left_by, left, broken_by, broken, joining_by, joining, dialed_by, dialed, accepted_node, accepted_by, accepted, recovered_node, recovered_by, recovered, welcomed_by, welcomed, dropped_by, dropped, acked_by, acked, reentered_node, reentered_by, reentered, RecoverSendsAgain}
+use Rattle.cluster_examples.specs.SentAgain.{layout, first, issued_by, issued, reissued_by, reissued, entered_node, entered_by, entered, saved_node, saved_by, saved, left_node, left_by, left, broken_by, broken, joining_by, joining, dialed_by, dialed, accepted_node, accepted_by, accepted, recovered_node, recovered_by, recovered, welcomed_by, welcomed, dropped_by, dropped, acked_by, acked, reentered_node, reentered_by, reentered, RecoverSendsAgain}
 
 issued_may : Allowed first issued_by.move
 issued_may = record { alive = record { known = omega arith; placed = omega arith; alive = refl }; now_may = record { clock = refl; no_less = omega arith }; line_may = omega arith; may = record { within = (x_is_site, omega arith); known = omega arith } }
@@ -99,8 +100,11 @@ reentered_may = record { known = omega arith; now_may = record { clock = refl; n
 reentered_step : CoresStep acked reentered_by reentered
 reentered_step = record { data_outs = record { frames = reentered_by.outs.downs; cuts = reentered_by.outs.data_cuts; acts = reentered_by.acts }; state = reentered_node; steps = record { taken = _; takes = inl (record { made = record { fits = λ _. record { is_live = refl; is_next = refl; within = record { key_may = x_may; within = omega arith } }; after = refl } }); after = refl }; puts = refl; acts = refl; after = refl }
 
+is_run : IsRun layout reentered.trail
+is_run = (record { fresh = refl; ordered = tt; low = omega arith }, (record { opened = refl; place = refl; alone = refl; up = refl }, (record { opened = refl; no_less = omega arith; within = omega arith }, ((refl, record { place = refl; synced = omega arith; entered = refl; not_lost = refl; fresh = refl; none = refl }), ((record { known = omega arith; alive = refl; free = refl }, record { there = refl; no_less = omega arith; within = omega arith; answer = record { result = refl; by = refl; node = x_may } }), ((record { known = omega arith; alive = refl; free = refl }, record { there = refl; unbroken = refl; next = refl; its = record { key_may = x_may; within = omega arith } }), ((record { known = omega arith; alive = refl; free = refl }, record { there = refl; unbroken = refl; next = refl; its = record { key_may = x_may; within = omega arith } }), (record { is_live = refl; told = refl; next = refl; issued = refl }, (record { opened = refl; no_less = omega arith; within = omega arith }, (record { now = refl; has_live = refl }, (record { alive = refl; now = refl; there = refl; fresh = refl }, (record { alive = refl; broken = refl }, (record { is_live = refl; told = refl; next = refl; issued = refl }, tt)))))))))))))
+
 leads : Leads first (issued_by ∷ reissued_by ∷ entered_by ∷ saved_by ∷ left_by ∷ broken_by ∷ joining_by ∷ dialed_by ∷ accepted_by ∷ recovered_by ∷ welcomed_by ∷ dropped_by ∷ acked_by ∷ reentered_by ∷ []) reentered
 leads = (issued, issued_may, issued_step, (reissued, reissued_may, reissued_step, (entered, entered_may, entered_step, (saved, saved_may, saved_step, (left, left_may, left_step, (broken, broken_may, broken_step, (joining, joining_may, joining_step, (dialed, dialed_may, dialed_step, (accepted, accepted_may, accepted_step, (recovered, recovered_may, recovered_step, (welcomed, welcomed_may, welcomed_step, (dropped, dropped_may, dropped_step, (acked, acked_may, acked_step, (reentered, reentered_may, reentered_step, refl))))))))))))))
 
 pub recover_sends_again : RecoverSendsAgain
-recover_sends_again = leads
+recover_sends_again = (leads, is_run)

@@ -8,6 +8,7 @@ use Rattle.cluster_runs.specs.Steps.{Made, no_outs}
 use Rattle.data_rules.specs.DataState.{DataState}
 use Rattle.data_rules.specs.declared.limits.TheConstants.{APP_LIMIT}
 use Rattle.plain_orders.specs.declared.layout.Layout.{Layout}
+use Rattle.plain_runs.specs.Run.{IsRun}
 use Rattle.plain_orders.specs.declared.act.Act.TheVariants as acts
 use Rattle.plain_orders.specs.declared.entry.Entry.TheVariants as entries
 use Rattle.plain_orders.specs.declared.op.Op.TheVariants as ops
@@ -220,3 +221,5 @@ saved = record normal { nodes = Some saved_node ∷ []; dials = record { app = 0
 abbrev pub CrashIsMended : Type 0
 CrashIsMended =
     Leads first (halted_by ∷ began_by ∷ saved_epoch_by ∷ broken_by ∷ joining_by ∷ dialed_by ∷ accepted_by ∷ returned_by ∷ learned_by ∷ claimed_by ∷ reentered_by ∷ back_by ∷ normal_by ∷ saved_by ∷ []) saved
+    -- and the plain machine takes the acts of its trail from the start
+    × IsRun layout saved.trail

@@ -8,6 +8,7 @@ use Rattle.cluster_runs.specs.Steps.{Made, no_outs}
 use Rattle.data_rules.specs.DataState.{DataState}
 use Rattle.data_rules.specs.declared.limits.TheConstants.{APP_LIMIT}
 use Rattle.plain_orders.specs.declared.layout.Layout.{Layout}
+use Rattle.plain_runs.specs.Run.{IsRun}
 use Rattle.plain_orders.specs.declared.act.Act.TheVariants as acts
 use Rattle.plain_orders.specs.declared.entry.Entry.TheVariants as entries
 use Rattle.plain_orders.specs.declared.mode.Mode.TheVariants as modes
@@ -198,3 +199,5 @@ held = record answered { apps = app_with 0 held_end ∷ app_with 1 crossed_end �
 abbrev pub CancelCrossesGrant : Type 0
 CancelCrossesGrant =
     Leads first (ticked_by ∷ timed_out_by ∷ unlocked_by ∷ granted_by ∷ crossed_by ∷ asking_by ∷ queued_by ∷ cancelled_by ∷ answered_by ∷ held_by ∷ []) held
+    -- and the plain machine takes the acts of its trail from the start
+    × IsRun layout held.trail

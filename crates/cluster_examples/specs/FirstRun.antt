@@ -8,6 +8,7 @@ use Rattle.cluster_runs.specs.Steps.{Made, no_outs}
 use Rattle.data_rules.specs.DataState.{DataState}
 use Rattle.data_rules.specs.declared.limits.TheConstants.{APP_LIMIT}
 use Rattle.plain_orders.specs.declared.layout.Layout.{Layout}
+use Rattle.plain_runs.specs.Run.{IsRun}
 use Rattle.plain_orders.specs.declared.act.Act.TheVariants as acts
 use Rattle.plain_orders.specs.declared.entry.Entry.TheVariants as entries
 use Rattle.plain_orders.specs.declared.op.Op.TheVariants as ops
@@ -246,4 +247,7 @@ first_run = read_by ∷ cached_by ∷ fetched_by ∷ fetching_by ∷ acked_by �
 
 -- these moves lead from the beginning to this state, each allowed
 abbrev pub FirstRunIsReached : Type 0
-FirstRunIsReached = CoresReachedBy layout first_run read
+FirstRunIsReached =
+    CoresReachedBy layout first_run read
+    -- and the plain machine takes the acts of their trail
+    × IsRun layout read.trail

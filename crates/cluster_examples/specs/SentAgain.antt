@@ -8,6 +8,7 @@ use Rattle.cluster_runs.specs.Steps.{Made, no_outs}
 use Rattle.data_rules.specs.DataState.{DataState}
 use Rattle.data_rules.specs.declared.limits.TheConstants.{APP_LIMIT}
 use Rattle.plain_orders.specs.declared.layout.Layout.{Layout}
+use Rattle.plain_runs.specs.Run.{IsRun}
 use Rattle.plain_orders.specs.declared.act.Act.TheVariants as acts
 use Rattle.plain_orders.specs.declared.entry.Entry.TheVariants as entries
 use Rattle.plain_orders.specs.declared.op.Op.TheVariants as ops
@@ -239,3 +240,5 @@ reentered = record acked { nodes = Some reentered_node ∷ []; orders = Some ree
 abbrev pub RecoverSendsAgain : Type 0
 RecoverSendsAgain =
     Leads first (issued_by ∷ reissued_by ∷ entered_by ∷ saved_by ∷ left_by ∷ broken_by ∷ joining_by ∷ dialed_by ∷ accepted_by ∷ recovered_by ∷ welcomed_by ∷ dropped_by ∷ acked_by ∷ reentered_by ∷ []) reentered
+    -- and the plain machine takes the acts of its trail from the start
+    × IsRun layout reentered.trail

@@ -6,7 +6,7 @@ ghost use Rattle.cluster_examples.specs.FirstRun.{FirstRunIsReached};
 ghost use Rattle.cluster_examples.specs.JobRefusals.{LookRefusals, StepRefusals};
 ghost use Rattle.cluster_examples.specs.SentAgain.{RecoverSendsAgain};
 
-/// A job sets a node on a fresh server and reads it: from the beginning, sixteen moves.
+/// A job sets a node on a fresh server and reads it: from the beginning, sixteen moves, whose trail is a run.
 pub fn first_run()
     ensures { FirstRunIsReached }
 {}
