@@ -17,7 +17,7 @@ use Rattle.ecp_messages.specs.declared.down.Down.TheVariants as downs
 use Rattle.app_job.specs.declared.answer.Answer.TheVariants as answers
 use Rattle.app_job.specs.declared.why.Why.TheVariants as why
 use Rattle.app_rules.specs.declared.app_in.AppIn.TheVariants as app_in
-use Rattle.cluster_examples.specs.CachedRead.{layout, first, issued_by, issued, dropped_node, dropped_by, dropped, read_by, read, looked_by, looked, told_by, told, fetching_by, fetching, fetched_node, fetched_by, fetched, cached_by, cached, reread_by, reread, CachedReadLeads}
+use Rattle.cluster_examples.specs.CachedRead.{layout, first, issued_by, issued, dropped_by, dropped_node, dropped, read_by, read, looked_by, looked, told_by, told, fetching_by, fetching, fetched_by, fetched_node, fetched, cached_by, cached, reread_by, reread, CachedReadLeads}
 
 issued_may : Allowed first issued_by.move
 issued_may = record { alive = record { known = omega arith; placed = omega arith; alive = refl }; now_may = record { clock = refl; no_less = omega arith }; line_may = omega arith; may = record { within = (x_is_site, omega arith); known = omega arith } }

@@ -10,7 +10,7 @@ use Rattle.cluster_runs.specs.Views.{shown_at, with_shown}
 use Rattle.plain_runs.specs.Run.{IsRun}
 use Rattle.ecp_messages.specs.declared.down.Down.TheVariants as downs
 use Rattle.app_rules.specs.declared.app_in.AppIn.TheVariants as app_in
-use Rattle.cluster_examples.specs.Crash.{layout, first, halted_by, halted, began_by, began, saved_epoch_node, saved_epoch_by, saved_epoch, broken_by, broken, joining_by, joining, dialed_by, dialed, accepted_node, accepted_by, accepted, returned_node, returned_by, returned, learned_by, learned, claimed_node, claimed_by, claimed, reentered_node, reentered_by, reentered, back_node, back_by, back, normal_by, normal, saved_node, saved_by, saved, CrashIsMended}
+use Rattle.cluster_examples.specs.Crash.{layout, first, halted_by, halted, began_by, began, saved_epoch_by, saved_epoch_node, saved_epoch, broken_by, broken, joining_by, joining, dialed_by, dialed, accepted_by, accepted_node, accepted, returned_by, returned_node, returned, learned_by, learned, claimed_by, claimed_node, claimed, reentered_by, reentered_node, reentered, back_by, back_node, back, normal_by, normal, saved_by, saved_node, saved, CrashIsMended}
 
 halted_may : Allowed first halted_by.move
 halted_may = record { known = omega arith; is_up = refl }

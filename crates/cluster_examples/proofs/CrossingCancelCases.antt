@@ -16,7 +16,7 @@ use Rattle.ecp_messages.specs.declared.down.Down.TheVariants as downs
 use Rattle.app_job.specs.declared.answer.Answer.TheVariants as answers
 use Rattle.app_job.specs.declared.why.Why.TheVariants as why
 use Rattle.app_rules.specs.declared.app_in.AppIn.TheVariants as app_in
-use Rattle.cluster_examples.specs.CrossingCancel.{layout, first, ticked_by, ticked, timed_out_by, timed_out, unlocked_by, unlocked, granted_node, granted_by, granted, crossed_by, crossed, asking_by, asking, queued_node, queued_by, queued, cancelled_node, cancelled_by, cancelled, answered_by, answered, held_by, held, CancelCrossesGrant}
+use Rattle.cluster_examples.specs.CrossingCancel.{layout, first, ticked_by, ticked, timed_out_by, timed_out, unlocked_by, unlocked, granted_by, granted_node, granted, crossed_by, crossed, asking_by, asking, queued_by, queued_node, queued, cancelled_by, cancelled_node, cancelled, answered_by, answered, held_by, held, CancelCrossesGrant}
 
 ticked_may : Allowed first ticked_by.move
 ticked_may = tt

@@ -18,7 +18,7 @@ use Rattle.ecp_messages.specs.declared.down.Down.TheVariants as downs
 use Rattle.app_job.specs.declared.answer.Answer.TheVariants as answers
 use Rattle.app_job.specs.declared.why.Why.TheVariants as why
 use Rattle.app_rules.specs.declared.app_in.AppIn.TheVariants as app_in
-use Rattle.cluster_examples.specs.FirstRun.{layout, began_by, began, saved_epoch_node, saved_epoch_by, saved_epoch, tried_by, tried, dialed_by, dialed, accepted_node, accepted_by, accepted, greeted_node, greeted_by, greeted, welcomed_node, welcomed_by, welcomed, met_by, met, issued_by, issued, entered_node, entered_by, entered, saved_node, saved_by, saved, acked_by, acked, fetching_by, fetching, fetched_node, fetched_by, fetched, cached_by, cached, read_by, read, FirstRunIsReached}
+use Rattle.cluster_examples.specs.FirstRun.{layout, began_by, began, saved_epoch_by, saved_epoch_node, saved_epoch, tried_by, tried, dialed_by, dialed, accepted_by, accepted_node, accepted, greeted_by, greeted_node, greeted, welcomed_by, welcomed_node, welcomed, met_by, met, issued_by, issued, entered_by, entered_node, entered, saved_by, saved_node, saved, acked_by, acked, fetching_by, fetching, fetched_by, fetched_node, fetched, cached_by, cached, read_by, read, FirstRunIsReached}
 
 began_may : Allowed (start layout) began_by.move
 began_may = record { known = omega arith; is_down = refl; now_may = record { clock = refl; no_less = omega arith }; kept = tt; low = omega arith }

@@ -14,7 +14,7 @@ use Rattle.plain_orders.specs.declared.op.Op.TheVariants as ops
 use Rattle.ecp_messages.specs.declared.down.Down.TheVariants as downs
 use Rattle.app_job.specs.declared.answer.Answer.TheVariants as answers
 use Rattle.app_rules.specs.declared.app_in.AppIn.TheVariants as app_in
-use Rattle.cluster_examples.specs.SentAgain.{layout, first, issued_by, issued, reissued_by, reissued, entered_node, entered_by, entered, saved_node, saved_by, saved, left_node, left_by, left, broken_by, broken, joining_by, joining, dialed_by, dialed, accepted_node, accepted_by, accepted, recovered_node, recovered_by, recovered, welcomed_by, welcomed, dropped_by, dropped, acked_by, acked, reentered_node, reentered_by, reentered, RecoverSendsAgain}
+use Rattle.cluster_examples.specs.SentAgain.{layout, first, issued_by, issued, reissued_by, reissued, entered_by, entered_node, entered, saved_by, saved_node, saved, left_by, left_node, left, broken_by, broken, joining_by, joining, dialed_by, dialed, accepted_by, accepted_node, accepted, recovered_by, recovered_node, recovered, welcomed_by, welcomed, dropped_by, dropped, acked_by, acked, reentered_by, reentered_node, reentered, RecoverSendsAgain}
 
 issued_may : Allowed first issued_by.move
 issued_may = record { alive = record { known = omega arith; placed = omega arith; alive = refl }; now_may = record { clock = refl; no_less = omega arith }; line_may = omega arith; may = record { within = (x_is_site, omega arith); known = omega arith } }

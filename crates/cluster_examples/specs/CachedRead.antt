@@ -1,8 +1,9 @@
 -- A get is answered from a cached run after a Drop for it was put and has not arrived.
 use Rattle.std.specs.Prelude.{[], ◌∷◌, ◌++◌, Some, None, true, false, replicate, set}
 use Rattle.app_rules.specs.AppState.{AppEnd, Session, no_end, no_session}
+use Rattle.app_rules.specs.JobState.{no_job}
 use Rattle.cluster_examples.specs.Leading.{Leads}
-use Rattle.cluster_examples.specs.Scenes.{all_keys, app_with, block_1, down_frame, empty_block, head, linked_with, on_conn, run_of, times, to_server, up_frame, window, x, x_key}
+use Rattle.cluster_examples.specs.Scenes.{a_conn, a_dial, all_keys, app_with, block_1, down_frame, empty_block, front_at, head, idle, knows, linked_with, on_conn, progress_at, run_of, times, to_server, up_frame, waiting, window, window_at, x, x_key}
 use Rattle.cluster_runs.specs.CoresState.{CoresState}
 use Rattle.cluster_runs.specs.Steps.{Made, no_outs}
 use Rattle.data_rules.specs.DataState.{DataState}
@@ -34,7 +35,22 @@ layout = record { servers = 1; apps = 2; job_apps = 0 ∷ 1 ∷ []; times = time
 
 -- the data server has two sessions, and each has the run over all keys
 abbrev pub first_node : DataState
-first_node = record { server = 0; times = times; order = entries.Epoch 1 ∷ entries.Opened 2 1 ∷ entries.Opened 3 0 ∷ []; synced = 3; links = set (set (replicate APP_LIMIT data_links.Free) 0 data_links.Normal) 1 data_links.Normal; dials = set (set (replicate APP_LIMIT 0) 0 1) 1 1; conns = record { number = 1; role = roles.Bound 2 } ∷ record { number = 2; role = roles.Bound 3 } ∷ []; callers = []; windows = record { session = 2; window = window 0 (downs.Block (head 2 0 0) empty_block ∷ []) 1 0 } ∷ record { session = 3; window = window 0 (downs.Block (head 3 0 0) empty_block ∷ []) 1 0 } ∷ []; locks = record { holds = []; requests = []; granted = [] }; noted = record { session = 2; span = all_keys } ∷ record { session = 3; span = all_keys } ∷ []; round = None; replies = [] }
+first_node =
+    record {
+      server = 0;
+      times = times;
+      order = entries.Epoch 1 ∷ entries.Opened 2 1 ∷ entries.Opened 3 0 ∷ [];
+      synced = 3;
+      links = set (set (replicate APP_LIMIT data_links.Free) 0 data_links.Normal) 1 data_links.Normal;
+      dials = set (set (replicate APP_LIMIT 0) 0 1) 1 1;
+      conns = record { number = 1; role = roles.Bound 2 } ∷ record { number = 2; role = roles.Bound 3 } ∷ [];
+      callers = [];
+      windows = window_at 2 0 (downs.Block (head 2 0 0) empty_block ∷ []) 1 0 ∷ window_at 3 0 (downs.Block (head 3 0 0) empty_block ∷ []) 1 0 ∷ [];
+      locks = record { holds = []; requests = []; granted = [] };
+      noted = record { session = 2; span = all_keys } ∷ record { session = 3; span = all_keys } ∷ [];
+      round = None;
+      replies = [];
+    }
 
 -- the session of application server 0
 abbrev pub first_session : Session
@@ -54,51 +70,133 @@ second_end = record no_end { link = app_links.Normal; line = lines.Joined; dial 
 
 -- all that was put was taken
 abbrev pub first : CoresState
-first = record { layout = layout; nodes = Some first_node ∷ []; orders = Some first_node.order ∷ []; apps = app_with 0 first_end ∷ app_with 1 second_end ∷ []; jobs = record { index = 0; app = 0; level = 0; txn = 0; used = Some 3 ∷ []; updates = []; held_back = []; progress = None } ∷ record { index = 1; app = 1; level = 0; txn = 0; used = Some 2 ∷ []; updates = []; held_back = []; progress = None } ∷ []; begun = record { line = 9; waits = None } ∷ record { line = 8; waits = None } ∷ []; dials = record { app = 1; server = 0; number = 1; up = []; down = []; linked = true; app_left = false; data_left = false } ∷ record { app = 0; server = 0; number = 1; up = []; down = []; linked = true; app_left = false; data_left = false } ∷ []; accepted = record { server = 0; conn = 1; dial = Some (linked_with 1 1); left = false } ∷ record { server = 0; conn = 2; dial = Some (linked_with 0 1); left = false } ∷ []; clock = 0; app_nows = 0 ∷ 0 ∷ []; server_nows = 0 ∷ []; dead = false ∷ false ∷ []; shown = (record { front = Some record { session = 3; epoch = 1; n = 3; w = 0 }; runs = run_of [] ∷ [] } ∷ []) ∷ (record { front = Some record { session = 2; epoch = 1; n = 2; w = 0 }; runs = run_of [] ∷ [] } ∷ []) ∷ []; views = record { rollback_only = false; servers = record { session = Some 3; has_loss = false; late = [] } ∷ [] } ∷ record { rollback_only = false; servers = record { session = Some 2; has_loss = false; late = [] } ∷ [] } ∷ []; trail = acts.Opened 0 [] ∷ acts.Enter 0 (entries.Opened 2 1) ∷ acts.Synced 0 2 ∷ acts.Met 1 0 2 ∷ acts.Read 1 8 0 2 vias.Fetched (questions.Get x_key None) ∷ acts.Enter 0 (entries.Opened 3 0) ∷ acts.Synced 0 3 ∷ acts.Met 0 0 3 ∷ acts.Read 0 9 0 3 vias.Fetched (questions.Get x_key None) ∷ [] }
+first =
+    record {
+      layout = layout;
+      nodes = Some first_node ∷ [];
+      orders = Some first_node.order ∷ [];
+      apps = app_with 0 first_end ∷ app_with 1 second_end ∷ [];
+      jobs = record (no_job 0 0 1) { used = Some 3 ∷ [] } ∷ record (no_job 1 1 1) { used = Some 2 ∷ [] } ∷ [];
+      begun = idle 9 ∷ idle 8 ∷ [];
+      dials = a_dial 1 1 [] [] ∷ a_dial 0 1 [] [] ∷ [];
+      accepted = a_conn 1 (Some (linked_with 1 1)) ∷ a_conn 2 (Some (linked_with 0 1)) ∷ [];
+      clock = 0;
+      app_nows = 0 ∷ 0 ∷ [];
+      server_nows = 0 ∷ [];
+      dead = false ∷ false ∷ [];
+      shown =
+          (record { front = Some (front_at 3 1 3 0); runs = run_of [] ∷ [] } ∷ [])
+          ∷ (record { front = Some (front_at 2 1 2 0); runs = run_of [] ∷ [] } ∷ []) ∷ [];
+      views = knows (Some 3) [] ∷ knows (Some 2) [] ∷ [];
+      trail =
+          acts.Opened 0 [] ∷ acts.Enter 0 (entries.Opened 2 1) ∷ acts.Synced 0 2 ∷ acts.Met 1 0 2
+          ∷ acts.Read 1 8 0 2 vias.Fetched (questions.Get x_key None) ∷ acts.Enter 0 (entries.Opened 3 0) ∷ acts.Synced 0 3 ∷ acts.Met 0 0 3
+          ∷ acts.Read 0 9 0 3 vias.Fetched (questions.Get x_key None) ∷ [];
+    }
+
+-- job 0 sets ^x to 1
+abbrev pub issued_by : Made
+issued_by =
+    record {
+      move = moves.Step 0 0 10 (commands.Set x (49 ∷ []));
+      outs =
+          record no_outs {
+            answer = Some (answers.Queued (record { server = 0; number = 1 } ∷ []));
+            ups = to_server (up_frame 2 1 (ups.Update 1 0 0 (ops.Set x_key (49 ∷ [])))) ∷ [];
+          };
+      acts = acts.Issue 0 10 0 1 (items.Op (ops.Set x_key (49 ∷ []))) ∷ [];
+    }
 
 -- the session then
 abbrev pub issued_session : Session
-issued_session = record first_session { window = window 1 (ups.Update 1 0 0 (ops.Set x_key (49 ∷ [])) ∷ []) 1 0; issued = 1; queue = record { w = 1; message = ups.Update 1 0 0 (ops.Set x_key (49 ∷ [])); job = 0 } ∷ []; late = record { w = 1; job = 0; op = ops.Set x_key (49 ∷ []) } ∷ [] }
+issued_session =
+    record first_session {
+      window = window 1 (ups.Update 1 0 0 (ops.Set x_key (49 ∷ [])) ∷ []) 1 0;
+      issued = 1;
+      queue = record { w = 1; message = ups.Update 1 0 0 (ops.Set x_key (49 ∷ [])); job = 0 } ∷ [];
+      late = record { w = 1; job = 0; op = ops.Set x_key (49 ∷ []) } ∷ [];
+    }
 
 -- the end then
 abbrev pub issued_end : AppEnd
 issued_end = record first_end { session = Some issued_session }
 
--- job 0 sets ^x to 1
-abbrev pub issued_by : Made
-issued_by = record { move = moves.Step 0 0 10 (commands.Set x (49 ∷ [])); outs = record no_outs { answer = Some (answers.Queued (record { server = 0; number = 1 } ∷ [])); ups = to_server (up_frame 2 1 (ups.Update 1 0 0 (ops.Set x_key (49 ∷ [])))) ∷ [] }; acts = acts.Issue 0 10 0 1 (items.Op (ops.Set x_key (49 ∷ []))) ∷ [] }
-
--- and what it makes
+-- the cluster then
 abbrev pub issued : CoresState
-issued = record first { apps = app_with 0 issued_end ∷ app_with 1 second_end ∷ []; begun = record { line = 10; waits = None } ∷ record { line = 8; waits = None } ∷ []; dials = record { app = 1; server = 0; number = 1; up = []; down = []; linked = true; app_left = false; data_left = false } ∷ record { app = 0; server = 0; number = 1; up = up_frame 2 1 (ups.Update 1 0 0 (ops.Set x_key (49 ∷ []))) ∷ []; down = []; linked = true; app_left = false; data_left = false } ∷ []; views = record { rollback_only = false; servers = record { session = Some 3; has_loss = false; late = record { w = 1; job = 0; op = ops.Set x_key (49 ∷ []) } ∷ [] } ∷ [] } ∷ record { rollback_only = false; servers = record { session = Some 2; has_loss = false; late = [] } ∷ [] } ∷ []; trail = first.trail ++ issued_by.acts }
-
--- the data server then
-abbrev pub dropped_node : DataState
-dropped_node = record first_node { order = entries.Epoch 1 ∷ entries.Opened 2 1 ∷ entries.Opened 3 0 ∷ entries.Update 3 1 0 0 (ops.Set x_key (49 ∷ [])) ∷ []; windows = record { session = 2; window = window 0 (downs.Block (head 2 0 0) empty_block ∷ downs.Drop (head 4 0 0) [] (255 ∷ []) ∷ []) 1 0 } ∷ record { session = 3; window = window 1 (downs.Drop (head 4 1 0) [] (255 ∷ []) ∷ []) 2 0 } ∷ []; noted = [] }
+issued =
+    record first {
+      apps = app_with 0 issued_end ∷ app_with 1 second_end ∷ [];
+      begun = idle 10 ∷ idle 8 ∷ [];
+      dials = a_dial 1 1 [] [] ∷ a_dial 0 1 (up_frame 2 1 (ups.Update 1 0 0 (ops.Set x_key (49 ∷ []))) ∷ []) [] ∷ [];
+      views = knows (Some 3) (record { w = 1; job = 0; op = ops.Set x_key (49 ∷ []) } ∷ []) ∷ knows (Some 2) [] ∷ [];
+      trail = first.trail ++ issued_by.acts;
+    }
 
 -- the Set is taken and enters: a Drop to each application server, since both have the run
 abbrev pub dropped_by : Made
-dropped_by = record { move = moves.Server 0 0 (data_in.Frame 2 (up_frame 2 1 (ups.Update 1 0 0 (ops.Set x_key (49 ∷ []))))); outs = record no_outs { downs = on_conn 1 (down_frame 2 1 (downs.Drop (head 4 0 0) [] (255 ∷ []))) ∷ on_conn 2 (down_frame 2 2 (downs.Drop (head 4 1 0) [] (255 ∷ []))) ∷ [] }; acts = acts.Enter 0 (entries.Update 3 1 0 0 (ops.Set x_key (49 ∷ []))) ∷ [] }
+dropped_by =
+    record {
+      move = moves.Server 0 0 (data_in.Frame 2 (up_frame 2 1 (ups.Update 1 0 0 (ops.Set x_key (49 ∷ [])))));
+      outs =
+          record no_outs {
+            downs =
+                on_conn 1 (down_frame 2 1 (downs.Drop (head 4 0 0) [] (255 ∷ []))) ∷ on_conn 2 (down_frame 2 2 (downs.Drop (head 4 1 0) [] (255 ∷ []))) ∷ [];
+          };
+      acts = acts.Enter 0 (entries.Update 3 1 0 0 (ops.Set x_key (49 ∷ []))) ∷ [];
+    }
 
--- and what it makes
+-- the data server then
+abbrev pub dropped_node : DataState
+dropped_node =
+    record first_node {
+      order = entries.Epoch 1 ∷ entries.Opened 2 1 ∷ entries.Opened 3 0 ∷ entries.Update 3 1 0 0 (ops.Set x_key (49 ∷ [])) ∷ [];
+      windows =
+          window_at 2 0 (downs.Block (head 2 0 0) empty_block ∷ downs.Drop (head 4 0 0) [] (255 ∷ []) ∷ []) 1 0
+          ∷ window_at 3 1 (downs.Drop (head 4 1 0) [] (255 ∷ []) ∷ []) 2 0 ∷ [];
+      noted = [];
+    }
+
+-- the cluster then
 abbrev pub dropped : CoresState
-dropped = record issued { nodes = Some dropped_node ∷ []; orders = Some dropped_node.order ∷ []; dials = record { app = 1; server = 0; number = 1; up = []; down = down_frame 2 1 (downs.Drop (head 4 0 0) [] (255 ∷ [])) ∷ []; linked = true; app_left = false; data_left = false } ∷ record { app = 0; server = 0; number = 1; up = []; down = down_frame 2 2 (downs.Drop (head 4 1 0) [] (255 ∷ [])) ∷ []; linked = true; app_left = false; data_left = false } ∷ []; trail = issued.trail ++ dropped_by.acts }
+dropped =
+    record issued {
+      nodes = Some dropped_node ∷ [];
+      orders = Some dropped_node.order ∷ [];
+      dials =
+          a_dial 1 1 [] (down_frame 2 1 (downs.Drop (head 4 0 0) [] (255 ∷ [])) ∷ [])
+          ∷ a_dial 0 1 [] (down_frame 2 2 (downs.Drop (head 4 1 0) [] (255 ∷ [])) ∷ []) ∷ [];
+      trail = issued.trail ++ dropped_by.acts;
+    }
 
 -- job 1 of the other application server reads ^x: there is nothing, at the front of before
 abbrev pub read_by : Made
-read_by = record { move = moves.Step 1 0 11 (commands.Get x); outs = record no_outs { answer = Some (answers.Value None 2 vias.Cached) }; acts = acts.Read 1 11 0 2 vias.Cached (questions.Get x_key None) ∷ [] }
+read_by =
+    record {
+      move = moves.Step 1 0 11 (commands.Get x);
+      outs = record no_outs { answer = Some (answers.Value None 2 vias.Cached) };
+      acts = acts.Read 1 11 0 2 vias.Cached (questions.Get x_key None) ∷ [];
+    }
 
--- and what it makes
+-- the cluster then
 abbrev pub read : CoresState
-read = record dropped { begun = record { line = 10; waits = None } ∷ record { line = 11; waits = None } ∷ []; trail = dropped.trail ++ read_by.acts }
+read = record dropped { begun = idle 10 ∷ idle 11 ∷ []; trail = dropped.trail ++ read_by.acts }
 
 -- so does a look, which needs no step
 abbrev pub looked_by : Made
-looked_by = record { move = moves.Looked 1 12 (commands.Get x); outs = record no_outs { answer = Some (answers.Value None 2 vias.Cached) }; acts = acts.Read 1 12 0 2 vias.Cached (questions.Get x_key None) ∷ [] }
+looked_by =
+    record {
+      move = moves.Looked 1 12 (commands.Get x);
+      outs = record no_outs { answer = Some (answers.Value None 2 vias.Cached) };
+      acts = acts.Read 1 12 0 2 vias.Cached (questions.Get x_key None) ∷ [];
+    }
 
--- and what it makes
+-- the cluster then
 abbrev pub looked : CoresState
-looked = record read { begun = record { line = 10; waits = None } ∷ record { line = 12; waits = None } ∷ []; trail = read.trail ++ looked_by.acts }
+looked = record read { begun = idle 10 ∷ idle 12 ∷ []; trail = read.trail ++ looked_by.acts }
+
+-- the Drop is taken there
+abbrev pub told_by : Made
+told_by = record { move = moves.App 1 0 (app_in.Frame 0 (down_frame 2 1 (downs.Drop (head 4 0 0) [] (255 ∷ [])))); outs = no_outs; acts = [] }
 
 -- the session then
 abbrev pub told_session : Session
@@ -108,13 +206,23 @@ told_session = record second_session { n = 4; window = window 1 [] 2 2; cache = 
 abbrev pub told_end : AppEnd
 told_end = record second_end { session = Some told_session }
 
--- the Drop is taken there
-abbrev pub told_by : Made
-told_by = record { move = moves.App 1 0 (app_in.Frame 0 (down_frame 2 1 (downs.Drop (head 4 0 0) [] (255 ∷ [])))); outs = no_outs; acts = [] }
-
--- and what it makes
+-- the cluster then
 abbrev pub told : CoresState
-told = record looked { apps = app_with 0 issued_end ∷ app_with 1 told_end ∷ []; dials = record { app = 1; server = 0; number = 1; up = []; down = []; linked = true; app_left = false; data_left = false } ∷ record { app = 0; server = 0; number = 1; up = []; down = down_frame 2 2 (downs.Drop (head 4 1 0) [] (255 ∷ [])) ∷ []; linked = true; app_left = false; data_left = false } ∷ []; shown = (record { front = Some record { session = 3; epoch = 1; n = 3; w = 0 }; runs = run_of [] ∷ [] } ∷ []) ∷ (record { front = Some record { session = 2; epoch = 1; n = 4; w = 0 }; runs = [] } ∷ []) ∷ [] }
+told =
+    record looked {
+      apps = app_with 0 issued_end ∷ app_with 1 told_end ∷ [];
+      dials = a_dial 1 1 [] [] ∷ a_dial 0 1 [] (down_frame 2 2 (downs.Drop (head 4 1 0) [] (255 ∷ [])) ∷ []) ∷ [];
+      shown = (record { front = Some (front_at 3 1 3 0); runs = run_of [] ∷ [] } ∷ []) ∷ (record { front = Some (front_at 2 1 4 0); runs = [] } ∷ []) ∷ [];
+    }
+
+-- the same get: a Fetch
+abbrev pub fetching_by : Made
+fetching_by =
+    record {
+      move = moves.Step 1 0 13 (commands.Get x);
+      outs = record no_outs { answer = Some (answers.Waiting why.Fetch); ups = to_server (up_frame 2 2 (ups.Fetch x_key)) ∷ [] };
+      acts = [];
+    }
 
 -- the session then
 abbrev pub fetching_session : Session
@@ -124,25 +232,46 @@ fetching_session = record told_session { window = window 1 (ups.Fetch x_key ∷ 
 abbrev pub fetching_end : AppEnd
 fetching_end = record told_end { session = Some fetching_session }
 
--- the same get: a Fetch
-abbrev pub fetching_by : Made
-fetching_by = record { move = moves.Step 1 0 13 (commands.Get x); outs = record no_outs { answer = Some (answers.Waiting why.Fetch); ups = to_server (up_frame 2 2 (ups.Fetch x_key)) ∷ [] }; acts = [] }
-
--- and what it makes
+-- the cluster then
 abbrev pub fetching : CoresState
-fetching = record told { apps = app_with 0 issued_end ∷ app_with 1 fetching_end ∷ []; jobs = record { index = 0; app = 0; level = 0; txn = 0; used = Some 3 ∷ []; updates = []; held_back = []; progress = None } ∷ record { index = 1; app = 1; level = 0; txn = 0; used = Some 2 ∷ []; updates = []; held_back = []; progress = Some record { line = 13; first = 0; level = 0; failed = 0 ∷ []; fetched = true; added = None; servers = []; ends = None } } ∷ []; begun = record { line = 10; waits = None } ∷ record { line = 13; waits = Some (commands.Get x) } ∷ []; dials = record { app = 1; server = 0; number = 1; up = up_frame 2 2 (ups.Fetch x_key) ∷ []; down = []; linked = true; app_left = false; data_left = false } ∷ record { app = 0; server = 0; number = 1; up = []; down = down_frame 2 2 (downs.Drop (head 4 1 0) [] (255 ∷ [])) ∷ []; linked = true; app_left = false; data_left = false } ∷ [] }
-
--- the data server then
-abbrev pub fetched_node : DataState
-fetched_node = record dropped_node { windows = record { session = 2; window = window 2 (downs.Block (head 4 0 0) block_1 ∷ []) 2 0 } ∷ record { session = 3; window = window 1 (downs.Drop (head 4 1 0) [] (255 ∷ []) ∷ []) 2 0 } ∷ []; noted = record { session = 2; span = all_keys } ∷ [] }
+fetching =
+    record told {
+      apps = app_with 0 issued_end ∷ app_with 1 fetching_end ∷ [];
+      jobs = record (no_job 0 0 1) { used = Some 3 ∷ [] } ∷ record (no_job 1 1 1) { used = Some 2 ∷ []; progress = Some (progress_at 13 0 true) } ∷ [];
+      begun = idle 10 ∷ waiting 13 (commands.Get x) ∷ [];
+      dials = a_dial 1 1 (up_frame 2 2 (ups.Fetch x_key) ∷ []) [] ∷ a_dial 0 1 [] (down_frame 2 2 (downs.Drop (head 4 1 0) [] (255 ∷ [])) ∷ []) ∷ [];
+    }
 
 -- it is taken: a Block
 abbrev pub fetched_by : Made
-fetched_by = record { move = moves.Server 0 0 (data_in.Frame 1 (up_frame 2 2 (ups.Fetch x_key))); outs = record no_outs { downs = on_conn 1 (down_frame 3 2 (downs.Block (head 4 0 0) block_1)) ∷ [] }; acts = [] }
+fetched_by =
+    record {
+      move = moves.Server 0 0 (data_in.Frame 1 (up_frame 2 2 (ups.Fetch x_key)));
+      outs = record no_outs { downs = on_conn 1 (down_frame 3 2 (downs.Block (head 4 0 0) block_1)) ∷ [] };
+      acts = [];
+    }
 
--- and what it makes
+-- the data server then
+abbrev pub fetched_node : DataState
+fetched_node =
+    record dropped_node {
+      windows = window_at 2 2 (downs.Block (head 4 0 0) block_1 ∷ []) 2 0 ∷ window_at 3 1 (downs.Drop (head 4 1 0) [] (255 ∷ []) ∷ []) 2 0 ∷ [];
+      noted = record { session = 2; span = all_keys } ∷ [];
+    }
+
+-- the cluster then
 abbrev pub fetched : CoresState
-fetched = record fetching { nodes = Some fetched_node ∷ []; dials = record { app = 1; server = 0; number = 1; up = []; down = down_frame 3 2 (downs.Block (head 4 0 0) block_1) ∷ []; linked = true; app_left = false; data_left = false } ∷ record { app = 0; server = 0; number = 1; up = []; down = down_frame 2 2 (downs.Drop (head 4 1 0) [] (255 ∷ [])) ∷ []; linked = true; app_left = false; data_left = false } ∷ [] }
+fetched =
+    record fetching {
+      nodes = Some fetched_node ∷ [];
+      dials =
+          a_dial 1 1 [] (down_frame 3 2 (downs.Block (head 4 0 0) block_1) ∷ [])
+          ∷ a_dial 0 1 [] (down_frame 2 2 (downs.Drop (head 4 1 0) [] (255 ∷ [])) ∷ []) ∷ [];
+    }
+
+-- the Block is taken
+abbrev pub cached_by : Made
+cached_by = record { move = moves.App 1 0 (app_in.Frame 0 (down_frame 3 2 (downs.Block (head 4 0 0) block_1))); outs = no_outs; acts = [] }
 
 -- the session then
 abbrev pub cached_session : Session
@@ -152,21 +281,34 @@ cached_session = record fetching_session { window = window 2 [] 3 1; cache = run
 abbrev pub cached_end : AppEnd
 cached_end = record fetching_end { session = Some cached_session }
 
--- the Block is taken
-abbrev pub cached_by : Made
-cached_by = record { move = moves.App 1 0 (app_in.Frame 0 (down_frame 3 2 (downs.Block (head 4 0 0) block_1))); outs = no_outs; acts = [] }
-
--- and what it makes
+-- the cluster then
 abbrev pub cached : CoresState
-cached = record fetched { apps = app_with 0 issued_end ∷ app_with 1 cached_end ∷ []; dials = record { app = 1; server = 0; number = 1; up = []; down = []; linked = true; app_left = false; data_left = false } ∷ record { app = 0; server = 0; number = 1; up = []; down = down_frame 2 2 (downs.Drop (head 4 1 0) [] (255 ∷ [])) ∷ []; linked = true; app_left = false; data_left = false } ∷ []; shown = (record { front = Some record { session = 3; epoch = 1; n = 3; w = 0 }; runs = run_of [] ∷ [] } ∷ []) ∷ (record { front = Some record { session = 2; epoch = 1; n = 4; w = 0 }; runs = run_of (record { key = x_key; value = 49 ∷ [] } ∷ []) ∷ [] } ∷ []) ∷ [] }
+cached =
+    record fetched {
+      apps = app_with 0 issued_end ∷ app_with 1 cached_end ∷ [];
+      dials = a_dial 1 1 [] [] ∷ a_dial 0 1 [] (down_frame 2 2 (downs.Drop (head 4 1 0) [] (255 ∷ [])) ∷ []) ∷ [];
+      shown =
+          (record { front = Some (front_at 3 1 3 0); runs = run_of [] ∷ [] } ∷ [])
+          ∷ (record { front = Some (front_at 2 1 4 0); runs = run_of (record { key = x_key; value = 49 ∷ [] } ∷ []) ∷ [] } ∷ []) ∷ [];
+    }
 
 -- the job reads 1
 abbrev pub reread_by : Made
-reread_by = record { move = moves.Step 1 0 13 (commands.Get x); outs = record no_outs { answer = Some (answers.Value (Some (49 ∷ [])) 4 vias.Fetched) }; acts = acts.Read 1 13 0 4 vias.Fetched (questions.Get x_key (Some (49 ∷ []))) ∷ [] }
+reread_by =
+    record {
+      move = moves.Step 1 0 13 (commands.Get x);
+      outs = record no_outs { answer = Some (answers.Value (Some (49 ∷ [])) 4 vias.Fetched) };
+      acts = acts.Read 1 13 0 4 vias.Fetched (questions.Get x_key (Some (49 ∷ []))) ∷ [];
+    }
 
--- and what it makes
+-- the cluster then
 abbrev pub reread : CoresState
-reread = record cached { jobs = record { index = 0; app = 0; level = 0; txn = 0; used = Some 3 ∷ []; updates = []; held_back = []; progress = None } ∷ record { index = 1; app = 1; level = 0; txn = 0; used = Some 2 ∷ []; updates = []; held_back = []; progress = None } ∷ []; begun = record { line = 10; waits = None } ∷ record { line = 13; waits = None } ∷ []; trail = cached.trail ++ reread_by.acts }
+reread =
+    record cached {
+      jobs = record (no_job 0 0 1) { used = Some 3 ∷ [] } ∷ record (no_job 1 1 1) { used = Some 2 ∷ [] } ∷ [];
+      begun = idle 10 ∷ idle 13 ∷ [];
+      trail = cached.trail ++ reread_by.acts;
+    }
 
 -- these moves lead there, each allowed
 abbrev pub CachedReadLeads : Type 0

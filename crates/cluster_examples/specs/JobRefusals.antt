@@ -5,7 +5,7 @@ use Rattle.app_rules.specs.Looks.{nothing_shown}
 use Rattle.cluster_runs.specs.CoresState.{CoresState, start}
 use Rattle.cluster_runs.specs.Moves.{Allowed}
 use Rattle.cluster_runs.specs.declared.moves.Move.TheVariants.{Step, Looked}
-use Rattle.cluster_examples.specs.Scenes.{x, x_key}
+use Rattle.cluster_examples.specs.Scenes.{x, x_key, knows, front_at}
 use Rattle.cluster_examples.specs.FirstRun.{layout, tried, issued, cached, read}
 use Rattle.plain_orders.specs.declared.op.Op.TheVariants as ops
 
@@ -33,9 +33,9 @@ StepRefusals =
     -- known: there is no such data server
     × (Allowed issued (Step 0 0 6 (Sync 1)) → ⊥)
 
--- what the job knew changes
+-- the job knew no session
 abbrev pub knew : CoresState
-knew = record read { views = record { rollback_only = false; servers = record { session = None; has_loss = false; late = [] } ∷ [] } ∷ [] }
+knew = record read { views = knows None [] ∷ [] }
 
 -- it had only to roll back
 abbrev pub flagged : CoresState
@@ -47,14 +47,7 @@ untold = record read { views = record { rollback_only = false; servers = record 
 
 -- its own update of ^x hadn't entered
 abbrev pub owning : CoresState
-owning =
-    record read {
-      views =
-          record {
-            rollback_only = false;
-            servers = record { session = Some 2; has_loss = false; late = record { w = 2; job = 0; op = ops.Set x_key (54 ∷ []) } ∷ [] } ∷ [];
-          } ∷ [];
-    }
+owning = record read { views = knows (Some 2) (record { w = 2; job = 0; op = ops.Set x_key (54 ∷ []) } ∷ []) ∷ [] }
 
 -- looks of a job
 abbrev pub LookRefusals : Type 0
@@ -78,7 +71,7 @@ LookRefusals =
     -- shown: nothing was published
     × (Allowed (record read { shown = (nothing_shown ∷ []) ∷ [] }) (Looked 0 7 (Get x)) → ⊥)
     -- covered: no run was
-    × (Allowed (record read { shown = (record { front = Some (record { session = 2; epoch = 1; n = 3; w = 1 }); runs = [] } ∷ []) ∷ [] }) (Looked 0 7 (Get x)) → ⊥)
+    × (Allowed (record read { shown = (record { front = Some (front_at 2 1 3 1); runs = [] } ∷ []) ∷ [] }) (Looked 0 7 (Get x)) → ⊥)
     -- its: the pair had no session
     × (Allowed knew (Looked 0 7 (Get x)) → ⊥)
     -- undecided: an own update decides
