@@ -1,5 +1,5 @@
 -- A get is answered from a cached run after a Drop for it was put and has not arrived.
-use Rattle.std.proofs.Common.{refl, inl, inr, arith, [], ◌∷◌, Some, None}
+use Rattle.std.proofs.Common.{refl, inl, arith, [], ◌∷◌, Some, None}
 use Rattle.app_rules.specs.Issuing.{changes}
 use Rattle.app_rules.specs.JobStep.{work_of}
 use Rattle.app_rules.specs.Reading.{get_turn}

@@ -1,5 +1,5 @@
 -- The Cancel of a lock crosses its Grant.
-use Rattle.std.proofs.Common.{refl, inl, inr, arith, [], ◌∷◌, Some, None, false}
+use Rattle.std.proofs.Common.{refl, inl, arith, [], ◌∷◌, Some, None, false}
 use Rattle.app_rules.specs.JobStep.{work_of}
 use Rattle.app_rules.specs.Locking.{lock_turn, unlock_turn}
 use Rattle.cluster_examples.proofs.Frames.{a_field, a_is_site, a_may, app_outs_of}

@@ -1,5 +1,5 @@
 -- The first worked run from the beginning: a job sets a node on a fresh server and reads it, move by move.
-use Rattle.std.proofs.Common.{refl, inl, inr, arith, [], ◌∷◌, Some}
+use Rattle.std.proofs.Common.{refl, inl, arith, [], ◌∷◌, Some}
 use Rattle.app_rules.specs.Issuing.{changes}
 use Rattle.app_rules.specs.JobStep.{work_of}
 use Rattle.app_rules.specs.Reading.{get_turn}
