@@ -1,0 +1,7 @@
+mod Frames
+mod FirstRunCases
+mod CachedReadCases
+mod CrossingCancelCases
+mod SentAgainCases
+mod CrashCases
+mod RefusalCases

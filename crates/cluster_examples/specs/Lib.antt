@@ -1,0 +1,9 @@
+pub mod Scenes
+pub mod Leading
+pub mod FirstRun
+pub mod CachedRead
+pub mod CrossingCancel
+pub mod SentAgain
+pub mod Crash
+pub mod JobRefusals
+pub mod EndRefusals
