@@ -422,7 +422,7 @@ FAILS = []
 def ident(s): return 'v_' + s.replace("'", '_q')
 def con_sym(name):
     if name not in CONSTS:
-        CONSTS[name] = 'C_%d_%s' % (len(CONSTS), re.sub(r'\W', '_', name))
+        CONSTS[name] = 'C_%d_%s' % (len(CONSTS), re.sub(r'[^A-Za-z0-9_]', '_', name))
         NS[CONSTS[name]] = UNIT if name == 'Unit' else NONE if name == 'None' else Con(name)
     return CONSTS[name]
 
@@ -471,7 +471,7 @@ def symbol(what):
     """The Python name of a definition or a record, which is made when it is first called."""
     kind, mod, name = what
     if name in mod.syms: return mod.syms[name]
-    sym = 'f%d_%s_%s' % (len(NS), re.sub(r'\W', '_', mod.short), re.sub(r'\W', '_', name))
+    sym = 'f%d_%s_%s' % (len(NS), re.sub(r'[^A-Za-z0-9_]', '_', mod.short), re.sub(r'[^A-Za-z0-9_]', '_', name))
     mod.syms[name] = sym
     o = over_of(mod, name)
     if o is not None:
@@ -507,7 +507,7 @@ class Gen:
         if what[0] == 'value':
             v = what[1]
             if isinstance(v, int): return repr(v)
-            key = 'B_%s' % re.sub(r'\W', '_', getattr(v, 'name', '') or str(id(v)))
+            key = 'B_%s' % re.sub(r'[^A-Za-z0-9_]', '_', getattr(v, 'name', '') or str(id(v)))
             NS[key] = v
             return key
         if what[0] == 'rec' and not self.mod_params(what): return con_sym(what[2])
@@ -551,7 +551,7 @@ class Gen:
             fs = ', '.join('%r: %s' % (n, self.expr(env, x)) for n, x in e[2])
             return 'Rec({**%s.f, %s})' % (self.expr(env, e[1]), fs) if e[1] else 'Rec({%s})' % fs
         if k == 'elim':
-            sym = 'e%d_%s' % (len(NS), re.sub(r'\W', '_', self.mod.short))
+            sym = 'e%d_%s' % (len(NS), re.sub(r'[^A-Za-z0-9_]', '_', self.mod.short))
             NS[sym] = None
             free = sorted(env)
             self.function(sym, ['s_'] + [ident(x) for x in free], [([pt], body) for pt, body in e[2]], set(free), ['s_'])

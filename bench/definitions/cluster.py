@@ -18,6 +18,7 @@ AT = {
     'WireDrops': 'Rattle.cluster_runs.specs.WireDrops',
     'WireReads': 'Rattle.cluster_runs.specs.WireReads',
     'Written': 'Rattle.cluster_runs.specs.Written',
+    'Carried': 'Rattle.cluster_runs.specs.Carried',
     'Sent': 'Rattle.cluster_runs.specs.Sent',
     'Views': 'Rattle.cluster_runs.specs.Views',
     'Looks': 'Rattle.app_rules.specs.Looks',
@@ -29,6 +30,8 @@ AT = {
     'Entries': 'Rattle.plain_orders.specs.Entries',
     'Sessions': 'Rattle.plain_orders.specs.Sessions',
     'Runs': 'Rattle.end_words.specs.Runs',
+    'Places': 'Rattle.data_rules.specs.Places',
+    'Holds': 'Rattle.plain_runs.specs.Holds',
 }
 WORDS = {}
 

@@ -24,12 +24,13 @@ class Draw:
         times = r.choice([(2, 8, 20, 10), (5, 60, 1200, 60), (3, 6, 9, 4), (1, 20, 12, 25)])
         self.k = Cluster(int(servers), [int(j) for j in jobs.split(',')], times, seed)
         self.times, self.aim = times, aim or {}
-        self.weights = {'step': 30, 'look': 4, 'app frame': 40, 'server frame': 40, 'dial': 20, 'accept': 20, 'first': 30, 'save': 8, 'begin': 6, 'halt': r.choice([0.1, 0.3, 0.8]),
-                        'die': r.choice([0, 0, 0.05]), 'tick': r.choice([0.5, 1, 3]), 'app tick': 2, 'server tick': 2, 'app broken': r.choice([0.05, 0.2, 0.6]),
-                        'server broken': r.choice([0.05, 0.2, 0.6]), 'join': 1, 'noway': r.choice([0.2, 1])}
+        self.weights = {'step': 30, 'look': 8, 'app frame': 40, 'server frame': 40, 'dial': 20, 'accept': 20, 'first': 30, 'save': 5, 'begin': 20, 'halt': r.choice([0.05, 0.15, 0.6]),
+                        'die': r.choice([0, 0, 0.05]), 'tick': r.choice([0.3, 1, 2]), 'app tick': 0.7, 'server tick': 0.7, 'app broken': r.choice([0.02, 0.1, 0.5]),
+                        'server broken': r.choice([0.02, 0.1, 0.5]), 'join': 0.4, 'noway': r.choice([0.2, 1])}
         self.weights.update(self.aim)
         self.leaning = r.random()       # towards locks or reads or transactions
         self.nodes = r.sample(range(len(NODES)), r.choice([2, 3, 4]))
+        self.there = {}     # what a waiting job saw at its last step
         self.conn, self.fails, self.hurry = 0, 0, r.choice([0.05, 0.2, 0.5])
 
     def site(self):
@@ -75,12 +76,17 @@ class Draw:
         if kind == 'step':
             j = r.randrange(len(l['job_apps']))
             b = c['begun'][j].f
-            if b['waits'].n == 'Some' and r.random() < 0.7: return None
+            now_there = (c['apps'][l['job_apps'][j]], now)
+            if b['waits'].n == 'Some' and self.there.get(j, (None, None)) == now_there and r.random() < 0.97: return None
+            self.there[j] = now_there
             if b['waits'].n == 'Some': return Con('Step', (j, now, b['line'], b['waits'].a[0]))
             return Con('Step', (j, now, b['line'] + r.choice([1, 1, 1, 1, 0, 3]), self.command()))
         if kind == 'look':
-            j = r.randrange(len(l['job_apps']))
-            return Con('Looked', (j, c['begun'][j].f['line'] + 1, Con('Get', (self.site(),))))
+            free = [j for j, b in enumerate(c['begun']) if b.f['waits'].n == 'None']
+            if not free: return None
+            j, site = r.choice(free), self.site()
+            if not c['shown'][l['job_apps'][j]][site.f['server']].f['runs']: return None
+            return Con('Looked', (j, c['begun'][j].f['line'] + 1, Con('Get', (site,))))
         if kind == 'app frame':
             some_down = [x for x in dials if x['down'] and x['number'] == c['apps'][x['app']].f['ends'][x['server']].f['dial']]
             if not some_down: return None
@@ -164,7 +170,7 @@ class Draw:
         left = sum(1 for x in self.k.c.f['dials'] if x.f['data_left'] and not x.f['app_left'])
         if left: self.weights_now['app broken'] += 2
         if any(e.f['link'].n == 'Trouble' and e.f['line'].n == 'Apart' for a in self.k.c.f['apps'] for e in a.f['ends']):
-            for kind in ('app tick', 'join', 'tick'): self.weights_now[kind] += 2
+            for kind in ('app tick', 'join', 'tick'): self.weights_now[kind] += 1
         unlinked = [x for x in self.k.c.f['accepted'] if not x.f['left'] and x.f['dial'].n == 'None']
         self.weights_now['accept'] = 1 if unlinked else self.weights_now['accept']
         ups = any(x.f['up'] and not x.f['linked'] for x in self.k.c.f['dials'])

@@ -194,6 +194,43 @@ HINT[('BeginsRight', 'claims')] = claims_of
 HINT[('BeginsRight', 'rest')] = rest_of
 
 
+def is_front(xs, ys):
+    def it():
+        n = len(xs)
+        return ys[:n] == xs or bool(antt.failed('IsFront'))
+    return Prop('py', it)
+
+
+over('Carried.IsFront', 2, is_front)
+
+
+def carried(k, p, sent):
+    """What IsCarried says of lanes and connections apart from the net's bytes."""
+    word = lambda n: of('Carried', n)
+
+    def it():
+        for d in range(k.l.f['servers'] + 1):
+            server = ap(p.f['server_at'], d)
+            places = of('Written', 'order_places')(p, d)
+            for a in range(k.l.f['apps'] + 1):
+                for n in range(1, ap(sent.f['dials_at'], a, d) + 1):
+                    c = deref(ap(sent.f['connection_at'], a, d, n))
+                    if c.n == 'None' or not solve(word('ItsIs')(p, d, c.a[0], c.a[0].f['its'])): return antt.failed('ItsIs of app %d server %d number %d' % (a, d, n))
+                came = of('Sent', 'connections_of')(sent, a, d)
+                frames = [f for c in came for f in word('ups_came')(c)]
+                if word('hellos_in')(sent, d, a, places) > sum(word('is_hello')(f) for f in frames): return antt.failed('IsCarried.hellos of app %d server %d' % (a, d))
+                taken, said = deref(ap(sent.f['welcomes_at'], a, d)), [w for c in came for f in word('downs_came')(c) for w in word('welcome_in')(f)]
+                for x in taken:
+                    if sum(w == x for w in taken) > sum(w == x for w in said): return antt.failed('IsCarried.welcomes of app %d server %d' % (a, d))
+            for s in sorted(k.sessions.get(d, ())) + [0]:
+                for j in tuple(places) + (len(places),):
+                    app = of('Sessions', 'app_in')(of('Plain', 'order_at')(server, j), s)
+                    if not solve(word('IsLane')(ap(sent.f['lane_at'], d, s, j), word('carriers')(sent, app, d, s, j))):
+                        return antt.failed('lane of server %d session %d order %d' % (d, s, j))
+        return True
+    return Prop('py', it)
+
+
 def locks_in(k):
     """Each lock that an act or a message names."""
     found = {}
@@ -211,7 +248,8 @@ def holds(k):
     p = state_after(l, trail)
     past = {d: len(ap(p.f['server_at'], d).f['past']) for d in range(l.f['servers'] + 1)}
     d = DOMAIN
-    d['session'] = lambda env: sorted(k.sessions.get(env.get('server'), ())) + [0]
+    every = sorted({s for of_server in k.sessions.values() for s in of_server})
+    d['session'] = lambda env: sorted(k.sessions.get(env['server'], ())) + [0] if 'server' in env else every + [0]
     d['k'] = lambda env: range(past[env['server']] + 2)
     d['at'] = sorted({a.a[3] for a in trail if a.n in ANSWERED})
     d['sum'] = sorted({a.a[4] for a in trail if a.n == 'Counted'} | {0})
@@ -219,6 +257,6 @@ def holds(k):
     d['Lock'] = locks_in(k)
     d['Welcomed'] = [Rec({'session': a.a[2], 'epoch': a.a[3], 'kept': a.a[4]}) for a in trail if a.n == 'Told']
     del antt.FAILS[:]
-    ok = ask(of('Wire', 'WireHolds')(l, trail, sent))
+    ok = ask(of('Wire', 'WireHolds')(l, trail, sent)) and ask(carried(k, p, sent))
     for n in ('session', 'k', 'at', 'sum', 'About', 'Lock', 'Welcomed'): d.pop(n, None)
     return None if ok else '; '.join(antt.FAILS[:8])
