@@ -897,6 +897,7 @@ built('remove_entry', 2)(lambda t, m: tuple(e for e in m if not call(t, e[0])))
 built('insert_entry', 4)(lambda c, m, k, v: tuple(sorted(dict(list(m) + [(k, v)]).items())))
 built('starts_with', 3)(lambda f, xs, p: xs[:len(p)] == p)
 built('AllByRecursion', 2)(lambda f, xs: Prop('py', lambda: all(solve(ap(f, x)) for x in xs)))
+built('All', 2)(lambda f, xs: Prop('py', lambda: all(solve(ap(f, x)) for x in xs)))
 BUILT['zero'] = 0
 built('IfSome', 2)(lambda o, f: ap(f, o.a[0]) if o.n == 'Some' else UNIT)
 built('IsSomeAnd', 2)(lambda o, f: ap(f, o.a[0]) if o.n == 'Some' else Con('⊥'))

@@ -225,7 +225,7 @@ def carried(k, p, sent):
             for s in sorted(k.sessions.get(d, ())) + [0]:
                 for j in tuple(places) + (len(places),):
                     app = of('Sessions', 'app_in')(of('Plain', 'order_at')(server, j), s)
-                    if not solve(word('IsLane')(ap(sent.f['lane_at'], d, s, j), word('carriers')(sent, app, d, s, j))):
+                    if not solve(word('IsLane')(of('Plain', 'order_at')(server, j), s, ap(sent.f['lane_at'], d, s, j), word('carriers')(sent, app, d, s, j))):
                         return antt.failed('lane of server %d session %d order %d' % (d, s, j))
         return True
     return Prop('py', it)
