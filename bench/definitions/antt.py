@@ -611,7 +611,7 @@ class Gen:
             if n == 'zero':
                 lines.append('%sif %s != 0: break' % (ind, at))
                 return
-            if n.split('.')[-1][0].isupper():
+            if not is_var(self.mod, p):
                 what, _ = found(self.mod, n)
                 lines.append('%sif %s.n != %r: break' % (ind, at, what[1]))
                 return
@@ -656,9 +656,9 @@ class Gen:
 
     def function(self, sym, params, rows, env0, scrutinees):
         lines = ['def %s(%s):' % (sym, ', '.join(params))]
-        plain = all(p[0] == 'id' and p[1] != '_' and not p[1].split('.')[-1][0].isupper() and p[1] not in ('true', 'false', 'zero') for p in rows[0][0])
+        plain = all(is_var(self.mod, p) for p in rows[0][0])
         for i, s in enumerate(scrutinees):
-            if not all(is_var(row[0][i]) for row in rows): lines.append('    if %s.__class__ is Var: %s = D(%s)' % (s, s, s))
+            if not all(is_var(self.mod, row[0][i]) for row in rows): lines.append('    if %s.__class__ is Var: %s = D(%s)' % (s, s, s))
         for pats, body in rows:
             env, ind = set(env0), '        '
             lines.append('    while True:')
@@ -669,7 +669,10 @@ class Gen:
         run_code(sym, '\n'.join(lines))
 
 
-def is_var(p): return p[0] == 'id' and (p[1] == '_' or not (p[1].split('.')[-1][0].isupper() or p[1] in ('true', 'false', 'zero')))
+def is_var(mod, p):
+    """A pattern that takes each value: a name that is no constructor."""
+    if p[0] != 'id' or p[1] in ('true', 'false', 'zero'): return False
+    return not p[1].split('.')[-1][0].isupper() or not ('.' in p[1] or p[1] in mod.imp or p[1] in mod.defs)
 
 
 def type_head(ty):

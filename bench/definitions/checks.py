@@ -155,7 +155,7 @@ def grants(v, d):
             if len(got) > 1: return 'LO7: two Grants of one Ask'
             if q.f['at'].n == 'Some' and not q.f['put']: return 'LO7: a held Grant whose Ask is not put in this epoch'
             if q.f['at'].n == 'Some':
-                sent = [h for h in P['holds'] if of('Holds', 'is_sent')(h) and h.f['session'] == s['number'] and h.f['job'] == q.f['job'] and h.f['at'] == got[0]]
+                sent = [h for h in P['holds'] if of('PlainHolds', 'is_sent')(h) and h.f['session'] == s['number'] and h.f['job'] == q.f['job'] and h.f['at'] == got[0]]
                 if len(sent) != 1: return 'LO7: %d sent holds for a held Grant' % len(sent)
 
 
@@ -169,7 +169,7 @@ def table(v, d):
         w = h.f['who'].f
         have[w['session'], w['job'], h.f['mode'].n, h.f['name']] = h.f['count']
     for h in P['holds']:
-        if of('Holds', 'binds')(h):
+        if of('PlainHolds', 'binds')(h):
             key = h.f['session'], h.f['job'], h.f['mode'].n, h.f['key']
             want[key] = want.get(key, 0) + 1
     if have != want: return 'LO3: the table has %r, and %r is in force' % (have, want)
@@ -192,7 +192,7 @@ def lanes(v, d):
             if m.n == 'Cancel':
                 q = next(u for u in x['up'] if u.n == 'Ask' and u.a[0] == m.a[0])
                 words.append((q.a[1], q.a[2].n, q.a[3]))
-        marks = [(h.f['given'].a[0].f['turn'], (h.f['job'], h.f['mode'].n, h.f['key'])) for h in P['holds'] if h.f['session'] == s and of('Holds', 'binds')(h) and h.f['given'].n == 'Some']
+        marks = [(h.f['given'].a[0].f['turn'], (h.f['job'], h.f['mode'].n, h.f['key'])) for h in P['holds'] if h.f['session'] == s and of('PlainHolds', 'binds')(h) and h.f['given'].n == 'Some']
         marks += [(q.f['given'].f['turn'], (q.f['job'], q.f['mode'].n, q.f['key'])) for q in P['quits'] if q.f['session'] == s]
         if words != [w for _, w in sorted(marks)]: return 'LO5: words %r, marks %r' % (words, sorted(marks))
 

@@ -13,6 +13,7 @@ AT = {
     'Mirrors': 'Rattle.cluster_runs.specs.Mirrors',
     'Accounted': 'Rattle.cluster_runs.specs.Accounted',
     'Awaited': 'Rattle.cluster_runs.specs.Awaited',
+    'Holds': 'Rattle.cluster_invariant.specs.Holds',
     'Wire': 'Rattle.cluster_runs.specs.Wire',
     'WireEpochs': 'Rattle.cluster_runs.specs.WireEpochs',
     'WireDrops': 'Rattle.cluster_runs.specs.WireDrops',
@@ -31,7 +32,7 @@ AT = {
     'Sessions': 'Rattle.plain_orders.specs.Sessions',
     'Runs': 'Rattle.end_words.specs.Runs',
     'Places': 'Rattle.data_rules.specs.Places',
-    'Holds': 'Rattle.plain_runs.specs.Holds',
+    'PlainHolds': 'Rattle.plain_runs.specs.Holds',
 }
 WORDS = {}
 

@@ -2,6 +2,7 @@
 
 SHAPE is `servers:apps of the jobs`, as `2:0,0,1,1`. Each run draws its own times and its own habits.
 """
+import os
 import random
 import sys
 import threading
@@ -12,6 +13,7 @@ from antt import Con, Rec, NONE, some
 from cluster import Cluster, Finding, NODES, SUBS, key_of, of
 import wire
 
+INVARIANT = bool(os.environ.get('INVARIANT'))
 SHAPES = ['2:0,0,1,1', '2:0,0,1', '2:0,1,1', '1:0', '1:0,1,1', '2:0,0', '3:0,0', '1:0,0,1,2']
 
 
@@ -179,7 +181,7 @@ class Draw:
             m = self.draw()
             if m is not None and self.k.allowed(m): return m
             self.refused += m is not None
-        raise Finding('no allowed move was found')
+        return Con('Tick', (self.now(),))
     refused = 0
 
 
@@ -196,6 +198,8 @@ def one_run(seed, moves, shape=None, aim=None, every=0, check=None):
             k.make(m)
             bad = wire.accounted(k)
             if bad: raise Finding('not accounted: %r\n  by %r' % (bad, m))
+            bad = INVARIANT and wire.invariant(k)
+            if bad: raise Finding('%s\n  by %r' % (bad, m))
             if check:
                 bad = check(k)
                 if bad: raise Finding('%s\n  by %r' % (bad, m))

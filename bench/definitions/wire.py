@@ -231,6 +231,30 @@ def carried(k, p, sent):
     return Prop('py', it)
 
 
+def invariant(k):
+    """What of the invariant's own definitions fails, if something does."""
+    d, trail = DOMAIN, k.c.f['trail']
+    p = state_after(k.l, trail)
+    most = max(len(ap(p.f['server_at'], s).f['past']) for s in range(k.l.f['servers']))
+    every = sorted({s for of_server in k.sessions.values() for s in of_server})
+    d.update({'session': every + [0], 'k': range(most + 2), 'i': range(most + 2), 'before': d['number']})
+    del antt.FAILS[:]
+    try: ok = ask(of('Holds', 'Holds')(k.l, k.m))
+    finally:
+        for n in ('session', 'k', 'i', 'before'): d.pop(n, None)
+    return None if ok else 'the invariant: %s' % '; '.join(antt.FAILS[:14])
+
+
+def resets_of(env):
+    left = env['left']
+    return left[-1:] if left and left[-1].f['message'].n == 'Reset' else ()
+
+
+over('Words.IsFront', 2, is_front)
+HINT[('DownWay', 'ends')] = resets_of
+HINT[('DownWay', 'its')] = lambda env: env['left'][:len(env['left']) - len(resets_of(env))]
+
+
 def locks_in(k):
     """Each lock that an act or a message names."""
     found = {}
