@@ -383,7 +383,7 @@ class Module:
             if not line.strip(): continue
             m = re.match(r"  (?:pub )?([\w']+)\s*:\s*(.*)$", line)
             if m: fields.append([m.group(1), m.group(2)])
-            elif line.startswith('    ') and fields: fields[-1][1] += '\n' + line
+            elif (line.startswith('    ') or line[2] in ')}]') and fields: fields[-1][1] += '\n' + line
             else: raise SyntaxError('record %s: %r' % (name, line))
         self.recs[name] = (params, kinds, [(f, P(lex(t)).whole()) for f, t in fields])
 
@@ -759,7 +759,6 @@ def make_record(mod, name, sym):
         else:
             lines.append('    if not solve(%s):' % g.expr(env, t))
             lines.append('        return failed(%r)' % (name + '.' + f))
-            env.add(f)
     lines.append('    return True')
     run_code(sym, '\n'.join(lines))
 

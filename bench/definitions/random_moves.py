@@ -11,6 +11,7 @@ import traceback
 import antt
 from antt import Con, Rec, NONE, some
 from cluster import Cluster, Finding, NODES, SUBS, key_of, of
+import logs
 import wire
 
 INVARIANT = bool(os.environ.get('INVARIANT'))
@@ -184,18 +185,41 @@ class Draw:
         return Con('Tick', (self.now(),))
     refused = 0
 
+    def to_quiet(self, nodes):
+        """All is delivered, noticed and saved, as far as it may."""
+        k = self.k
+        keep = {'app frame': 1, 'server frame': 1, 'first': 1, 'accept': 0.3, 'save': 1, 'app broken': 1}
+        for _ in range(400):
+            if of('Accounted', 'is_quiet')(k.c):
+                self.quiet += 1
+                return
+            self.weights_now = keep
+            m = self.draw()
+            lost = [x.f for x in k.c.f['dials'] if x.f['app_left'] and x.f['linked'] and not x.f['data_left']]
+            if lost and self.r.random() < 0.3:
+                x = self.r.choice(lost)
+                conn = [y.f for y in k.c.f['accepted'] if y.f['server'] == x['server'] and not y.f['left'] and y.f['dial'] == some(Rec({'app': x['app'], 'dial': x['number']}))]
+                if conn: m = Con('Server', (x['server'], self.now(), Con('Broken', (conn[0]['conn'],))))
+            if m is None or not k.allowed(m): continue
+            outs, _ = k.make(m)
+            bad = nodes.add(m, outs) or wire.accounted(k) or wire.quiet(k)
+            if bad: raise Finding('%s\n  by %r' % (bad, m))
+    quiet = 0
+
 
 def one_run(seed, moves, shape=None, aim=None, every=0, check=None):
     """One run; gives its cluster, and what was found, if something was."""
     d = Draw(seed, shape, aim)
     k = d.k
     k.courses = wire.Courses()
+    nodes = logs.Nodes(k)
     found = None
     try:
         for i in range(moves):
             m = d.next()
-            old = k.c
-            k.make(m)
+            outs, _ = k.make(m)
+            bad = nodes.add(m, outs) or wire.quiet(k)
+            if bad: raise Finding('%s\n  by %r' % (bad, m))
             bad = wire.accounted(k)
             if bad: raise Finding('not accounted: %r\n  by %r' % (bad, m))
             bad = INVARIANT and wire.invariant(k)
@@ -208,6 +232,7 @@ def one_run(seed, moves, shape=None, aim=None, every=0, check=None):
                 if bad: raise Finding('the wire: %s' % bad)
         bad = wire.holds(k)
         if bad: raise Finding('the wire: %s' % bad)
+        d.to_quiet(nodes)
     except Finding as e: found = '%s' % e
     except Exception as e: found = 'error: %s' % traceback.format_exc()[-1500:]
     return d, found
@@ -216,16 +241,17 @@ def one_run(seed, moves, shape=None, aim=None, every=0, check=None):
 def main():
     seed, runs, moves = int(sys.argv[1]), int(sys.argv[2]), int(sys.argv[3])
     shape = sys.argv[4] if len(sys.argv) > 4 else None
-    kinds, move_kinds, total, began = {}, {}, 0, time.time()
+    kinds, move_kinds, total, quiet, began = {}, {}, 0, 0, time.time()
     for s in range(seed, seed + runs):
         d, found = one_run(s, moves, shape, every=100)
         total += d.k.count
+        quiet += d.quiet
         for k, n in d.k.kinds.items(): kinds[k] = kinds.get(k, 0) + n
         for m in d.k.moves:
             x = m.n if m.n not in ('App', 'Server', 'Step') else '%s %s' % (m.n, m.a[2].n if m.n != 'Step' else m.a[3].n)
             move_kinds[x] = move_kinds.get(x, 0) + 1
         if found: print('SEED %d: %s\n' % (s, found[:3000]), flush=True)
-    print('seeds %d..%d, %d runs, %d moves, %.0f s' % (seed, seed + runs - 1, runs, total, time.time() - began))
+    print('seeds %d..%d, %d runs, %d moves, %d runs ended quiet, %.0f s' % (seed, seed + runs - 1, runs, total, quiet, time.time() - began))
     print('moves:', ', '.join('%s %d' % kv for kv in sorted(move_kinds.items())))
     print('acts:', ', '.join('%s %d' % kv for kv in sorted(kinds.items())))
 

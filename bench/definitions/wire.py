@@ -23,6 +23,20 @@ def accounted(k):
     return 'is_accounted is false'
 
 
+def quiet(k):
+    """What a quiet state leaves that it shouldn't, if there is something."""
+    if not of('Accounted', 'is_quiet')(k.c): return None
+    for a in range(k.l.f['apps']):
+        for d in range(k.l.f['servers']):
+            if k.c.f['dead'][a]: continue
+            e = k.c.f['apps'][a].f['ends'][d]
+            recovers = of('Accounted', 'is_recovering')(of('CoresState', 'node_at')(k.c, d))
+            if not recovers and e.f['link'].n == 'Recovery': return 'quiet: app %d server %d is in Recovery' % (a, d)
+            for x in of('Awaited', 'awaited_at')(e):
+                if not of('Accounted', 'may_stay')(k.c, d, e, x): return 'quiet: app %d server %d awaits %r, which may not stay' % (a, d, x)
+                if not of('Accounted', 'stays')(k.c, d, e, x): return 'quiet: app %d server %d awaits %r, which does not stay' % (a, d, x)
+
+
 def told(k, app, server):
     """The session and the order that an end is told of."""
     t = deref(ap(deref(ap(k.m.f['site_at'], server)).f['end_at'], app)).f['told']

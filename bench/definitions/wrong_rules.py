@@ -16,6 +16,8 @@ BREAKS = {'app broken': 1.5, 'server broken': 1, 'dial': 40, 'accept': 30, 'firs
 LOCKS = {'commands': {'Lock': 60, 'Unlock': 25, 'Set': 5, 'Get': 3}, 'save': 12}
 READS = {'commands': {'Get': 40, 'Set': 30, 'Kill': 10, 'Incr': 8, 'Next': 6, 'Shape': 6}}
 TRANSACTIONS = {'commands': {'Start': 15, 'Set': 40, 'Kill': 10, 'Get': 20, 'Commit': 6, 'Rollback': 10}}
+BOTH_CLOSE = {'commands': {'Start': 25, 'Set': 40, 'Get': 50, 'Commit': 0.5, 'Rollback': 0.5, 'Lock': 0, 'Unlock': 0, 'Incr': 1, 'Sync': 1}, 'server broken': 3, 'app broken': 0.02,
+              'tick': 1.5, 'server tick': 6, 'join': 0.05, 'app tick': 0.05, 'halt': 0.02, 'dial': 60, 'accept': 60, 'first': 80}
 TWO = '2:0,0,1,1'
 ONE = '1:0,0,1'
 
@@ -69,9 +71,9 @@ unnotes (x ∷ xs) now b =
 
 -- at all that have a live session, by index"""),
         ('-- More of the order is synced, and the clock ticks.', 'use {forgotten : ℕ}.{forgotten as unnoted}\n-- More of the order is synced, and the clock ticks.')],
-     both(TRANSACTIONS, {'server broken': 1.5, 'tick': 3, 'server tick': 6, 'join': 0.2, 'app tick': 0.5}), '1:0,0,1,2'),
+     BOTH_CLOSE, '1:0,1'),
     ('the same in the histories', [('downs_given true old new session = drops_until session (notes_of old session) (drop (length old.order) new.order)', 'downs_given true old new session = []')],
-     both(TRANSACTIONS, {'server broken': 1.5, 'tick': 3, 'server tick': 6, 'join': 0.2, 'app tick': 0.5}), '1:0,0,1,2'),
+     BOTH_CLOSE, '1:0,1'),
 ]
 
 
