@@ -46,7 +46,7 @@ class Draw:
         for k in self.aim.get('commands', {}): kinds[k] = self.aim['commands'][k]
         if self.leaning < 0.25: kinds.update(Lock=25, Unlock=15)
         elif self.leaning < 0.5: kinds.update(Get=30, Set=15, Next=8)
-        elif self.leaning < 0.7: kinds.update(Start=10, Commit=10, Rollback=4, Set=20)
+        elif self.leaning < 0.7: kinds.update(Start=10, Commit=25, Rollback=4, Set=45, Get=5, Lock=3, Unlock=2, Shape=1, Next=1)
         k = r.choices(list(kinds), list(kinds.values()))[0]
         mode = r.choice([Con('Exclusive'), Con('Shared')])
         if k == 'Set': return Con(k, (self.site(), tuple(r.choice(['5', '7', '-3', 'ab', '999999999999999999']).encode())))
