@@ -2,6 +2,7 @@
 
 The two courses that WireHolds says there are, of reads and of Drops, are read off the moves here, and the definitions judge them.
 """
+import os
 import antt
 from antt import Con, Rec, Prop, NONE, some, ap, deref, solve, unify, over, HINT, DOMAIN
 from cluster import of, ask, state_after, written_while
@@ -144,7 +145,7 @@ def each_puts_right(l, trail, sent):
     return Prop('py', it)
 
 
-SKIP_OTHERS = True      # a lane is asked of its own application server alone
+SKIP_OTHERS = not os.environ.get('ALL_APPS')     # a lane is asked of its own application server alone
 
 
 def owns(l, trail, app, server, session, k):
