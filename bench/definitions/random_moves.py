@@ -30,6 +30,9 @@ class Draw:
         self.weights = {'step': 30, 'look': 8, 'app frame': 40, 'server frame': 40, 'dial': 20, 'accept': 20, 'first': 30, 'save': 5, 'begin': 20, 'halt': r.choice([0.05, 0.15, 0.6]),
                         'die': r.choice([0, 0, 0.05]), 'tick': r.choice([0.3, 1, 2]), 'app tick': 0.7, 'server tick': 0.7, 'app broken': r.choice([0.02, 0.1, 0.5]),
                         'server broken': r.choice([0.02, 0.1, 0.5]), 'join': 0.4, 'noway': r.choice([0.2, 1])}
+        if r.random() < 0.4:     # first frames wait long
+            for kind in ('accept', 'first'): self.weights[kind] *= 0.1
+            self.weights['halt'] *= 2
         self.weights.update(self.aim)
         self.leaning = r.random()       # towards locks or reads or transactions
         self.nodes = r.sample(range(len(NODES)), r.choice([2, 3, 4]))
