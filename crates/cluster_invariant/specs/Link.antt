@@ -146,10 +146,11 @@ pub record DownWay (es : List Entry) (stays session : ℕ) (lane : Lane) (may_re
   -- no Normal comes before a Reset
   pub no_normal : ends ≢ [] → list_any is_normal_frame its ≡ false
 
--- Where the data end has the connection too, in the same order: a live session is bound to it, and all its messages are on their way.
+-- Where the data end has the connection too, in the same order: a live session is bound to it, and all its messages are on their way, also
+-- those of a session that was closed since.
 pub record DownWhole (n : DataState) (session conn : ℕ) (lane : Lane) (left : List DownFrame) : Type 0 where
   pub bound : live n.order session ≡ true → role_of n conn ≡ Some (Bound session)
-  pub whole : live n.order session ≡ true → numbered_downs left ≡ numbered_behind lane.down_taken lane.down
+  pub whole : numbered_downs left ≡ numbered_behind lane.down_taken lane.down
   pub closed : live n.order session ≡ false → role_of n conn ≡ Some (Closing session)
 
 -- the same, for the connection on which the first frame was taken, if the data server runs and has it

@@ -1,5 +1,5 @@
 -- What the ends of pairs put and took, as the bytes of a net tell it.
-use Rattle.std.specs.Prelude.{All, is_some, ◌⊎◌, ◌≡◌, ◌≤◌, ℕ, Bool, true, false, ◌==◌, ◌&&◌, ◌+◌, ◌-◌, if◌then◌else◌, List, [], ◌∷◌, ◌++◌, length, map, take, slice_get, nat_lt, Option, Some, None}
+use Rattle.std.specs.Prelude.{All, is_some, ◌⊎◌, ◌≡◌, ◌≤◌, ℕ, Bool, true, false, ◌==◌, ◌&&◌, ◌+◌, ◌-◌, not, if◌then◌else◌, List, [], ◌∷◌, ◌++◌, length, map, take, slice_get, nat_lt, Option, Some, None}
 use Rattle.std.specs.List.{filter, flat_map, list_any}
 use Rattle.field_bytes.specs.Fields.{u32_bytes}
 use Rattle.plain_orders.specs.declared.entry.Entry.{Entry}
@@ -136,12 +136,28 @@ is_below (Some f) = nat_lt f.n greatest
 abbrev pub may_be_taken : Down → Bool
 may_be_taken m = is_below (head_in m)
 
--- A lane over the connections that carry it, in their order: what was first put on them is a front of the lane's messages, and each number
--- has the lane's message, also where it is put again. What the application end took is what came, but for a message whose n is the greatest
+-- the application end keeps the last of some connections
+abbrev pub app_keeps_last : List (Option Connection) → Bool
+app_keeps_last [] = false
+app_keeps_last (None ∷ []) = false
+app_keeps_last (Some c ∷ []) = not c.app_left
+app_keeps_last (c ∷ d ∷ cs) = app_keeps_last (d ∷ cs)
+
+-- the data end keeps it
+abbrev pub data_keeps_last : List (Option Connection) → Bool
+data_keeps_last [] = false
+data_keeps_last (None ∷ []) = false
+data_keeps_last (Some c ∷ []) = not c.data_left
+data_keeps_last (c ∷ d ∷ cs) = data_keeps_last (d ∷ cs)
+
+-- A lane over the connections that carry it, in their order: what was first put on them is a front of the lane's messages, all of them where
+-- this end keeps the last connection, and each number has the lane's message, also where it is put again. What the application end took is what came, but for a message whose n is the greatest
 -- u64. What the data end took is what came until a Close of the session, so all of it where the order has none.
 pub record IsLane (order : List Entry) (session : ℕ) (x : Lane) (its : List (Option Connection)) : Type 0 where
   pub ups : IsFront (ups_from 0 (flat_map ups_put its)) x.up
   pub downs : IsFront (downs_from 0 (flat_map downs_put its)) x.down
+  pub all_ups : app_keeps_last its ≡ true → ups_from 0 (flat_map ups_put its) ≡ x.up
+  pub all_downs : data_keeps_last its ≡ true → downs_from 0 (flat_map downs_put its) ≡ x.down
   pub each_up : All (IsUpOf x.up) (flat_map ups_put its)
   pub each_down : All (IsDownOf x.down) (flat_map downs_put its)
   pub ups_taken : IsFront (take x.up_taken x.up) (ups_from 0 (flat_map ups_came its))
