@@ -123,15 +123,15 @@ apart_asked l r at apart = cases (waits l.holds l.requests r) refl
 
 pub keeps_apart : (l : Locks) → AreApart l.holds → KeepsApart l
 keeps_apart l apart = record {
-    ask = λ r at. apart_asked l r at apart;
-    free = λ who name mode at. apart_pass (record l { holds = lowered who name mode l.holds }) [] [] l.requests at (apart_lowered who name mode l.holds apart);
-    cancel = λ session ticket at. apart_pass (record l { requests = filter (is_other_ticket session ticket) l.requests }) [] [] (filter (is_other_ticket session ticket) l.requests) at apart;
-    give_back = λ r at. apart_pass (record (without_ticket l r.who.session r.ticket) { holds = lowered r.who r.name r.mode l.holds }) [] [] l.requests at (apart_lowered r.who r.name r.mode l.holds apart);
-    drop_session = λ session at.
+  ask = λ r at. apart_asked l r at apart;
+  free = λ who name mode at. apart_pass (record l { holds = lowered who name mode l.holds }) [] [] l.requests at (apart_lowered who name mode l.holds apart);
+  cancel = λ session ticket at. apart_pass (record l { requests = filter (is_other_ticket session ticket) l.requests }) [] [] (filter (is_other_ticket session ticket) l.requests) at apart;
+  give_back = λ r at. apart_pass (record (without_ticket l r.who.session r.ticket) { holds = lowered r.who r.name r.mode l.holds }) [] [] l.requests at (apart_lowered r.who r.name r.mode l.holds apart);
+  drop_session = λ session at.
       apart_pass (record {
         holds = filter (is_hold_elsewhere session) l.holds;
         requests = filter (is_request_elsewhere session) l.requests;
         granted = filter (is_request_elsewhere session) l.granted;
       }) [] [] (filter (is_request_elsewhere session) l.requests) at (apart_filtered (is_hold_elsewhere session) l.holds apart);
-    claim = λ who name mode count at none. apart_raised who name mode count at l.holds apart none;
-  }
+  claim = λ who name mode count at none. apart_raised who name mode count at l.holds apart none;
+}

@@ -10,11 +10,7 @@ use Rattle.lock_table.specs.declared.rows.Hold.{Hold}
 use Rattle.lock_table.specs.declared.rows.Request.{Request}
 use Rattle.lock_table.specs.declared.rows.Who.{Who}
 use Rattle.lock_table.specs.LockWords.{is_same_who, is_same_name, is_same_mode, is_lane, raised, lowered}
-use Rattle.lock_table.specs.Counts.{count_in, held_count, is_lane_request, request_count, total_count, FitCounts}
-
--- the same holder, name and mode
-abbrev pub is_same_lane : Who → List ℕ → Mode → Who → List ℕ → Mode → Bool
-is_same_lane w n m who name mode = is_same_who w who && is_same_name n name && is_same_mode m mode
+use Rattle.lock_table.specs.Counts.{is_same_lane, count_in, held_count, is_lane_request, request_count, total_count, FitCounts}
 
 -- three equal parts
 pub record AreSame (w : Who) (n : List ℕ) (m : Mode) (who : Who) (name : List ℕ) (mode : Mode) : Type 0 where
@@ -135,9 +131,9 @@ with_more w n m who name mode hs rs more true e fit room =
 pub fit_raised : (who : Who) (name : List ℕ) (mode : Mode) (more t : ℕ) (hs : List Hold) (rs : List Request) → FitCounts hs rs → total_count who name mode hs rs + more < 2 ^ 32 → FitCounts (raised who name mode more t hs) rs
 fit_raised who name mode more t hs rs fit room =
     λ w n m.
-      let up = raised_count w n m who name mode more t hs in
-      let most = with_more w n m who name mode hs rs more (is_same_lane w n m who name mode) refl (fit w n m) room in
-      below (held_count w n m (raised who name mode more t hs)) (held_count w n m hs) (request_count w n m rs) (cond (is_same_lane w n m who name mode) more 0) up most
+    let up = raised_count w n m who name mode more t hs in
+    let most = with_more w n m who name mode hs rs more (is_same_lane w n m who name mode) refl (fit w n m) room in
+    below (held_count w n m (raised who name mode more t hs)) (held_count w n m hs) (request_count w n m rs) (cond (is_same_lane w n m who name mode) more 0) up most
   where
     below : (a b c d : ℕ) → a ≡ b + d → b + c + d < 2 ^ 32 → a + c < 2 ^ 32
     below a b c d le lt = omega arith
@@ -145,9 +141,9 @@ fit_raised who name mode more t hs rs fit room =
 pub fit_pushed : (hs : List Hold) (rs : List Request) (r : Request) → FitCounts hs rs → total_count r.who r.name r.mode hs rs + 1 < 2 ^ 32 → FitCounts hs (rs ++ r ∷ [])
 fit_pushed hs rs r fit room =
     λ w n m.
-      let one = sum_by_push (λ (x : Request). cond (is_lane_request w n m x) 1 0) rs r in
-      let most = with_more w n m r.who r.name r.mode hs rs 1 (is_same_lane w n m r.who r.name r.mode) refl (fit w n m) room in
-      below (held_count w n m hs) (request_count w n m rs) (request_count w n m (rs ++ r ∷ [])) (cond (is_same_lane w n m r.who r.name r.mode) 1 0) one most
+    let one = sum_by_push (λ (x : Request). cond (is_lane_request w n m x) 1 0) rs r in
+    let most = with_more w n m r.who r.name r.mode hs rs 1 (is_same_lane w n m r.who r.name r.mode) refl (fit w n m) room in
+    below (held_count w n m hs) (request_count w n m rs) (request_count w n m (rs ++ r ∷ [])) (cond (is_same_lane w n m r.who r.name r.mode) 1 0) one most
   where
     below : (a b c d : ℕ) → c ≡ b + d → a + b + d < 2 ^ 32 → a + c < 2 ^ 32
     below a b c d e lt = omega arith
@@ -157,7 +153,7 @@ own_total : (hs : List Hold) (rs : List Request) (k : ℕ) (r : Request) → k <
 own_total hs rs k r lt e =
     let gone = sum_by-remove (λ (x : Request). cond (is_lane_request r.who r.name r.mode x) 1 0) rs k r lt in
     let gone2 : request_count r.who r.name r.mode (remove rs k) + cond (is_lane_request r.who r.name r.mode r) 1 0 ≡ request_count r.who r.name r.mode rs =
-        subst (λ (x : Request). request_count r.who r.name r.mode (remove rs k) + cond (is_lane_request r.who r.name r.mode x) 1 0 ≡ request_count r.who r.name r.mode rs) (sym e) gone in
+    subst (λ (x : Request). request_count r.who r.name r.mode (remove rs k) + cond (is_lane_request r.who r.name r.mode x) 1 0 ≡ request_count r.who r.name r.mode rs) (sym e) gone in
     rw (lane_itself r.who r.name r.mode) at gone2
 
 -- a waiting request has room
@@ -167,11 +163,11 @@ room_to_grant hs rs k r fit lt e = omega (arith, fit r.who r.name r.mode, own_to
 pub fit_granted : (t : ℕ) (hs : List Hold) (rs : List Request) (k : ℕ) (r : Request) → FitCounts hs rs → k < length rs → r ≡ get_or rs k r → FitCounts (raised r.who r.name r.mode 1 t hs) (remove rs k)
 fit_granted t hs rs k r fit lt e =
     λ w n m.
-      let up = raised_count w n m r.who r.name r.mode 1 t hs in
-      let gone = sum_by-remove (λ (x : Request). cond (is_lane_request w n m x) 1 0) rs k r lt in
-      let gone2 : request_count w n m (remove rs k) + cond (is_lane_request w n m r) 1 0 ≡ request_count w n m rs =
-          subst (λ (x : Request). request_count w n m (remove rs k) + cond (is_lane_request w n m x) 1 0 ≡ request_count w n m rs) (sym e) gone in
-      below (held_count w n m (raised r.who r.name r.mode 1 t hs)) (held_count w n m hs) (request_count w n m (remove rs k)) (request_count w n m rs) (cond (is_same_lane w n m r.who r.name r.mode) 1 0) up gone2 (fit w n m)
+    let up = raised_count w n m r.who r.name r.mode 1 t hs in
+    let gone = sum_by-remove (λ (x : Request). cond (is_lane_request w n m x) 1 0) rs k r lt in
+    let gone2 : request_count w n m (remove rs k) + cond (is_lane_request w n m r) 1 0 ≡ request_count w n m rs =
+    subst (λ (x : Request). request_count w n m (remove rs k) + cond (is_lane_request w n m x) 1 0 ≡ request_count w n m rs) (sym e) gone in
+    below (held_count w n m (raised r.who r.name r.mode 1 t hs)) (held_count w n m hs) (request_count w n m (remove rs k)) (request_count w n m rs) (cond (is_same_lane w n m r.who r.name r.mode) 1 0) up gone2 (fit w n m)
   where
     below : (a b c e d : ℕ) → a ≡ b + d → c + d ≡ e → b + e < 2 ^ 32 → a + c < 2 ^ 32
     below a b c e d le eq lt = omega arith

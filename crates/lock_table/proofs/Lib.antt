@@ -3,3 +3,4 @@ pub mod CountLemmas
 pub mod PassLemmas
 pub mod ApartLemmas
 pub mod ShuffleLemmas
+pub mod OtherLemmas

@@ -71,18 +71,18 @@ next_waits : (l : Locks) (t : ℕ) (xs rest : List Request) (m : Locks) (gs : Li
 next_waits l t xs rest m gs place r d b is w =
     let f : Freed = pass l [] [] xs t in
     let w1 : waits f.locks.holds (take place (f.locks.requests ++ r ∷ rest)) (get_or (f.locks.requests ++ r ∷ rest) place d) ≡ b =
-        subst (λ (q : Locks). waits q.holds (take place q.requests) (get_or q.requests place d) ≡ b) is.locks w in
+    subst (λ (q : Locks). waits q.holds (take place q.requests) (get_or q.requests place d) ≡ b) is.locks w in
     let w2 : waits f.locks.holds (take (length f.locks.requests) (f.locks.requests ++ r ∷ rest)) (get_or (f.locks.requests ++ r ∷ rest) (length f.locks.requests) d) ≡ b =
-        subst (λ (p : ℕ). waits f.locks.holds (take p (f.locks.requests ++ r ∷ rest)) (get_or (f.locks.requests ++ r ∷ rest) p d) ≡ b) is.place w1 in
+    subst (λ (p : ℕ). waits f.locks.holds (take p (f.locks.requests ++ r ∷ rest)) (get_or (f.locks.requests ++ r ∷ rest) p d) ≡ b) is.place w1 in
     let w3 : waits f.locks.holds f.locks.requests (get_or (f.locks.requests ++ r ∷ rest) (length f.locks.requests) d) ≡ b =
-        subst (λ (q : List Request). waits f.locks.holds q (get_or (f.locks.requests ++ r ∷ rest) (length f.locks.requests) d) ≡ b) (take-append_seam f.locks.requests (r ∷ rest)) w2 in
+    subst (λ (q : List Request). waits f.locks.holds q (get_or (f.locks.requests ++ r ∷ rest) (length f.locks.requests) d) ≡ b) (take-append_seam f.locks.requests (r ∷ rest)) w2 in
     subst (λ (q : Request). waits f.locks.holds f.locks.requests q ≡ b) (get_seam f.locks.requests r rest d) w3
 
 go_waits : (l : Locks) (t : ℕ) (xs rest : List Request) (m : Locks) (gs : List Request) (place : ℕ) (r d : Request) → IsAt l t xs (r ∷ rest) m gs place → waits m.holds (take place m.requests) (get_or m.requests place d) ≡ true → IsAt l t (xs ++ r ∷ []) rest m gs (place + 1)
 go_waits l t xs rest m gs place r d is w =
     let f : Freed = pass l [] [] xs t in
     let e : pass l [] [] (xs ++ r ∷ []) t ≡ record f { locks = record f.locks { requests = f.locks.requests ++ r ∷ [] } } =
-        pass_append l [] [] xs (r ∷ []) t ∙ one_waits f r t (next_waits l t xs rest m gs place r d true is w) in
+    pass_append l [] [] xs (r ∷ []) t ∙ one_waits f r t (next_waits l t xs rest m gs place r d true is w) in
     record {
       locks = is.locks ∙ sym (ap (λ (g : Freed). (with_rest g rest).locks) e ∙ ap (λ (g : Freed). g.locks) (rest_assoc f r rest));
       grants = is.grants ∙ sym (ap (λ (g : Freed). g.grants) e);
@@ -93,12 +93,12 @@ go_granted : (l : Locks) (t : ℕ) (xs rest : List Request) (m : Locks) (gs : Li
 go_granted l t xs rest m gs place r d is w =
     let f : Freed = pass l [] [] xs t in
     let e : pass l [] [] (xs ++ r ∷ []) t ≡ record { locks = record (with_grant f.locks r t) { requests = f.locks.requests }; grants = f.grants ++ r ∷ [] } =
-        pass_append l [] [] xs (r ∷ []) t ∙ one_granted f r t (next_waits l t xs rest m gs place r d false is w) in
+    pass_append l [] [] xs (r ∷ []) t ∙ one_granted f r t (next_waits l t xs rest m gs place r d false is w) in
     record {
       locks = ap (λ (q : Locks). record (with_grant q r t) { requests = remove q.requests place }) is.locks
-        ∙ ap (λ (p : ℕ). record (with_grant f.locks r t) { requests = remove (f.locks.requests ++ r ∷ rest) p }) is.place
-        ∙ ap (λ (q : List Request). record (with_grant f.locks r t) { requests = q }) (remove_seam f.locks.requests r rest)
-        ∙ sym (ap (λ (g : Freed). (with_rest g rest).locks) e);
+          ∙ ap (λ (p : ℕ). record (with_grant f.locks r t) { requests = remove (f.locks.requests ++ r ∷ rest) p }) is.place
+          ∙ ap (λ (q : List Request). record (with_grant f.locks r t) { requests = q }) (remove_seam f.locks.requests r rest)
+          ∙ sym (ap (λ (g : Freed). (with_rest g rest).locks) e);
       grants = ap (λ (q : List Request). q ++ r ∷ []) is.grants ∙ sym (ap (λ (g : Freed). g.grants) e);
       place = is.place ∙ sym (ap (λ (g : Freed). length g.locks.requests) e);
     }
@@ -143,7 +143,7 @@ pub turn_in : (l : Locks) (t k : ℕ) (m : Locks) (gs : List Request) (place : �
 turn_in l t k m gs place is lt =
     let f : Freed = pass l [] [] (take k l.requests) t in
     let e : length m.requests ≡ length f.locks.requests + length (drop k l.requests) =
-        ap (λ (q : Locks). length q.requests) is.reached.locks ∙ length-append f.locks.requests (drop k l.requests) in
+    ap (λ (q : Locks). length q.requests) is.reached.locks ∙ length-append f.locks.requests (drop k l.requests) in
     let some : 0 < length (drop k l.requests) = some_left k l.requests lt in
     let p : place ≡ length f.locks.requests = is.reached.place in
     omega arith
@@ -170,9 +170,9 @@ same_request : (l : Locks) (t k : ℕ) (m : Locks) (gs : List Request) (place : 
 same_request l t k m gs place r is lt e =
     let f : Freed = pass l [] [] (take k l.requests) t in
     let e1 : get_or m.requests place r ≡ get_or (f.locks.requests ++ drop k l.requests) (length f.locks.requests) r =
-        ap (λ (q : Locks). get_or q.requests place r) is.reached.locks ∙ ap (λ (p : ℕ). get_or (f.locks.requests ++ drop k l.requests) p r) is.reached.place in
+    ap (λ (q : Locks). get_or q.requests place r) is.reached.locks ∙ ap (λ (p : ℕ). get_or (f.locks.requests ++ drop k l.requests) p r) is.reached.place in
     let e2 : get_or (f.locks.requests ++ drop k l.requests) (length f.locks.requests) r ≡ get_or l.requests k r =
-        ap (λ (q : List Request). get_or (f.locks.requests ++ q) (length f.locks.requests) r) (drop-cons l.requests k r lt) ∙ get_seam f.locks.requests (get_or l.requests k r) (drop (suc k) l.requests) r in
+    ap (λ (q : List Request). get_or (f.locks.requests ++ q) (length f.locks.requests) r) (drop-cons l.requests k r lt) ∙ get_seam f.locks.requests (get_or l.requests k r) (drop (suc k) l.requests) r in
     sym (e ∙ e1 ∙ e2)
 
 -- the next one is granted

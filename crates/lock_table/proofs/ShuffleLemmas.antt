@@ -22,39 +22,39 @@ record Leaves (l : Locks) (left grants rs : List Request) (f : Freed) : Type 0 w
 
 leaves_none : (l : Locks) (left grants : List Request) → Leaves l left grants [] (record { locks = record l { requests = left }; grants = grants })
 leaves_none l left grants = record {
-    waiting = [];
-    given = [];
-    left_is = sym (append_none left);
-    grants_is = sym (append_none grants);
-    granted_is = sym (append_none l.granted);
-    counts = λ w n m. omega arith;
-    shuffled = (refl, refl);
-  }
+  waiting = [];
+  given = [];
+  left_is = sym (append_none left);
+  grants_is = sym (append_none grants);
+  granted_is = sym (append_none l.granted);
+  counts = λ w n m. omega arith;
+  shuffled = (refl, refl);
+}
 
 leaves_waiting : (l : Locks) (left grants rs : List Request) (r : Request) (f : Freed) → Leaves l (left ++ r ∷ []) grants rs f → Leaves l left grants (r ∷ rs) f
 leaves_waiting l left grants rs r f is = record {
-    waiting = r ∷ is.waiting;
-    given = is.given;
-    left_is = is.left_is ∙ append_assoc left (r ∷ []) is.waiting;
-    grants_is = is.grants_is;
-    granted_is = is.granted_is;
-    counts = is.counts;
-    shuffled = inl (is.waiting, refl, is.shuffled);
-  }
+  waiting = r ∷ is.waiting;
+  given = is.given;
+  left_is = is.left_is ∙ append_assoc left (r ∷ []) is.waiting;
+  grants_is = is.grants_is;
+  granted_is = is.granted_is;
+  counts = is.counts;
+  shuffled = inl (is.waiting, refl, is.shuffled);
+}
 
 leaves_granted : (l : Locks) (left grants rs : List Request) (r : Request) (t : ℕ) (f : Freed) → Leaves (with_grant l r t) left (grants ++ r ∷ []) rs f → Leaves l left grants (r ∷ rs) f
 leaves_granted l left grants rs r t f is = record {
-    waiting = is.waiting;
-    given = r ∷ is.given;
-    left_is = is.left_is;
-    grants_is = is.grants_is ∙ append_assoc grants (r ∷ []) is.given;
-    granted_is = is.granted_is ∙ append_assoc l.granted (r ∷ []) is.given;
-    counts = λ w n m.
+  waiting = is.waiting;
+  given = r ∷ is.given;
+  left_is = is.left_is;
+  grants_is = is.grants_is ∙ append_assoc grants (r ∷ []) is.given;
+  granted_is = is.granted_is ∙ append_assoc l.granted (r ∷ []) is.given;
+  counts = λ w n m.
       let more = sum_by-cons (λ (x : Request). cond (is_lane_request w n m x) 1 0) r is.given in
       let up = raised_count w n m r.who r.name r.mode 1 t l.holds in
       adds (held_count w n m f.locks.holds) (held_count w n m (raised r.who r.name r.mode 1 t l.holds)) (held_count w n m l.holds) (cond (is_lane_request w n m r) 1 0) (request_count w n m is.given) (request_count w n m (r ∷ is.given)) (is.counts w n m) up more;
-    shuffled = inr (is.given, refl, is.shuffled);
-  }
+  shuffled = inr (is.given, refl, is.shuffled);
+}
   where
     adds : (a b c d e g : ℕ) → a ≡ b + e → b ≡ c + d → g ≡ d + e → a ≡ c + g
     adds a b c d e g p q s = omega arith
@@ -75,8 +75,8 @@ passes_on l t =
     let is = pass_leaves l [] [] l.requests t in
     record {
       requests =
-        subst (λ (q : List Request). AreShuffled l.requests q (passed l t).grants) (sym is.left_is)
-        (subst (λ (q : List Request). AreShuffled l.requests is.waiting q) (sym is.grants_is) is.shuffled);
+          subst (λ (q : List Request). AreShuffled l.requests q (passed l t).grants) (sym is.left_is)
+          (subst (λ (q : List Request). AreShuffled l.requests is.waiting q) (sym is.grants_is) is.shuffled);
       counts = λ w n m. is.counts w n m ∙ ap (λ (q : List Request). held_count w n m l.holds + request_count w n m q) (sym is.grants_is);
       granted = is.granted_is ∙ ap (λ (q : List Request). l.granted ++ q) (sym is.grants_is);
     }

@@ -10,6 +10,10 @@ use Rattle.lock_table.specs.LockWords.{Locks, is_same_who, is_same_name, is_same
 abbrev pub is_of_holder : Who → List ℕ → Hold → Bool
 is_of_holder who name h = is_same_who who h.who && is_same_name name h.name
 
+-- the same holder, name and mode
+abbrev pub is_same_lane : Who → List ℕ → Mode → Who → List ℕ → Mode → Bool
+is_same_lane w n m who name mode = is_same_who w who && is_same_name n name && is_same_mode m mode
+
 -- what a hold adds to what a holder has of a name in a mode
 abbrev pub count_in : Who → List ℕ → Mode → Hold → ℕ
 count_in who name mode h = if is_lane who name mode h then h.count else 0

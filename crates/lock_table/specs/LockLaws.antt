@@ -1,12 +1,12 @@
 -- Laws of the table of locks: what each call keeps.
-use Rattle.std.specs.Prelude.{◌≡◌, ◌+◌, ◌⊎◌, ℕ, false, List, [], ◌∷◌, ◌++◌}
-use Rattle.std.specs.List.{list_any}
+use Rattle.std.specs.Prelude.{◌≡◌, ◌+◌, ◌==◌, ◌⊎◌, ℕ, false, List, [], ◌∷◌, ◌++◌}
+use Rattle.std.specs.List.{filter, list_any}
 use Rattle.plain_orders.specs.declared.mode.Mode.{Mode}
 use Rattle.lock_table.specs.declared.rows.Hold.{Hold}
 use Rattle.lock_table.specs.declared.rows.Request.{Request}
 use Rattle.lock_table.specs.declared.rows.Who.{Who}
-use Rattle.lock_table.specs.LockWords.{Locks, asked, passed, freed, without_request, without_grant, without_session, is_barred, claimed}
-use Rattle.lock_table.specs.Counts.{held_count, request_count}
+use Rattle.lock_table.specs.LockWords.{Locks, asked, passed, raised, lowered, is_hold_elsewhere, freed, without_request, without_grant, without_session, is_barred, claimed}
+use Rattle.lock_table.specs.Counts.{is_same_lane, held_count, request_count}
 
 -- no two holds of different holders conflict
 abbrev pub AreApart : List Hold → Type 0
@@ -33,3 +33,9 @@ pub record PassesOn (l : Locks) (at : ℕ) : Type 0 where
   pub requests : AreShuffled l.requests (passed l at).locks.requests (passed l at).grants
   pub counts : (who : Who) (name : List ℕ) (mode : Mode) → held_count who name mode (passed l at).locks.holds ≡ held_count who name mode l.holds + request_count who name mode (passed l at).grants
   pub granted : (passed l at).locks.granted ≡ l.granted ++ (passed l at).grants
+
+-- what raises or lowers one count, or gives up a session, leaves the counts of other holders, names and modes
+pub record KeepsOthers (holds : List Hold) : Type 0 where
+  pub raise : (who : Who) (name : List ℕ) (mode : Mode) (more at : ℕ) (w : Who) (n : List ℕ) (m : Mode) → is_same_lane w n m who name mode ≡ false → held_count w n m (raised who name mode more at holds) ≡ held_count w n m holds
+  pub lower : (who : Who) (name : List ℕ) (mode : Mode) (w : Who) (n : List ℕ) (m : Mode) → is_same_lane w n m who name mode ≡ false → held_count w n m (lowered who name mode holds) ≡ held_count w n m holds
+  pub drop_session : (session : ℕ) (w : Who) (n : List ℕ) (m : Mode) → (w.session == session) ≡ false → held_count w n m (filter (is_hold_elsewhere session) holds) ≡ held_count w n m holds

@@ -22,10 +22,10 @@ with_dropped l session ticket = record l { requests = filter (is_other_ticket se
 -- all of a session is gone
 abbrev pub with_session_gone : Locks → ℕ → Locks
 with_session_gone l session = record {
-    holds = filter (is_hold_elsewhere session) l.holds;
-    requests = filter (is_request_elsewhere session) l.requests;
-    granted = filter (is_request_elsewhere session) l.granted;
-  }
+  holds = filter (is_hold_elsewhere session) l.holds;
+  requests = filter (is_request_elsewhere session) l.requests;
+  granted = filter (is_request_elsewhere session) l.granted;
+}
 
 -- with these requests behind those that wait
 abbrev pub with_rest : Freed → List Request → Freed

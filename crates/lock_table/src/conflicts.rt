@@ -1,9 +1,8 @@
 ghost use Rattle.std.specs.Prelude.{◌≡◌};
 ghost use Rattle.plain_orders.specs.Conflict.{modes_conflict, names_overlap, is_conflict};
-ghost use Rattle.lock_table.specs.LockWords.{is_same_who, is_same_mode, is_lane, is_barred, goes_before};
-ghost use Rattle.lock_table.specs.Counts.{is_lane_request};
+ghost use Rattle.lock_table.specs.LockWords.{is_same_who, is_same_mode, is_lane, is_barred};
 
-use crate::rows::{Hold, Request, Who};
+use crate::rows::{Hold, Who};
 use plain_orders::Mode;
 use subscript_keys::KeyBytes;
 
@@ -22,26 +21,11 @@ pub fn is_barred(who: Who, name: &KeyBytes, mode: Mode, hold: &Hold) -> bool
     !is_same_who(who, hold.who) && is_conflict(mode, name, hold.mode, &hold.name)
 }
 
-/// Whether a request of another holder conflicts with an earlier one.
-pub fn goes_before(request: &Request, earlier: &Request) -> bool
-    ensures { result ≡ goes_before request.now earlier.now }
-{
-    !is_same_who(request.who, earlier.who)
-        && is_conflict(request.mode, &request.name, earlier.mode, &earlier.name)
-}
-
 /// Whether a hold is a holder's, of this name in this mode.
 pub fn is_lane(who: Who, name: &KeyBytes, mode: Mode, hold: &Hold) -> bool
     ensures { result ≡ is_lane who name.now mode hold.now }
 {
     is_same_who(who, hold.who) && *name == hold.name && is_same_mode(mode, hold.mode)
-}
-
-/// Whether a request is a holder's, for this name in this mode.
-pub fn is_lane_request(who: Who, name: &KeyBytes, mode: Mode, request: &Request) -> bool
-    ensures { result ≡ is_lane_request who name.now mode request.now }
-{
-    is_same_who(who, request.who) && *name == request.name && is_same_mode(mode, request.mode)
 }
 
 /// Whether two are the same job in the same session.
@@ -61,7 +45,7 @@ pub fn is_same_mode(a: Mode, b: Mode) -> bool
 }
 
 /// Whether two locks of different holders conflict.
-fn is_conflict(mode: Mode, name: &KeyBytes, other_mode: Mode, other_name: &KeyBytes) -> bool
+pub fn is_conflict(mode: Mode, name: &KeyBytes, other_mode: Mode, other_name: &KeyBytes) -> bool
     ensures { result ≡ is_conflict mode name.now other_mode other_name.now }
 {
     if is_same_mode(mode, Mode::Shared) && is_same_mode(other_mode, Mode::Shared) {

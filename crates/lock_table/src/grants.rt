@@ -38,12 +38,6 @@ impl Grants {
         Ok(())
     }
 
-    pub fn as_slice(&self) -> &[Request]
-        ensures { result.now ≡ self.now }
-    {
-        self.requests.as_slice()
-    }
-
     pub fn into_vec(self) -> Vec<Request>
         ensures { result.items ≡ self }
     {

@@ -77,7 +77,11 @@ impl Holds {
     {
         self.items
             .iter()
-            .map(|hold| if is_lane(who, name, mode, hold) { hold.count } else { 0 })
+            .map(|hold| if is_lane(who, name, mode, hold) {
+                hold.count
+            } else {
+                0
+            })
             .sum()
     }
 
@@ -135,7 +139,5 @@ impl Holds {
 fn lane_place(holds: &[Hold], who: Who, name: &KeyBytes, mode: Mode) -> Option<usize>
     ensures { result ≡ position (is_lane who name.now mode) holds.now }
 {
-    holds
-        .iter()
-        .position(|hold| is_lane(who, name, mode, hold))
+    holds.iter().position(|hold| is_lane(who, name, mode, hold))
 }

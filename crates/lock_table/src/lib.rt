@@ -14,6 +14,6 @@ mod rows;
 
 pub use conflicts::conflict;
 pub use grants::Grants;
-pub use laws::{keeps_apart, passes_on};
+pub use laws::{keeps_apart, keeps_others};
 pub use lock_table::{Asked, ClaimError, LockTable};
 pub use rows::{Hold, Request, Who};

@@ -6,7 +6,7 @@ ghost use Rattle.lock_table.specs.LockWords.{no_locks, goes_before, waits, asked
 ghost use Rattle.lock_table.specs.Counts.{held_count, request_count, HasRoom};
 ghost use Rattle.lock_table.specs.Passing.{with_lowered, with_dropped, with_session_gone, IsCutShort, IsRefusal, granted_by};
 
-use crate::conflicts::{goes_before, is_lane_request};
+use crate::conflicts::{is_conflict, is_same_mode, is_same_who};
 use crate::grants::Grants;
 use crate::holds::Holds;
 use crate::rows::{Hold, Request, Who};
@@ -118,7 +118,7 @@ impl LockTable {
         ensures grants { IfOk result (λ grants. grants ≡ (freed self.old who name.now mode at).grants) }
         ensures err { OnErr result (IsCutShort (with_lowered self.old who name.now mode) at self.new) }
     {
-        self.lower(who, name, mode);
+        self.holds.lower(who, name, mode);
         self.pass(at)
     }
 
@@ -138,17 +138,12 @@ impl LockTable {
 
     /// A waiting request goes, and what that lets through is granted at this length. Out of memory in the pass, the
     /// requests that it hadn't come to wait on.
-    pub fn drop_request(
-        &mut self,
-        session: u64,
-        ticket: u32,
-        at: u64,
-    ) -> Result<Grants, AllocError>
+    pub fn drop_request(&mut self, session: u64, ticket: u32, at: u64) -> Result<Grants, AllocError>
         ensures ok { OnOk result (self.new ≡ (without_request self.old session ticket at).locks) }
         ensures grants { IfOk result (λ grants. grants ≡ (without_request self.old session ticket at).grants) }
         ensures err { OnErr result (IsCutShort (with_dropped self.old session ticket) at self.new) }
     {
-        self.drop_waiting(session, ticket);
+        drop_ticket(&mut self.requests, session, ticket);
         self.pass(at)
     }
 
@@ -192,7 +187,9 @@ impl LockTable {
         ensures grants { IfOk result (λ grants. grants ≡ (without_session self.old session at).grants) }
         ensures err { OnErr result (IsCutShort (with_session_gone self.old session) at self.new) }
     {
-        self.give_up_session(session);
+        self.holds.drop_session(session);
+        drop_session(&mut self.requests, session);
+        drop_session(&mut self.granted, session);
         self.pass(at)
     }
 
@@ -226,29 +223,6 @@ impl LockTable {
         self.holds
             .raise(hold.who, &hold.name, hold.mode, hold.count, hold.at)?;
         Ok(())
-    }
-
-    /// One of a holder's name in a mode goes.
-    fn lower(&mut self, who: Who, name: &KeyBytes, mode: Mode)
-        ensures { self.new ≡ with_lowered self.old who name.now mode }
-    {
-        self.holds.lower(who, name, mode);
-    }
-
-    /// A waiting request goes.
-    fn drop_waiting(&mut self, session: u64, ticket: u32)
-        ensures { self.new ≡ with_dropped self.old session ticket }
-    {
-        drop_ticket(&mut self.requests, session, ticket);
-    }
-
-    /// All of a session goes.
-    fn give_up_session(&mut self, session: u64)
-        ensures { self.new ≡ with_session_gone self.old session }
-    {
-        self.holds.drop_session(session);
-        drop_session(&mut self.requests, session);
-        drop_session(&mut self.granted, session);
     }
 
     /// Goes through the waiting requests once, in their order, and grants each that then doesn't wait.
@@ -311,7 +285,10 @@ fn waits(holds: &Holds, earlier: &[Request], request: &Request) -> bool
 fn is_behind(request: &Request, earlier: &[Request]) -> bool
     ensures { result ≡ list_any (goes_before request.now) earlier.now }
 {
-    earlier.iter().any(|other| goes_before(request, other))
+    earlier.iter().any(|other| {
+        !is_same_who(request.who, other.who)
+            && is_conflict(request.mode, &request.name, other.mode, &other.name)
+    })
 }
 
 /// A request is granted at this length. Out of memory, nothing changes.
@@ -333,17 +310,11 @@ fn grant(
     Ok(())
 }
 
-fn is_ticket(request: &Request, session: u64, ticket: u32) -> bool
-    ensures { result ≡ is_ticket session ticket request.now }
-{
-    request.who.session == session && request.ticket == ticket
-}
-
 /// Those with a ticket go.
 fn drop_ticket(requests: &mut Vec<Request>, session: u64, ticket: u32)
     ensures { requests.new.items ≡ filter (is_other_ticket session ticket) requests.old.items }
 {
-    requests.retain(|request| !is_ticket(request, session, ticket));
+    requests.retain(|request| !(request.who.session == session && request.ticket == ticket));
 }
 
 /// Those of a session go.
@@ -357,9 +328,7 @@ fn drop_session(requests: &mut Vec<Request>, session: u64)
 fn with_ticket(requests: &[Request], session: u64, ticket: u32) -> Option<&Request>
     ensures { option_copied result ≡ find (is_ticket session ticket) requests.now }
 {
-    requests
-        .iter()
-        .find(|request| is_ticket(request, session, ticket))
+    requests.iter().find(|request| request.who.session == session && request.ticket == ticket)
 }
 
 /// How many requests of a holder there are for a name in a mode.
@@ -368,6 +337,10 @@ fn request_count(requests: &[Request], who: Who, name: &KeyBytes, mode: Mode) ->
 {
     requests
         .iter()
-        .filter(|request| is_lane_request(who, name, mode, request))
+        .filter(|request| {
+            is_same_who(who, request.who)
+                && *name == request.name
+                && is_same_mode(mode, request.mode)
+        })
         .count()
 }

@@ -11,7 +11,7 @@ overflow_add-index_mut c =
     let there : position (is_lane c.args.who c.args.name.now c.args.mode) c.self.inside.items.items ≡ Some c.in-Some.place = search rules in
     let first = position-Some _ _ _ c.index_mut.result.now there in
     let count : c.index_mut.result.now.count ≤ held_count c.args.who c.args.name.now c.args.mode c.self.inside.items.items =
-        rw (← c.index_mut.ensures.value) at (count_there c.args.who c.args.name.now c.args.mode c.in-Some.place c.self.inside.items.items c.index_mut.result.now first.0 first.1) in
+    rw (← c.index_mut.ensures.value) at (count_there c.args.who c.args.name.now c.args.mode c.in-Some.place c.self.inside.items.items c.index_mut.result.now first.0 first.1) in
     let room : held_count c.args.who c.args.name.now c.args.mode c.self.inside.items.items + c.args.more < 2 ^ 32 = rw c.self.view_is c.requires.room in
     omega (arith, count, room)
 

@@ -21,10 +21,10 @@ pub loop-turn-preserved : goal.loop-turn-preserved
 loop-turn-preserved c =
     let there : c.loop-turn._turn < length c.args.self.now.requests = search rules in
     elim c.if-waits_at.branch [
-      then-waits_at w ↦
-        rw (w.self-is, w.grants-is, w.place-is)
-        (turn_waits c.args.self.now c.args.at c.loop-turn._turn c.loop-turn.self c.loop-turn.grants c.loop-turn.place c.loop-turn.invariant there (λ d. sym (c.waits_at.ensures d) ∙ w.if-waits_at.true))
-    | else-waits_at+in_ok-request+in_ok-push w ↦
-        rw (w.self-is, w.grants-is, w.place-is, w.in_ok-push.ensures.ok, w.in_ok-request.ensures.ok)
-        (turn_granted c.args.self.now c.args.at c.loop-turn._turn c.loop-turn.self c.loop-turn.grants c.loop-turn.place w.in_ok-request.request c.loop-turn.invariant there (λ d. sym (c.waits_at.ensures d) ∙ w.if-waits_at.false) w.in_ok-request.ensures.value)
+      | then-waits_at w ↦
+          rw (w.self-is, w.grants-is, w.place-is)
+          (turn_waits c.args.self.now c.args.at c.loop-turn._turn c.loop-turn.self c.loop-turn.grants c.loop-turn.place c.loop-turn.invariant there (λ d. sym (c.waits_at.ensures d) ∙ w.if-waits_at.true))
+      | else-waits_at+in_ok-request+in_ok-push w ↦
+          rw (w.self-is, w.grants-is, w.place-is, w.in_ok-push.ensures.ok, w.in_ok-request.ensures.ok)
+          (turn_granted c.args.self.now c.args.at c.loop-turn._turn c.loop-turn.self c.loop-turn.grants c.loop-turn.place w.in_ok-request.request c.loop-turn.invariant there (λ d. sym (c.waits_at.ensures d) ∙ w.if-waits_at.false) w.in_ok-request.ensures.value)
     ]

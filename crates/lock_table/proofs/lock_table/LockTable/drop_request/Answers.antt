@@ -1,6 +1,6 @@
 use Rattle.lock_table.specs.LockWords.{is_other_ticket}
 use Rattle.lock_table.proofs.CountLemmas.{fit_dropped}
-use Rattle.lock_table.proofs.lock_table.LockTable.drop_waiting.Goals as goal
+use Rattle.lock_table.proofs.lock_table.LockTable.drop_request.Goals as goal
 
 pub invariant_of-self : goal.invariant_of-self
 invariant_of-self c =
