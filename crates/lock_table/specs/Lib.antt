@@ -1,1 +1,4 @@
 pub mod LockWords
+pub mod Counts
+pub mod Passing
+pub mod LockLaws

@@ -2,14 +2,14 @@ use plain_orders::Mode;
 use subscript_keys::KeyBytes;
 
 /// A holder: a job in a session.
-#[derive(Clone, Copy)]
+#[derive(Clone, Copy, Debug)]
 pub struct Who {
     pub session: u64,
     pub job: u16,
 }
 
 /// What a job holds of a name in a mode, since the length at which it had none.
-#[derive(Drop)]
+#[derive(Clone, Debug, Drop)]
 pub struct Hold {
     pub who: Who,
     pub name: KeyBytes,
@@ -19,7 +19,7 @@ pub struct Hold {
 }
 
 /// A request, which waits or was granted.
-#[derive(Drop)]
+#[derive(Clone, Drop)]
 pub struct Request {
     pub who: Who,
     pub ticket: u32,

@@ -1,0 +1,6 @@
+pub mod HoldLemmas
+pub mod CountLemmas
+pub mod PassLemmas
+pub mod ApartLemmas
+pub mod ShuffleLemmas
+pub mod OtherLemmas
