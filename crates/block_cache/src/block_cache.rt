@@ -1,13 +1,13 @@
-ghost use Rattle.std.specs.Prelude.{◌≡◌, ℕ, ◌<◌, [], nat_eq, map, IfOk, OnOk, OnErr, option_map};
+ghost use Rattle.std.specs.Prelude.{◌≡◌, ℕ, ◌+◌, [], IfOk, OnOk, OnErr, option_map};
 ghost use Rattle.std.specs.Borrow.{sem};
-ghost use Rattle.std.specs.List.{find, AllByRecursion, IsDistinct};
+ghost use Rattle.std.specs.List.{find};
 ghost use Rattle.std.specs.NonZero.{non_zero_usize_get};
 ghost use Rattle.std.specs.Option.{option_copied};
-ghost use Rattle.std.specs.Map.{keys_of, values_of};
+ghost use Rattle.std.specs.Map.{values_of};
 ghost use Rattle.std.specs.Map.Iter.{deref_pair};
 ghost use Rattle.end_words.specs.Runs.{covers, meets};
 ghost use Rattle.block_cache.specs.CacheWords.{used, with_block, without_met};
-ghost use Rattle.block_cache.specs.Numbering.{run_of, number_of, IsNumberedBelow};
+ghost use Rattle.block_cache.specs.Numbering.{number_of, IsNumberedBelow};
 ghost use Rattle.block_cache.specs.declared.limits.TheConstants.{CACHE_LIMIT};
 
 use crate::limits::CACHE_LIMIT;
@@ -84,7 +84,7 @@ impl BlockCache {
         if self.next == u64::MAX {
             return Err(AllocError);
         }
-        self.runs.put(self.next, run)?;
+        put_block(&mut self.runs, self.next, run)?;
         self.next += 1;
         Ok(())
     }
@@ -171,6 +171,19 @@ fn use_cover(runs: &mut LruCache<u64, Run>, key: &KeyBytes)
             runs.promote(&number);
         }
     }
+}
+
+/// Puts a run in front, with a number above all others.
+fn put_block(runs: &mut LruCache<u64, Run>, number: u64, run: Run) -> Result<(), AllocError>
+    requires limit { runs.old.cap ≡ CACHE_LIMIT }
+    requires numbers { IsNumberedBelow number runs.old.entries }
+    ensures values { OnOk result (values_of runs.new.entries ≡ with_block run (values_of runs.old.entries)) }
+    ensures limit { OnOk result (runs.new.cap ≡ CACHE_LIMIT) }
+    ensures numbers { OnOk result (IsNumberedBelow (number + 1) runs.new.entries) }
+    ensures err { OnErr result (runs.new ≡ runs.old) }
+{
+    runs.put(number, run)?;
+    Ok(())
 }
 
 /// Lets go the runs that meet the span.

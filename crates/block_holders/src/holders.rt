@@ -52,6 +52,9 @@ impl Holders {
         ensures err { OnErr result (self.new ≡ self.old) }
     {
         let count = touched_count(self.notes.as_slice(), spans.as_slice());
+        if count == 0 {
+            return Ok(Drops::from_vec(Vec::new(*self.notes.allocator())));
+        }
         let mut drops = Vec::with_capacity(*self.notes.allocator(), count)?;
         move_touched(&mut self.notes, spans.as_slice(), &mut drops);
         Ok(Drops::from_vec(drops))

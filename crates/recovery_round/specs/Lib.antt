@@ -1,1 +1,2 @@
 pub mod RoundWords
+pub mod Laws
