@@ -44,12 +44,29 @@ fn a_full_cache_lets_go_the_run_used_least_lately(rt: HostRuntime) -> Result<(),
     let alloc = rt.alloc();
     let mut cache = BlockCache::new(alloc)?;
     for (lo, hi, name) in [("a", "b", "old"), ("b", "c", "used")] {
-        cache.take_block(run(alloc, Span { lo: key_of(alloc, lo)?, hi: key_of(alloc, hi)? }, name)?)?;
+        cache.take_block(run(
+            alloc,
+            Span {
+                lo: key_of(alloc, lo)?,
+                hi: key_of(alloc, hi)?,
+            },
+            name,
+        )?)?;
     }
     for _one in 2..CACHE_LIMIT {
-        cache.take_block(run(alloc, Span { lo: key_of(alloc, "c")?, hi: key_of(alloc, "d")? }, "more")?)?;
+        cache.take_block(run(
+            alloc,
+            Span {
+                lo: key_of(alloc, "c")?,
+                hi: key_of(alloc, "d")?,
+            },
+            "more",
+        )?)?;
     }
-    for (call, wanted) in calls(alloc, "cover b = used\nblock c d last =\npeek a = none\npeek b = used\npeek c = last\n")? {
+    for (call, wanted) in calls(
+        alloc,
+        "cover b = used\nblock c d last =\npeek a = none\npeek b = used\npeek c = last\n",
+    )? {
         assert_eq!(rt; called(alloc, &mut cache, call)?.as_str(), wanted, "{call}");
     }
     Ok(())

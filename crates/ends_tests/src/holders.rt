@@ -66,7 +66,10 @@ fn told(alloc: Global, drops: Drops) -> Result<String, Fail> {
     let mut answer = String::new(alloc);
     for noted in drops.into_vec() {
         let lo = str::from_utf8(noted.span.lo.as_slice())?;
-        add(&mut answer, format!(in alloc; "{}:{lo}", noted.session)?.as_str())?;
+        add(
+            &mut answer,
+            format!(in alloc; "{}:{lo}", noted.session)?.as_str(),
+        )?;
     }
     Ok(answer)
 }

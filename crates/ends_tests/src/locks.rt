@@ -19,8 +19,8 @@ requests 3 = 3.1
 ask 4 0 1 exclusive abc 6 = waits
 ask 2 0 4 shared a 7 = granted
 free 2 0 exclusive a 8 =
-free 2 0 exclusive a 8 =
-free 2 0 shared a 9 = 3.1
+free 2 0 exclusive a 9 = 3.1
+free 2 0 shared a 9 =
 holds 3 0 shared ab = true
 # What isn't held isn't freed.
 free 9 0 shared ab 9 =
@@ -129,7 +129,11 @@ fn by_ticket(alloc: Global, table: &mut LockTable, call: &str) -> Result<String,
     }
 }
 
-fn asked(alloc: Global, table: &mut LockTable, words: &mut SplitWhitespace<'_>) -> Result<String, Fail> {
+fn asked(
+    alloc: Global,
+    table: &mut LockTable,
+    words: &mut SplitWhitespace<'_>,
+) -> Result<String, Fail> {
     let who = who(words)?;
     let request = Request {
         who,
@@ -146,7 +150,11 @@ fn asked(alloc: Global, table: &mut LockTable, words: &mut SplitWhitespace<'_>) 
     }
 }
 
-fn claimed(alloc: Global, table: &mut LockTable, words: &mut SplitWhitespace<'_>) -> Result<String, Fail> {
+fn claimed(
+    alloc: Global,
+    table: &mut LockTable,
+    words: &mut SplitWhitespace<'_>,
+) -> Result<String, Fail> {
     let mut hold = lock(alloc, words)?;
     hold.count = word(words)?.parse::<u32>()?;
     hold.at = number(words)?;
