@@ -204,8 +204,8 @@ class Draw:
                 conn = [y.f for y in k.c.f['accepted'] if y.f['server'] == x['server'] and not y.f['left'] and y.f['dial'] == some(Rec({'app': x['app'], 'dial': x['number']}))]
                 if conn: m = Con('Server', (x['server'], self.now(), Con('Broken', (conn[0]['conn'],))))
             if m is None or not k.allowed(m): continue
-            outs, _ = k.make(m)
-            bad = nodes.add(m, outs) or wire.accounted(k) or wire.quiet(k)
+            outs, acts = k.make(m)
+            bad = nodes.add(m, outs, acts) or wire.accounted(k) or wire.quiet(k)
             if bad: raise Finding('%s\n  by %r' % (bad, m))
     quiet = 0
 
@@ -220,8 +220,8 @@ def one_run(seed, moves, shape=None, aim=None, every=0, check=None):
     try:
         for i in range(moves):
             m = d.next()
-            outs, _ = k.make(m)
-            bad = nodes.add(m, outs) or wire.quiet(k)
+            outs, acts = k.make(m)
+            bad = nodes.add(m, outs, acts) or wire.quiet(k)
             if bad: raise Finding('%s\n  by %r' % (bad, m))
             bad = wire.accounted(k)
             if bad: raise Finding('not accounted: %r\n  by %r' % (bad, m))

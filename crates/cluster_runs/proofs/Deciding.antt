@@ -1,9 +1,8 @@
 -- Each move is allowed next or it isn't.
-use Rattle.std.specs.Prelude.{◌≡◌, ◌≤◌, ◌<◌, ℕ, Bool, true, false, ◌+◌, List, [], ◌∷◌, ◌++◌, length, take, Option, Some, None, is_some, get_or, IfSome, unsigned_abs, refl}
-use Rattle.std.proofs.Common.{ap, subst, sym, ◌∙◌, arith}
+use Rattle.std.specs.Prelude.{◌≡◌, ℕ, Bool, true, false, ◌+◌, List, [], ◌∷◌, ◌++◌, length, take, Option, Some, None, is_some, get_or, IfSome, unsigned_abs, refl}
+use Rattle.std.proofs.Common.{ap, subst, sym, ◌∙◌}
 use Rattle.std.specs.List.{AllByRecursion, find, list_any}
-use Rattle.std.specs.Coded.{Coded, codes}
-use Rattle.std.proofs.Math.Logic.{inl, inr}
+use Rattle.std.specs.Coded.{codes}
 use Rattle.subscript_keys.specs.Key.{IsKey, IsSub, sub_bytes}
 use Rattle.subscript_keys.specs.declared.limits.TheConstants.{KEY_LIMIT, VALUE_LIMIT, NUMBER_LIMIT}
 use Rattle.plain_orders.specs.declared.limits.TheConstants.{EPOCH_END, START_EPOCH_LIMIT}
@@ -19,14 +18,14 @@ use Rattle.plain_orders.specs.declared.op.Op.TheVariants as ops
 use Rattle.ecp_messages.specs.declared.up.UpFrame.{UpFrame}
 use Rattle.ecp_messages.specs.declared.down.DownFrame.{DownFrame}
 use Rattle.app_job.specs.Sites.{Site}
-use Rattle.app_job.specs.Limits.{CommandMay, NextMay, IsWait, server_of}
+use Rattle.app_job.specs.Limits.{CommandMay, NextMay, server_of}
 use Rattle.app_job.specs.declared.command.Command.{Command}
 use Rattle.app_job.specs.declared.command.Command.TheVariants as commands
 use Rattle.app_rules.specs.declared.app_in.AppIn.{AppIn}
 use Rattle.app_rules.specs.declared.app_in.AppIn.TheVariants as app_in
 use Rattle.app_rules.specs.declared.line.Line.{Line}
-use Rattle.app_rules.specs.AppStep.{AppMay, FrameMay, TriedMay, NoWayMay}
-use Rattle.app_rules.specs.AppState.{AppState, IsServer}
+use Rattle.app_rules.specs.AppStep.{AppMay, TriedMay}
+use Rattle.app_rules.specs.AppState.{AppState}
 use Rattle.app_rules.specs.Looks.{LookMay, Shown, View, known_at, has_own_at}
 use Rattle.app_rules.specs.Ending.{is_session}
 use Rattle.app_rules.specs.Works.{end_at}
@@ -38,13 +37,12 @@ use Rattle.data_rules.specs.declared.data_in.DataIn.TheVariants as data_in
 use Rattle.data_rules.specs.DataState.{DataState}
 use Rattle.data_rules.specs.Step.{DataMay}
 use Rattle.data_rules.specs.Conns.{role_of}
-use Rattle.cluster_runs.specs.declared.moves.Move.{Move}
 use Rattle.cluster_runs.specs.declared.moves.Move.TheVariants.{Step, Looked, App, Server, Begin, Halt, Die, Tick}
 use Rattle.cluster_runs.specs.CoresState.{CoresState, Accepted, Linked, node_at, order_at, app_at, begun_at, is_dead, accepted_at, is_accepted, app_of_job, plain_server, dial_at}
-use Rattle.cluster_runs.specs.Moves.{NowMay, LineMay, AliveMay, CommandIs, StepMay, LookedMay, LookMayBe, AppTakes, AppMoveMay, FirstMay, LinkedMay, TakenMay, ServerTakes, NodeMay, ServerMoveMay, LaterMay, EntriesMay, BeginMay, HaltMay, DieMay, next_down, next_up, named_dial, dial_of, is_unlinked}
+use Rattle.cluster_runs.specs.Moves.{NowMay, LineMay, AliveMay, CommandIs, StepMay, LookedMay, LookMayBe, AppTakes, AppMoveMay, FirstMay, LinkedMay, TakenMay, ServerTakes, NodeMay, ServerMoveMay, EntriesMay, BeginMay, HaltMay, DieMay, next_down, next_up, named_dial, dial_of, is_unlinked}
 use Rattle.cluster_runs.specs.Views.{view_at, shown_at}
 use Rattle.cluster_runs.specs.Wires.{last_dial}
-use Rattle.cluster_runs.specs.Decided.{IsDecided, HasForm, OpHasForm, EntryHasForm, CommandHasForm, AppInHasForm, DataInHasForm, EachIsDecided}
+use Rattle.cluster_runs.specs.Decided.{IsDecided, OpHasForm, EntryHasForm, CommandHasForm, AppInHasForm, DataInHasForm, EachIsDecided}
 use Rattle.cluster_runs.proofs.Telling.{meant, both, never, always, denied, numbers, at_most, below, same, if_some, not_one}
 
 bools : (a b : Bool) → IsDecided (a ≡ b)

@@ -1,6 +1,6 @@
 -- What has a code is the same or not, and what can be told of parts can be told of the whole.
-use Rattle.std.specs.Prelude.{◌≡◌, ◌≤◌, ◌<◌, ℕ, Bool, List, [], ◌∷◌, Option, Some, None, IfSome, ⊤, refl}
-use Rattle.std.proofs.Common.{ap, subst, sym, arith}
+use Rattle.std.specs.Prelude.{◌≡◌, ◌≤◌, ◌<◌, ℕ, Option, Some, None, IfSome, refl}
+use Rattle.std.proofs.Common.{ap, sym, arith}
 use Rattle.std.specs.Coded.{Coded}
 use base.Stored.{Gv, gnil, gnum, gcons}
 use Rattle.std.proofs.Math.Decide.{ℕ_discrete, dec_le, dec_lt}

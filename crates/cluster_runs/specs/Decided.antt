@@ -1,5 +1,6 @@
 -- Whether a move is allowed next can be told, where its keys, commands and frames have their forms.
-use Rattle.std.specs.Prelude.{◌⊎◌, ℕ, List, Option, IfSome, ⊤}
+-- These forms of keys, subscripts and frames are assumed here and not decided.
+use Rattle.std.specs.Prelude.{◌⊎◌, IfSome, ⊤}
 use Rattle.std.specs.List.{AllByRecursion}
 use Rattle.subscript_keys.specs.Key.{IsKey, IsSub}
 use Rattle.plain_orders.specs.declared.entry.Entry.{Entry}
@@ -16,7 +17,7 @@ use Rattle.app_rules.specs.declared.app_in.AppIn.TheVariants as app_in
 use Rattle.data_rules.specs.declared.data_in.DataIn.{DataIn}
 use Rattle.data_rules.specs.declared.data_in.DataIn.TheVariants as data_in
 use Rattle.cluster_runs.specs.declared.moves.Move.{Move}
-use Rattle.cluster_runs.specs.declared.moves.Move.TheVariants.{Step, Looked, App, Server, Begin, Halt, Die, Tick}
+use Rattle.cluster_runs.specs.declared.moves.Move.TheVariants.{Step, Looked, App, Server, Begin}
 use Rattle.cluster_runs.specs.CoresState.{CoresState}
 use Rattle.cluster_runs.specs.Moves.{Allowed}
 
@@ -57,7 +58,7 @@ abbrev pub DataInHasForm : DataIn → Type 0
 DataInHasForm (data_in.Frame conn up) = IsUpFrame up
 DataInHasForm input = ⊤
 
--- what a move carries has its form, as its types have it
+-- what a move carries has its form
 abbrev pub HasForm : Move → Type 0
 HasForm (Step job now line command) = CommandHasForm command
 HasForm (Looked job line command) = CommandHasForm command
@@ -66,6 +67,6 @@ HasForm (Server server now input) = DataInHasForm input
 HasForm (Begin server now es) = AllByRecursion EntryHasForm es
 HasForm move = ⊤
 
--- Each move is allowed next or it isn't.
+-- Each move that has its form is allowed next or it isn't.
 abbrev pub EachIsDecided : Type 0
 EachIsDecided = (c : CoresState) (move : Move) → HasForm move → IsDecided (Allowed c move)
