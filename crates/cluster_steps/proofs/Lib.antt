@@ -1,0 +1,9 @@
+pub mod AppPlaces
+pub mod JobPieces
+pub mod UsedRuns
+pub mod JobPiecesOf
+pub mod JobEnds
+pub mod EndSteps
+pub mod FrameEnds
+pub mod FrameCases
+pub mod InputEnds
