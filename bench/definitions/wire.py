@@ -266,6 +266,14 @@ def resets_of(env):
 
 
 over('Words.IsFront', 2, is_front)
+def front_of(ups, kinds):
+    n = 0
+    while n < len(ups) and ups[n].n in kinds: n += 1
+    return ups[:n]
+
+
+HINT[('ComesBack', 'claims')] = lambda env: front_of(env['ups'], ('Claim',))
+HINT[('ComesBack', 'items')] = lambda env: front_of(env['ups'][len(deref(env['claims'])):], ('Update', 'Add', 'Commit', 'Rollback'))
 HINT[('DownWay', 'ends')] = resets_of
 HINT[('DownWay', 'its')] = lambda env: env['left'][:len(env['left']) - len(resets_of(env))]
 

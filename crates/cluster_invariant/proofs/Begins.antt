@@ -1,6 +1,6 @@
 -- What holds holds before any move.
 use Rattle.std.proofs.Common.{◌≡◌, ℕ, zero, suc, false, refl, sym, arith, List, [], None}
-use Rattle.std.proofs.lemmas.Bool.{le-ltb}
+use Rattle.std.proofs.lemmas.Bool.{le-ltb, false≢true}
 use Rattle.plain_orders.specs.declared.entry.Entry.{Entry}
 use Rattle.plain_orders.specs.declared.layout.Layout.{Layout}
 use Rattle.plain_runs.specs.Plain.{nothing_opened}
@@ -13,13 +13,14 @@ use Rattle.cluster_invariant.specs.Dials.{DialsAre, PairDials, is_made}
 use Rattle.cluster_invariant.specs.Link.{LinkHolds, AppWay, LaneCounts}
 use Rattle.cluster_invariant.specs.Coherence.{CoherenceHolds, IsCoherent, IsHeader}
 use Rattle.cluster_invariant.specs.Fronts.{FrontsHold}
+use Rattle.cluster_invariant.specs.Rounds.{RoundsHold, LaneRound}
 use Rattle.cluster_invariant.specs.Holds.{SiteHolds, Holds}
 
 order_begins : (l : Layout) (d : ℕ) → OrderIs l d nothing_opened fresh_site
 order_begins l d = record { past = refl; disk = refl; node = tt; no_conns = λ shut conn. refl; to_come = λ session k later. refl }
 
 ends_begin : EndsAre nothing_opened fresh_site (λ _. false)
-ends_begin = record { tables = λ app alive. tables; told = λ app alive. told app; node = tt }
+ends_begin = record { tables = λ app alive. tables; told = λ app alive. told app; node = tt; unopened = λ shut app. refl }
   where
     tables : AppTables (record { session = None; broke = None }) no_end
     tables = record { session = refl; connected = refl; broke = refl; stands = refl; normal_due = tt }
@@ -32,7 +33,7 @@ none_made zero = refl
 none_made (suc n) = sym (le-ltb n 0 (omega arith))
 
 dials_begin : DialsAre nothing_opened fresh_site (λ _. false)
-dials_begin = record { pairs = pairs; learnt = λ session k. tt; here = λ conn. refl; node = tt }
+dials_begin = record { pairs = pairs; learnt = λ session k. tt; links = λ conn. tt; here = λ conn. refl; node = tt }
   where
     pairs : (app : ℕ) → PairDials nothing_opened fresh_site false app fresh_end
     pairs app = record { made = none_made; left = λ number. tt; each = λ number. tt; rising = λ before number low. tt; now = λ number. tt; still = tt }
@@ -41,7 +42,7 @@ link_begins : LinkHolds nothing_opened fresh_site (λ _. false)
 link_begins = record { lanes = λ session k. counts; node = tt; apps = λ app alive. way app }
   where
     counts : LaneCounts no_lane
-    counts = record { up_taken = omega arith; down_taken = omega arith; no_up = λ none. refl; no_down = λ none. refl }
+    counts = record { up_taken = omega arith; down_taken = omega arith; no_up = λ none. refl; no_down = λ none. refl; ups = refl; downs = refl }
 
     way : (app : ℕ) → AppWay nothing_opened fresh_site app fresh_end
     way app = record { window = tt; begun = tt; down = tt }
@@ -58,7 +59,14 @@ coherence_begins : CoherenceHolds nothing_opened fresh_site
 coherence_begins = record { lanes = λ session k there. none_coherent _ _ session; node = tt }
 
 fronts_begin : FrontsHold nothing_opened fresh_site (λ _. false)
-fronts_begin = record { apps = λ app alive. tt }
+fronts_begin = record { apps = λ app alive. tt; shown = λ app alive. refl }
+
+-- nothing was put in a round either
+pub no_round : (es : List Entry) (session : ℕ) → LaneRound es session no_lane
+no_round es session = record { once = omega arith; opened = λ here. refl; awaits = λ learnt awaits. absurd (false≢true learnt); blocks = refl }
+
+rounds_begin : RoundsHold nothing_opened fresh_site (λ _. false)
+rounds_begin = record { lanes = λ session k there. no_round _ session; node = tt; apps = λ app alive. tt }
 
 site_begins : (l : Layout) (d : ℕ) → SiteHolds l d (λ _. false) nothing_opened fresh_site
 site_begins l d = record {
@@ -68,6 +76,7 @@ site_begins l d = record {
   link = link_begins;
   coherence = coherence_begins;
   fronts = fronts_begin;
+  rounds = rounds_begin;
 }
 
 pub begin_holds : (l : Layout) → Holds l (begin l)

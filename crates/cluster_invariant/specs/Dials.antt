@@ -1,7 +1,8 @@
 -- The connections of each pair: what was put first on them, in which order, and which of them both ends still have.
-use Rattle.std.specs.Prelude.{◌≡◌, ◌≢◌, ◌<◌, ◌≤◌, ⊤, ℕ, zero, suc, Bool, true, false, ◌==◌, not, [], ◌∷◌, map, drop, length, nat_lt, Option, Some, None, is_some, IfSome, IsSomeAnd}
+use Rattle.std.specs.Prelude.{◌≡◌, ◌≢◌, ◌<◌, ◌≤◌, ⊤, ℕ, zero, suc, Bool, true, false, ◌==◌, not, List, [], ◌∷◌, map, drop, length, nat_lt, Option, Some, None, is_some, IfSome, IsSomeAnd}
 use Rattle.std.specs.List.{list_any, list_all}
 use Rattle.data_rules.specs.declared.limits.TheConstants.{APP_LIMIT}
+use Rattle.plain_orders.specs.declared.entry.Entry.{Entry}
 use Rattle.plain_orders.specs.Entries.{live, closes, last_epoch}
 use Rattle.plain_orders.specs.Sessions.{app_in}
 use Rattle.plain_runs.specs.Plain.{Server, current, order_at}
@@ -18,11 +19,13 @@ use Rattle.data_rules.specs.declared.rows.Kind.TheVariants.{Opening, Numbered, U
 use Rattle.data_rules.specs.Frames.{kind_of}
 use Rattle.data_rules.specs.Callers.{dial_of}
 use Rattle.data_rules.specs.Conns.{role_of}
+use Rattle.data_rules.specs.Places.{epoch_place}
 use Rattle.data_rules.specs.Puts.{conn_of, number_of}
-use Rattle.cluster_runs.specs.Sent.{Connection, Knew, Mark, FirstTaken}
+use Rattle.cluster_runs.specs.CoresState.{Linked}
+use Rattle.cluster_runs.specs.Sent.{Connection, Knew, Mark, Place, FirstTaken}
 use Rattle.cluster_runs.specs.Machine.{Site, End, DataConnection}
 use Rattle.cluster_runs.specs.Connections.{link_of, knows}
-use Rattle.cluster_invariant.specs.Words.{is_wire, NoLess, all_differ}
+use Rattle.cluster_invariant.specs.Words.{is_wire, is_begun, is_reset_frame, NoLess, all_differ, stays_at}
 
 -- what goes up first on a connection, by what was known as it was made
 abbrev pub first_message : Server → ℕ → ℕ → ℕ → Option Mark → Up
@@ -63,6 +66,23 @@ pub record FirstIs (v : Server) (x : Site) (app number : ℕ) (f : FirstTaken) :
   pub there : f.order ≤ current v
   pub linked : link_of x f.conn ≡ Some (record { app = app; dial = number })
 
+-- the plain session is this application server's, and was told of this order or of a later one
+abbrev pub WasTold : Server → ℕ → ℕ → ℕ → Type 0
+WasTold v app session k = IsSomeAnd (v.session_at session) (λ t. (t.app ≡ app) × (k ≤ t.told))
+
+-- What was known of a session as a connection was made: it was told of that order, whose Epoch stays, and took so many messages in it.
+pub record KnewIs (v : Server) (x : Site) (app session : ℕ) (m : Mark) : Type 0 where
+  pub there : m.order ≤ current v
+  pub told : WasTold v app session m.order
+  pub begun : is_begun (x.lane_at session m.order) ≡ true
+  pub taken : m.taken ≤ (x.lane_at session m.order).down_taken
+  pub stays : epoch_place (order_at v m.order) ≤ stays_at v m.order
+
+-- it carries the messages of a session that this application server has in the order in which the first frame was taken
+pub record CarriesOf (v : Server) (app : ℕ) (first : Option FirstTaken) (p : Place) : Type 0 where
+  pub order : IsSomeAnd first (λ f. f.order ≡ p.order)
+  pub opened : app_in (order_at v p.order) p.session ≡ Some app
+
 -- A connection that an application server made.
 pub record ConnectionIs (v : Server) (x : Site) (app number : ℕ) (c : Connection) : Type 0 where
   -- its first frame says just what was known as it was made
@@ -80,10 +100,8 @@ pub record ConnectionIs (v : Server) (x : Site) (app number : ℕ) (c : Connecti
   pub taken : is_some c.first ≡ c.linked
   pub where_taken : IfSome c.first (FirstIs v x app number)
   pub data_left : c.data_left ≡ is_left_at x c.first
-  -- it carries messages of the order in which its first frame was taken
-  pub its : IfSome c.its (λ p. IsSomeAnd c.first (λ f. f.order ≡ p.order))
-  -- what was known is of an order that was there
-  pub known : IfSome c.knew.mark (λ m. m.order ≤ current v)
+  pub its : IfSome c.its (CarriesOf v app c.first)
+  pub known : IfSome c.knew.mark (KnewIs v x app c.knew.session)
 
 -- a connection of this number was made, the first being 1
 abbrev pub is_made : ℕ → ℕ → Bool
@@ -112,20 +130,27 @@ pub record PairDials (v : Server) (x : Site) (is_dead : Bool) (app : ℕ) (e : E
   pub now : (number : ℕ) → IfSome (e.connection_at number) (λ c. NoLess c.knew (knows e))
   pub still : KnowsStill e.state.line (knows e) (e.connection_at e.state.dial)
 
--- What was known as a connection was made that is later than the one on which a session learnt of an order.
-pub record LearntOn (v : Server) (e : End) (session k dial : ℕ) : Type 0 where
+-- what is known of a session as it learns of an order
+abbrev pub as_it_learns : ℕ → ℕ → Knew
+as_it_learns session k = record { session = session; mark = Some (record { order = k; taken = 0 }) }
+
+-- A session that learnt of an order on a connection, and what its application server has known since.
+pub record LearntOn (v : Server) (e : End) (app session k dial : ℕ) : Type 0 where
   -- the Welcome came on a connection of that number, which carries the session's messages in that order
   pub carries : IsSomeAnd (e.connection_at dial) (λ c. c.its ≡ Some (record { session = session; order = k }))
   pub there : k ≤ current v
-  -- each later one was made by an end that knew of that order
-  pub later : (number : ℕ) → dial < number
-      → IfSome (e.connection_at number) (λ c. NoLess (record { session = session; mark = Some (record { order = k; taken = 0 }) }) c.knew)
+  -- the plain session was told of it, whoever has the session now
+  pub told : WasTold v app session k
+  -- each later connection was made by an end that knew of that order
+  pub later : (number : ℕ) → dial < number → IfSome (e.connection_at number) (λ c. NoLess (as_it_learns session k) c.knew)
+  -- and the end knows no less now
+  pub now : NoLess (as_it_learns session k) (knows e)
 
 -- Of each session in each order that its application server learnt of: it has an Open there, and its connection is known.
 abbrev pub LearntBy : Server → Site → ℕ → ℕ → Option ℕ → Option ℕ → Type 0
 LearntBy v x session k None app = ⊤
 LearntBy v x session k (Some dial) None = ⊥
-LearntBy v x session k (Some dial) (Some app) = LearntOn v (x.end_at app) session k dial
+LearntBy v x session k (Some dial) (Some app) = LearntOn v (x.end_at app) app session k dial
 
 -- a first frame was taken in this order
 abbrev pub is_taken_in : ℕ → Option FirstTaken → Bool
@@ -153,20 +178,45 @@ pub record LinkedTo (x : Site) (conn app : ℕ) (P : Connection → Type 0) : Ty
 abbrev pub CarriesNoOther : ℕ → ℕ → Connection → Type 0
 CarriesNoOther session k c = IfSome c.its (λ p. p ≡ record { session = session; order = k })
 
+-- a Hello asked for the session, which was opened in this order, or a Recover named it
+abbrev pub CameFor : List Entry → ℕ → Knew → Option Mark → Type 0
+CameFor es session knew None = epoch_place es < session
+CameFor es session knew (Some m) = knew.session ≡ session
+
+-- the connection of a live session
+pub record BoundTo (x : Site) (es : List Entry) (session : ℕ) (c : Connection) : Type 0 where
+  pub carries : CarriesNoOther session x.past c
+  pub came : CameFor es session c.knew c.knew.mark
+  -- a session that learnt of the order was told so on it, and before that nothing is put on it
+  pub told : is_begun (x.lane_at session x.past) ≡ true → c.its ≡ Some (record { session = session; order = x.past })
+  pub silent : c.its ≡ None → c.downs ≡ []
+  pub unreset : list_any is_reset_frame c.downs ≡ false
+
+-- the connection that a Recover of a closed session came on, or of one that was closed since
+pub record ClosedOn (x : Site) (session : ℕ) (c : Connection) : Type 0 where
+  pub carries : CarriesNoOther session x.past c
+  pub came : IsSomeAnd c.knew.mark (λ m. c.knew.session ≡ session)
+
+-- the connections that carry a session's messages in an order are none later than this one
+abbrev pub IsNewest : End → ℕ → ℕ → ℕ → Type 0
+IsNewest e session k dial =
+    (number : ℕ) → IfSome (e.connection_at number) (λ c. c.its ≡ Some (record { session = session; order = k }) → number ≤ dial)
+
 -- the one of a live session
 pub record BoundIs (x : Site) (n : DataState) (conn session : ℕ) : Type 0 where
   pub lives : live n.order session ≡ true
   pub its : conn_of n session ≡ Some conn
   pub app : ℕ
   pub opened : app_in n.order session ≡ Some app
-  pub linked : LinkedTo x conn app (CarriesNoOther session x.past)
+  pub linked : LinkedTo x conn app (BoundTo x n.order session)
+  pub newest : IfSome (link_of x conn) (λ l. IsNewest (x.end_at app) session x.past l.dial)
 
 -- one whose session has a Close
 pub record ClosingIs (x : Site) (n : DataState) (conn session : ℕ) : Type 0 where
   pub ended : list_any (closes session) n.order ≡ true
   pub app : ℕ
   pub opened : app_in n.order session ≡ Some app
-  pub linked : LinkedTo x conn app (CarriesNoOther session x.past)
+  pub linked : LinkedTo x conn app (ClosedOn x session)
 
 -- What a data connection is for.
 abbrev pub RoleIs : Site → DataState → ℕ → Role → Type 0
@@ -187,10 +237,15 @@ abbrev pub has_conn : Option DataState → ℕ → Bool
 has_conn None conn = false
 has_conn (Some n) conn = is_some (role_of n conn)
 
+-- a data connection is linked to the connection whose first frame was taken on it
+abbrev pub IsLinkedBy : Site → ℕ → Linked → Type 0
+IsLinkedBy x conn l = IsSomeAnd ((x.end_at l.app).connection_at l.dial) (λ c. IsSomeAnd c.first (λ f. f.conn ≡ conn))
+
 -- all connections of a data server's pairs
 pub record DialsAre (v : Server) (x : Site) (is_dead : ℕ → Bool) : Type 0 where
   pub pairs : (app : ℕ) → PairDials v x (is_dead app) app (x.end_at app)
   pub learnt : (session k : ℕ) → LearntBy v x session k (x.lane_at session k).began (app_in (order_at v k) session)
+  pub links : (conn : ℕ) → IfSome (link_of x conn) (IsLinkedBy x conn)
   -- the node has just those that this end hasn't left
   pub here : (conn : ℕ) → is_here (x.connection_at conn) ≡ has_conn x.node conn
   pub node : IfSome x.node (NodeDials x)

@@ -25,7 +25,7 @@ use Rattle.data_rules.specs.Places.{epoch_place}
 use Rattle.data_rules.specs.Puts.{conn_of}
 use Rattle.cluster_runs.specs.Sent.{Lane, Place, Connection, ups_taken}
 use Rattle.cluster_runs.specs.Machine.{Site, End}
-use Rattle.cluster_runs.specs.Connections.{link_of as linked_of}
+use Rattle.cluster_invariant.specs.Dials.{LinkedTo}
 use Rattle.cluster_invariant.specs.Words.{stays_at, all_differ}
 
 -- the application end
@@ -163,20 +163,19 @@ pub record RoundIs (v : Server) (n : DataState) (lane_of : ℕ → Lane) : Type 
   -- in it no data end is known to have broken
   pub unbroken : IfSome n.round (λ r. (app : ℕ) → v.end_at app ≡ None)
 
--- the Hello was put and taken on it, and nothing else either way
+-- the Hello was put and taken on it, and nothing else either way, and it carries no session's messages
 pub record HelloAlone (c : Connection) : Type 0 where
   pub hello : c.knew.mark ≡ None
   pub one : drop 1 c.ups ≡ []
   pub taken : c.ups_taken ≡ 1
   pub silent : c.downs ≡ []
+  pub its : c.its ≡ None
 
 -- a Hello that waits
 pub record CallerIs (n : DataState) (x : Site) (c : Caller) : Type 0 where
   pub waits : role_of n c.conn ≡ Some Waiting
   pub free : live_session n.order c.app ≡ None
-  pub dial : ℕ
-  pub linked : linked_of x c.conn ≡ Some (record { app = c.app; dial = dial })
-  pub alone : IsSomeAnd ((x.end_at c.app).connection_at dial) HelloAlone
+  pub linked : LinkedTo x c.conn c.app HelloAlone
 
 -- the application server of a waiting Hello
 abbrev pub app_of_caller : Caller → ℕ
@@ -205,3 +204,5 @@ pub record EndsAre (v : Server) (x : Site) (is_dead : ℕ → Bool) : Type 0 whe
   pub tables : (app : ℕ) → is_dead app ≡ false → AppTables (v.pair_at app) (x.end_at app).state
   pub told : (app : ℕ) → is_dead app ≡ false → AppTold v app (x.end_at app)
   pub node : IfSome x.node (NodeEnds v x)
+  -- before the first start no data end broke
+  pub unopened : v.opened ≡ false → (app : ℕ) → v.end_at app ≡ None

@@ -1,5 +1,5 @@
 -- What an application end has of what it took: its front, and its runs.
-use Rattle.std.specs.Prelude.{◌≡◌, ◌≤◌, ◌⊎◌, ℕ, Bool, false, List, [], ◌∷◌, take, length, IfSome}
+use Rattle.std.specs.Prelude.{◌≡◌, ◌≢◌, ◌≤◌, ◌⊎◌, ℕ, Bool, false, List, [], ◌∷◌, take, length, Option, Some, None, IfSome}
 use Rattle.std.specs.List.{list_any, AllByRecursion}
 use Rattle.subscript_keys.specs.declared.run.Run.{Run}
 use Rattle.plain_orders.specs.declared.entry.Entry.{Entry}
@@ -10,6 +10,7 @@ use Rattle.ecp_messages.specs.declared.down.Down.{Down}
 use Rattle.ecp_messages.specs.declared.down.Down.TheVariants.{Welcome, Reset, Block, Drop, Ack, Grant, Answer, Normal, Bare}
 use Rattle.ecp_messages.specs.declared.front.Front.{Front}
 use Rattle.app_rules.specs.AppState.{Session}
+use Rattle.app_rules.specs.Looks.{Shown, shown_front}
 use Rattle.cluster_runs.specs.Sent.{Lane, downs_taken}
 use Rattle.cluster_runs.specs.Machine.{Site, End}
 use Rattle.cluster_invariant.specs.Coherence.{front_of, drops}
@@ -51,6 +52,17 @@ pub record FrontIs (es : List Entry) (lane : Lane) (number n w : ℕ) (cache : L
 abbrev pub FrontOf : Server → Site → End → Session → Type 0
 FrontOf v x e s = IfSome e.told (λ p. FrontIs (order_at v p.order) (x.lane_at s.number p.order) s.number s.n s.w s.cache)
 
+-- What is published of a session: runs that came and weren't dropped, and where there are any, the session's front.
+pub record ShownIs (lane : Lane) (s : Session) (y : Shown) : Type 0 where
+  pub runs : AllByRecursion (λ run. Stands run (downs_taken lane)) y.runs
+  pub front : y.runs ≢ [] → y.front ≡ Some (shown_front s)
+
+-- of an end without a session no run is published
+abbrev pub ShownOf : Site → End → Option Session → Type 0
+ShownOf x e None = e.shown.runs ≡ []
+ShownOf x e (Some s) = IfSome e.told (λ p. ShownIs (x.lane_at s.number p.order) s e.shown)
+
 -- the ends of all living application servers with one data server
 pub record FrontsHold (v : Server) (x : Site) (is_dead : ℕ → Bool) : Type 0 where
   pub apps : (app : ℕ) → is_dead app ≡ false → IfSome (x.end_at app).state.session (FrontOf v x (x.end_at app))
+  pub shown : (app : ℕ) → is_dead app ≡ false → ShownOf x (x.end_at app) (x.end_at app).state.session

@@ -10,6 +10,7 @@ use Rattle.cluster_invariant.specs.Dials.{DialsAre}
 use Rattle.cluster_invariant.specs.Link.{LinkHolds}
 use Rattle.cluster_invariant.specs.Coherence.{CoherenceHolds}
 use Rattle.cluster_invariant.specs.Fronts.{FrontsHold}
+use Rattle.cluster_invariant.specs.Rounds.{RoundsHold}
 
 -- one data server with its pairs, against the plain one
 pub record SiteHolds (l : Layout) (d : ℕ) (is_dead : ℕ → Bool) (v : Server) (x : Site) : Type 0 where
@@ -19,6 +20,7 @@ pub record SiteHolds (l : Layout) (d : ℕ) (is_dead : ℕ → Bool) (v : Server
   pub link : LinkHolds v x is_dead
   pub coherence : CoherenceHolds v x
   pub fronts : FrontsHold v x is_dead
+  pub rounds : RoundsHold v x is_dead
 
 -- all data servers, against a plain state
 pub record HoldsOf (l : Layout) (p : Plain) (m : Machine) : Type 0 where

@@ -2,7 +2,10 @@ pub mod Words
 pub mod Orders
 pub mod Ends
 pub mod Dials
+pub mod Served
+pub mod Waiting
 pub mod Link
 pub mod Coherence
 pub mod Fronts
+pub mod Rounds
 pub mod Holds

@@ -1,6 +1,6 @@
 -- What is on its way between the two ends of each session, in each of its orders.
 use Rattle.std.specs.Prelude.{◌≡◌, ◌≢◌, ◌<◌, ◌≤◌, ◌⊎◌, ◌+◌, ⊤, ℕ, Bool, true, false, ◌==◌, ◌&&◌, List, [], ◌∷◌, ◌++◌, map, drop, take, length, nat_lt, Option, Some, None, is_some, IfSome, IsSomeAnd}
-use Rattle.std.specs.List.{list_any, list_all, AllByRecursion}
+use Rattle.std.specs.List.{list_any, list_all, flat_map, AllByRecursion}
 use Rattle.plain_orders.specs.declared.entry.Entry.{Entry}
 use Rattle.plain_orders.specs.declared.entry.Entry.TheVariants.{Opened, Closed}
 use Rattle.plain_orders.specs.Entries.{count, live, entry_at, last_epoch}
@@ -8,6 +8,7 @@ use Rattle.plain_orders.specs.Sessions.{place_of_epoch}
 use Rattle.plain_runs.specs.Plain.{Server, current, order_at}
 use Rattle.link_states.specs.declared.app_link.AppLink.{AppLink}
 use Rattle.link_states.specs.declared.app_link.AppLink.TheVariants.{NotConnected, Normal as NormalLink, Trouble, Recovery}
+use Rattle.ecp_messages.specs.declared.up.Up.{Up}
 use Rattle.ecp_messages.specs.declared.up.UpFrame.{UpFrame}
 use Rattle.ecp_messages.specs.declared.down.Down.{Down}
 use Rattle.ecp_messages.specs.declared.down.Down.TheVariants.{Welcome, Reset, Block, Drop, Ack, Grant, Answer, Normal, Bare}
@@ -19,28 +20,52 @@ use Rattle.app_rules.specs.declared.line.Line.TheVariants.{Apart, Trying, Greeti
 use Rattle.app_rules.specs.AppState.{AppEnd, Session}
 use Rattle.app_rules.specs.Works.{is_joined}
 use Rattle.data_rules.specs.DataState.{DataState, SessionWindow}
-use Rattle.data_rules.specs.declared.rows.Reply.{Reply}
-use Rattle.data_rules.specs.declared.rows.Says.{Says}
-use Rattle.data_rules.specs.declared.rows.Says.TheVariants.{NewWelcome, EpochWelcome, ResetOf, GrantOf, AnswerOf}
 use Rattle.data_rules.specs.declared.rows.Role.TheVariants.{Bound, Closing}
 use Rattle.data_rules.specs.Conns.{role_of}
+use Rattle.data_rules.specs.Frames.{kind_of}
 use Rattle.data_rules.specs.Places.{epoch_place}
 use Rattle.data_rules.specs.Puts.{window_of}
 use Rattle.cluster_runs.specs.CoresState.{Linked}
-use Rattle.cluster_runs.specs.Sent.{Lane, Place, Connection, Mark}
+use Rattle.cluster_runs.specs.Sent.{Lane, Place, Connection}
 use Rattle.cluster_runs.specs.Machine.{Site, End}
 use Rattle.cluster_runs.specs.Connections.{link_of}
 use Rattle.cluster_invariant.specs.Coherence.{IsHeader}
-use Rattle.cluster_invariant.specs.Words.{IsFront, ups_left, downs_left, numbered_ups, numbered_downs, numbered_behind, is_wire, is_number, all_differ, stays_at}
+use Rattle.cluster_invariant.specs.Dials.{follows}
+use Rattle.cluster_invariant.specs.Served.{NodeServes}
+use Rattle.cluster_invariant.specs.Waiting.{ReplyWaits, conns_in}
+use Rattle.cluster_invariant.specs.Words.{IsFront, ups_left, downs_left, numbered_ups, numbered_downs, numbered_behind, is_wire, is_number, is_normal_down, all_differ, stays_at}
 
 -- the two windows of a session in an order
 
--- What was taken was put; and of an order that the application server didn't learn of nothing was put.
+-- a number, and only what has one
+abbrev pub fits_down : Down → ℕ → Bool
+fits_down (Welcome session epoch kept front taken) seq = false
+fits_down (Reset session at) seq = false
+fits_down (Block front block) seq = nat_lt 0 seq
+fits_down (Drop front lo hi) seq = nat_lt 0 seq
+fits_down (Ack front) seq = nat_lt 0 seq
+fits_down (Grant front ticket at) seq = nat_lt 0 seq
+fits_down (Answer front about job number at sum) seq = nat_lt 0 seq
+fits_down (Normal front) seq = nat_lt 0 seq
+fits_down Bare seq = seq == 0
+
+-- it has a number
+abbrev pub is_numbered_down : Down → Bool
+is_numbered_down m = fits_down m 1
+
+-- likewise
+abbrev pub is_numbered_up : Up → Bool
+is_numbered_up m = follows (kind_of m) 1
+
+-- What was taken was put, and is of those messages that have numbers; and of an order that the application server didn't learn of nothing
+-- was put.
 pub record LaneCounts (x : Lane) : Type 0 where
   pub up_taken : x.up_taken ≤ length x.up
   pub down_taken : x.down_taken ≤ length x.down
   pub no_up : x.began ≡ None → x.up ≡ []
   pub no_down : x.began ≡ None → x.down ≡ []
+  pub ups : list_all is_numbered_up x.up ≡ true
+  pub downs : list_all is_numbered_down x.down ≡ true
 
 -- A window keeps what it was given behind what is acknowledged, which the other end took, and counts what was taken.
 pub record WindowIs {M : Type 0} (w : Window M) (put : List M) (reached came : ℕ) : Type 0 where
@@ -91,26 +116,9 @@ UpWayBy x is_dead session l =
 
 -- downwards
 
--- a number, and only what has one
-abbrev pub fits_down : Down → ℕ → Bool
-fits_down (Welcome session epoch kept front taken) seq = false
-fits_down (Reset session at) seq = false
-fits_down (Block front block) seq = nat_lt 0 seq
-fits_down (Drop front lo hi) seq = nat_lt 0 seq
-fits_down (Ack front) seq = nat_lt 0 seq
-fits_down (Grant front ticket at) seq = nat_lt 0 seq
-fits_down (Answer front about job number at sum) seq = nat_lt 0 seq
-fits_down (Normal front) seq = nat_lt 0 seq
-fits_down Bare seq = seq == 0
-
 -- a frame of a session: a numbered message, or an acknowledgement by itself
 abbrev pub is_of_session : DownFrame → Bool
 is_of_session f = fits_down f.message f.seq
-
--- a message is a Normal
-abbrev pub is_normal_down : Down → Bool
-is_normal_down (Normal front) = true
-is_normal_down m = false
 
 -- a frame with one
 abbrev pub is_normal_frame : DownFrame → Bool
@@ -225,6 +233,7 @@ pub record Unmet (v : Server) (x : Site) (app told session order : ℕ) : Type 0
   pub unmet : v.session_at session ≡ None
   pub entered : v.entered_at session ≡ Some (record { app = app; in_order = order; lost_since = false })
   pub opened : entry_at (order_at v order) session ≡ Some (Opened session app)
+  pub behind : epoch_place (order_at v order) < session
   pub unused : count (order_at v order) session ≡ 0
   pub unlearnt : (x.lane_at session order).began ≡ None
 
@@ -242,6 +251,7 @@ pub record NewWelcomeOn (v : Server) (x : Site) (app told : ℕ) (c : Connection
   pub none_counted : front.w ≡ 0
   pub none_synced : front.s ≡ 0
   pub none_taken : taken ≡ 0
+  pub whole : WholeIf x session order (x.lane_at session order) c []
 
 -- what a greeting end gets first
 abbrev pub GreetedFirst : Server → Site → ℕ → ℕ → Connection → Down → Type 0
@@ -276,7 +286,7 @@ pub record AppWay (v : Server) (x : Site) (app : ℕ) (e : End) : Type 0 where
   pub begun : IfSome e.state.session (λ s. IfSome e.told (λ p. is_some (x.lane_at s.number p.order).began ≡ true))
   pub down : IfSome (e.connection_at e.state.dial) (DownBy e.state.line v x app e)
 
--- what waits to be put
+-- the half of a running node
 
 -- a session was entered for the application server that greets on the connection, as long as it does
 abbrev pub GreetsOn : Server → Site → ℕ → ℕ → End → ℕ → Line → Type 0
@@ -287,55 +297,15 @@ GreetsOn v x session app e number line = ⊤
 abbrev pub GreetsBy : Server → Site → (ℕ → Bool) → ℕ → Linked → Type 0
 GreetsBy v x is_dead session l = is_dead l.app ≡ false → GreetsOn v x session l.app (x.end_at l.app) l.dial (x.end_at l.app).state.line
 
--- the Welcome of a new epoch that waits: what it says is known but for its header
-pub record WaitsEpoch (v : Server) (n : DataState) (session kept : ℕ) (m : Mark) : Type 0 where
-  pub later : m.order < current v
-  pub place : place_of_epoch (last_epoch (order_at v m.order)) 0 n.order ≡ Some kept
-  pub kept_more : stays_at v m.order ≤ kept
-
--- what was known as the connection was made on which it is to be put
-abbrev pub WaitsEpochOn : Server → Site → DataState → ℕ → ℕ → Linked → Type 0
-WaitsEpochOn v x n session kept l =
-    IfSome ((x.end_at l.app).connection_at l.dial) (λ c. (c.knew.session ≡ session) × IsSomeAnd c.knew.mark (WaitsEpoch v n session kept) × (c.its ≡ None))
-
--- the Welcome of a new session waits on the connection of that session, to which nothing was told
-pub record NewWaits (v : Server) (x : Site) (n : DataState) (at conn session : ℕ) : Type 0 where
-  pub place : at ≡ session
-  pub bound : role_of n conn ≡ Some (Bound session)
-  pub unlearnt : (x.lane_at session x.past).began ≡ None
-
--- likewise the Welcome of a new epoch, until that Epoch is synced
-pub record EpochWaits (v : Server) (x : Site) (n : DataState) (at conn session kept : ℕ) : Type 0 where
-  pub place : at ≡ epoch_place n.order
-  pub bound : role_of n conn ≡ Some (Bound session)
-  pub unlearnt : (x.lane_at session x.past).began ≡ None
-  pub says : IfSome (link_of x conn) (WaitsEpochOn v x n session kept)
-
--- a Reset waits until the Close is synced
-pub record ResetWaits (n : DataState) (at conn session place : ℕ) : Type 0 where
-  pub until : at ≡ place
-  pub closing : role_of n conn ≡ Some (Closing session)
-  pub closed : entry_at n.order place ≡ Some (Closed session)
-
--- A reply to a connection that waits; those to a session are no part of this.
-abbrev pub WaitsFor : Server → Site → DataState → ℕ → Says → Type 0
-WaitsFor v x n at (NewWelcome conn session) = NewWaits v x n at conn session
-WaitsFor v x n at (EpochWelcome conn session kept) = EpochWaits v x n at conn session kept
-WaitsFor v x n at (ResetOf conn session place) = ResetWaits n at conn session place
-WaitsFor v x n at (GrantOf session ticket number) = ⊤
-WaitsFor v x n at (AnswerOf session about job number place sum) = ⊤
-
--- a reply that waits
-pub record ReplyWaits (v : Server) (x : Site) (n : DataState) (r : Reply) : Type 0 where
-  pub unsynced : n.synced < r.at
-  pub says : WaitsFor v x n r.at r.says
-
--- the half of a running node, by its sessions
+-- by its sessions, and by what it has still to put
 pub record NodeLink (v : Server) (x : Site) (is_dead : ℕ → Bool) (n : DataState) : Type 0 where
   pub windows : NodeWindows x n
   pub ups : (session conn : ℕ) → role_of n conn ≡ Some (Bound session) → IfSome (link_of x conn) (UpWayBy x is_dead session)
   pub greets : (session conn : ℕ) → role_of n conn ≡ Some (Bound session) → IfSome (link_of x conn) (GreetsBy v x is_dead session)
   pub replies : AllByRecursion (ReplyWaits v x n) n.replies
+  -- at most one for each connection
+  pub one_each : all_differ (flat_map conns_in n.replies) ≡ true
+  pub serves : NodeServes x n
 
 -- what is on its way at one data server
 pub record LinkHolds (v : Server) (x : Site) (is_dead : ℕ → Bool) : Type 0 where

@@ -1,10 +1,12 @@
 -- The words of the invariant: what is on its way, how much of an order is known to stay, and the connection that an application end has.
-use Rattle.std.specs.Prelude.{◌≡◌, ◌<◌, ◌≤◌, ◌⊎◌, ◌+◌, ◌-◌, ◌==◌, ◌&&◌, ⊤, ℕ, Bool, true, false, if◌then◌else◌, not, List, [], ◌∷◌, ◌++◌, drop, Option, Some, None, is_some}
+use Rattle.std.specs.Prelude.{◌≡◌, ◌<◌, ◌≤◌, ◌⊎◌, ◌+◌, ◌-◌, ◌==◌, ◌&&◌, ⊤, ℕ, Bool, true, false, if◌then◌else◌, not, List, [], ◌∷◌, ◌++◌, drop, nat_lt, Option, Some, None, is_some}
 use Rattle.std.specs.List.{list_any}
+use Rattle.plain_orders.specs.declared.entry.Entry.{Entry}
 use Rattle.plain_runs.specs.Plain.{Server, current, order_at}
 use Rattle.ecp_messages.specs.declared.up.Up.{Up}
 use Rattle.ecp_messages.specs.declared.up.UpFrame.{UpFrame}
 use Rattle.ecp_messages.specs.declared.down.Down.{Down}
+use Rattle.ecp_messages.specs.declared.down.Down.TheVariants.{Reset, Normal}
 use Rattle.ecp_messages.specs.declared.down.DownFrame.{DownFrame}
 use Rattle.app_rules.specs.declared.line.Line.{Line}
 use Rattle.app_rules.specs.declared.line.Line.TheVariants.{Apart, Trying, Greeting, Asking, Joined}
@@ -16,6 +18,10 @@ use Rattle.cluster_runs.specs.Sent.{Connection, Lane, Knew, Mark}
 -- The entries of an order that stay: of the current one those that are synced, of an earlier one those that the next kept.
 abbrev pub stays_at : Server → ℕ → ℕ
 stays_at v k = if k == current v then v.synced else epoch_place (order_at v (k + 1)) - 1
+
+-- the session's Open stands behind the last Epoch of its order
+abbrev pub is_opened_in : List Entry → ℕ → Bool
+is_opened_in es session = nat_lt (epoch_place es) session
 
 -- the first list is the front of the second
 abbrev pub IsFront : {X : Type 0} → List X → List X → Type 0
@@ -38,6 +44,20 @@ numbered_ups (f ∷ fs) = if f.seq == 0 then numbered_ups fs else (f.seq, f.mess
 abbrev pub numbered_downs : List DownFrame → List (ℕ × Down)
 numbered_downs [] = []
 numbered_downs (f ∷ fs) = if f.seq == 0 then numbered_downs fs else (f.seq, f.message) ∷ numbered_downs fs
+
+-- a message is a Normal
+abbrev pub is_normal_down : Down → Bool
+is_normal_down (Normal front) = true
+is_normal_down m = false
+
+-- a message is a Reset
+abbrev pub is_reset_down : Down → Bool
+is_reset_down (Reset session at) = true
+is_reset_down m = false
+
+-- a frame with one
+abbrev pub is_reset_frame : DownFrame → Bool
+is_reset_frame f = is_reset_down f.message
 
 -- the messages behind the first n, with their numbers
 abbrev pub numbered_behind : {M : Type 0} → ℕ → List M → List (ℕ × M)
