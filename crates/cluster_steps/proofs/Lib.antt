@@ -7,3 +7,4 @@ pub mod EndSteps
 pub mod FrameEnds
 pub mod FrameCases
 pub mod InputEnds
+pub mod AppSites

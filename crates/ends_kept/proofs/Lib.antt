@@ -1,1 +1,2 @@
 pub mod PairTables
+pub mod PairActs
