@@ -2,7 +2,6 @@ pub mod Small
 pub mod Begins
 pub mod Frame
 pub mod Deeds
-pub mod Steps
 pub mod PieceKinds
 pub mod PieceMay
 pub mod Pieces
@@ -17,6 +16,7 @@ pub mod PiecesOfCloses
 pub mod PiecesOfFirsts
 pub mod PiecesOfTicks
 pub mod PiecesOfSteps
+pub mod PieceDeeds
 pub mod Written
 pub mod OrderRows
 pub mod OrderKept

@@ -34,8 +34,7 @@ use Rattle.data_rules.specs.Saving.{releases, releases_all, acks_one, acks, clos
 use Rattle.data_rules.specs.Step.{FrameStep, DataMay, DataStep, made, saved}
 use Rattle.cluster_invariant.specs.Words.{all_differ}
 use Rattle.cluster_invariant.proofs.AllLists.{all_follow, all_both, all_passed, all_filtered}
-use Rattle.cluster_invariant.proofs.Deeds.{still_flushed}
-use Rattle.cluster_invariant.proofs.PutLaws.{only_locks, only_puts}
+use Rattle.cluster_invariant.proofs.PutLaws.{only_locks, only_puts, flushed_order}
 use Rattle.cluster_invariant.proofs.PiecesOfReplies.{flush_pieces, bares_role_pieces}
 use Rattle.cluster_invariant.proofs.PiecesOfRounds.{rounds_pieces}
 use Rattle.cluster_invariant.proofs.PiecesOfMessages.{fresh_pieces}
@@ -57,7 +56,8 @@ gone_pieces t ending conn b first ends = go (role_of b.state conn) refl
         (record {
           first = first;
           ends = ends;
-          unbound = λ q same. (let both : Some (Bound s) ≡ Some (Bound q) = sym role ∙ same in let is : s ≡ q = cc in subst (λ n. app_in b.state.order n ≡ None) is its);
+          unbound = λ q same.
+              (let both : Some (Bound s) ≡ Some (Bound q) = sym role ∙ same in let is : s ≡ q = cc in subst (λ n. app_in b.state.order n ≡ None) is its);
         })
     bound s role (Some app) its = one_piece t (Breaks ending conn s app) b (record { first = first; ends = ends; bound = role; opened = its })
 
@@ -216,7 +216,7 @@ saved_pieces old now upto =
     (and_then t (flushed (releases_all closed b)) (acks acked (flushed (releases_all closed b))) _
     (acks_pieces t upto refl acked (flushed (releases_all closed b))
     (subst (λ (es : List Entry). AllByRecursion (λ s. (live es s ≡ true) × (has_item_of (part_saved old upto) s ≡ true)) acked)
-    (sym ((still_flushed (releases_all closed b)).order ∙ releases_order closed b ∙ ap (λ (d : DataState). d.order) (synced_state upto (begun old))))
+    (sym (flushed_order (releases_all closed b) ∙ releases_order closed b ∙ ap (λ (d : DataState). d.order) (synced_state upto (begun old))))
     (savers_live old.order (part_saved old upto))))
     (rounds_pieces t (acks acked (flushed (releases_all closed b))))))
   where

@@ -1,5 +1,5 @@
 -- What of a data server's state the words of a step change: putting changes the windows alone, an entry the order and the notes too.
-use Rattle.std.proofs.Common.{◌≡◌, ℕ, ◌+◌, List, [], ◌∷◌, length, Option, Some, None, refl, ◌∙◌, ap}
+use Rattle.std.proofs.Common.{◌≡◌, ℕ, ◌+◌, List, [], ◌∷◌, length, filter, Option, Some, None, refl, ◌∙◌, ap}
 use Rattle.plain_orders.specs.declared.entry.Entry.{Entry}
 use Rattle.ecp_messages.specs.declared.down.Down.{Down}
 use Rattle.lock_table.specs.declared.rows.Request.{Request}
@@ -12,7 +12,7 @@ use Rattle.data_rules.specs.declared.rows.Says.{Says}
 use Rattle.data_rules.specs.declared.rows.Says.TheVariants.{NewWelcome, EpochWelcome, ResetOf, GrantOf, AnswerOf}
 use Rattle.data_rules.specs.DataState.{DataState, SessionWindow}
 use Rattle.data_rules.specs.Puts.{Sofar, becomes, tells_on, puts, conn_of, set_window, window_in, window_of, with_window}
-use Rattle.data_rules.specs.Leaving.{leaves}
+use Rattle.data_rules.specs.Leaving.{leaves, all_leave, flushed, may_leave, must_wait}
 use Rattle.data_rules.specs.Entering.{drops, drops_one, with_entry, spans_of, appends}
 use Rattle.data_rules.specs.Granting.{grants, grants_one, locks_become, with_locks}
 use Rattle.data_rules.specs.Closing.{cancels, cancels_one}
@@ -77,6 +77,21 @@ only_leaves (EpochWelcome conn session kept) b = record { windows = _; state = r
 only_leaves (ResetOf conn session at) b = record { windows = b.state.windows; state = refl; acts = refl; cuts = refl }
 only_leaves (GrantOf session ticket at) b = only_puts session _ b
 only_leaves (AnswerOf session about job number at sum) b = only_puts session _ b
+
+only_all_leave : (rs : List Reply) (b : Sofar) → OnlyWindows b (all_leave rs b)
+only_all_leave [] b = only_none b
+only_all_leave (r ∷ rs) b = only_then b (leaves r.says b) (all_leave (r ∷ rs) b) (only_leaves r.says b) (only_all_leave rs (leaves r.says b))
+
+-- Behind a flush only such replies are there as must wait.
+pub flushed_replies : (b : Sofar) → (flushed b).state.replies ≡ filter (must_wait b.state.synced) b.state.replies
+flushed_replies b =
+    ap (λ (d : DataState). d.replies)
+    (only_all_leave (filter (may_leave b.state.synced) b.state.replies) (becomes (λ d. record d { replies = filter (must_wait d.synced) d.replies }) b)).state
+
+pub flushed_order : (b : Sofar) → (flushed b).state.order ≡ b.state.order
+flushed_order b =
+    ap (λ (d : DataState). d.order)
+    (only_all_leave (filter (may_leave b.state.synced) b.state.replies) (becomes (λ d. record d { replies = filter (must_wait d.synced) d.replies }) b)).state
 
 -- an entry more, with what it drops
 abbrev pub with_appended : Entry → List SessionWindow → DataState → DataState
