@@ -17,6 +17,7 @@ pub mod PiecesOfFirsts
 pub mod PiecesOfTicks
 pub mod PiecesOfSteps
 pub mod PieceDeeds
+pub mod StepEnds
 pub mod Written
 pub mod OrderRows
 pub mod OrderKept

@@ -72,7 +72,7 @@ ends_aside [] now = aside_none
 ends_aside (x ∷ xs) now = aside_then (end_back x.app x.session now) (ends_back xs now) (end_aside x.app x.session now) (ends_aside xs now)
 
 -- the sessions are told, one after the other
-abbrev normals : List LiveEnd → Sofar → Sofar
+abbrev pub normals : List LiveEnd → Sofar → Sofar
 normals [] b = b
 normals (x ∷ xs) b = normals xs (puts x.session (Normal (head_of b.state x.session)) b)
 
@@ -88,7 +88,7 @@ come_back_is (x ∷ xs) now b =
 
 -- the Hellos that wait
 
-abbrev calls_with : List Caller → Sofar → Sofar
+abbrev pub calls_with : List Caller → Sofar → Sofar
 calls_with cs b = becomes (λ d. record d { callers = cs }) b
 
 callers_aside : (cs : List Caller) → IsAside (calls_with cs)
@@ -124,13 +124,13 @@ normals_callers cs (x ∷ xs) b =
 abbrev welcomes : ℕ → ℕ → ℕ → ℕ → Sofar → Sofar
 welcomes app conn now session b = replies session (NewWelcome conn session) (becomes (bound app session conn now) b)
 
-opens_callers : (cs : List Caller) (app conn now : ℕ) (b : Sofar) → opens app conn now (calls_with cs b) ≡ calls_with cs (opens app conn now b)
+pub opens_callers : (cs : List Caller) (app conn now : ℕ) (b : Sofar) → opens app conn now (calls_with cs b) ≡ calls_with cs (opens app conn now b)
 opens_callers cs app conn now b =
     ap (welcomes app conn now (length b.state.order + 1))
     (sym (appends_aside (calls_with cs) (callers_aside cs) (OpenEntry (length b.state.order + 1) app)
     (writes (act.Enter b.state.server (OpenEntry (length b.state.order + 1) app)) b)))
 
-opens_round : (app conn now : ℕ) (b : Sofar) → (opens app conn now b).state.round ≡ b.state.round
+pub opens_round : (app conn now : ℕ) (b : Sofar) → (opens app conn now b).state.round ≡ b.state.round
 opens_round app conn now b =
     ap (λ (d : DataState). d.round)
     (appends_state (OpenEntry (length b.state.order + 1) app) (writes (act.Enter b.state.server (OpenEntry (length b.state.order + 1) app)) b)).state
@@ -168,17 +168,17 @@ ends_have (app ∷ apps) es = go (live_session es app) refl (ends_have apps es)
     go None its more = more
     go (Some session) its more = (its, more)
 
-only_normals : (xs : List LiveEnd) (b : Sofar) → OnlyWindows b (normals xs b)
+pub only_normals : (xs : List LiveEnd) (b : Sofar) → OnlyWindows b (normals xs b)
 only_normals [] b = only_none b
 only_normals (x ∷ xs) b =
     only_then b (puts x.session (Normal (head_of b.state x.session)) b) (normals (x ∷ xs) b) (only_puts x.session (Normal (head_of b.state x.session)) b)
     (only_normals xs (puts x.session (Normal (head_of b.state x.session)) b))
 
 -- the round is over, and no end is told of it yet
-abbrev back_written : Sofar → Sofar
+abbrev pub back_written : Sofar → Sofar
 back_written b = writes (act.Back b.state.server) (becomes (λ d. record d { round = None }) b)
 
-ends_told : (xs : List LiveEnd) (now : ℕ) (b : Sofar)
+pub ends_told : (xs : List LiveEnd) (now : ℕ) (b : Sofar)
     → come_back xs now (writes (act.Back b.state.server) (becomes without_round b)) ≡ calls_with [] (normals xs (ends_back xs now (back_written b)))
 ends_told xs now b =
     come_back_is xs now (calls_with [] (back_written b))

@@ -34,7 +34,7 @@ use Rattle.data_rules.specs.Saving.{releases, releases_all, acks_one, acks, clos
 use Rattle.data_rules.specs.Step.{FrameStep, DataMay, DataStep, made, saved}
 use Rattle.cluster_invariant.specs.Words.{all_differ}
 use Rattle.cluster_invariant.proofs.AllLists.{all_follow, all_both, all_passed, all_filtered}
-use Rattle.cluster_invariant.proofs.PutLaws.{only_locks, only_puts, flushed_order}
+use Rattle.cluster_invariant.proofs.PutLaws.{only_locks, only_puts, only_flushed}
 use Rattle.cluster_invariant.proofs.PiecesOfReplies.{flush_pieces, bares_role_pieces}
 use Rattle.cluster_invariant.proofs.PiecesOfRounds.{rounds_pieces}
 use Rattle.cluster_invariant.proofs.PiecesOfMessages.{fresh_pieces}
@@ -216,7 +216,8 @@ saved_pieces old now upto =
     (and_then t (flushed (releases_all closed b)) (acks acked (flushed (releases_all closed b))) _
     (acks_pieces t upto refl acked (flushed (releases_all closed b))
     (subst (λ (es : List Entry). AllByRecursion (λ s. (live es s ≡ true) × (has_item_of (part_saved old upto) s ≡ true)) acked)
-    (sym (flushed_order (releases_all closed b) ∙ releases_order closed b ∙ ap (λ (d : DataState). d.order) (synced_state upto (begun old))))
+    (sym (ap (λ (d : DataState). d.order) (only_flushed (releases_all closed b)).state ∙ releases_order closed b
+    ∙ ap (λ (d : DataState). d.order) (synced_state upto (begun old))))
     (savers_live old.order (part_saved old upto))))
     (rounds_pieces t (acks acked (flushed (releases_all closed b))))))
   where

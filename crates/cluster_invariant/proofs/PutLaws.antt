@@ -82,16 +82,13 @@ only_all_leave : (rs : List Reply) (b : Sofar) → OnlyWindows b (all_leave rs b
 only_all_leave [] b = only_none b
 only_all_leave (r ∷ rs) b = only_then b (leaves r.says b) (all_leave (r ∷ rs) b) (only_leaves r.says b) (only_all_leave rs (leaves r.says b))
 
--- Behind a flush only such replies are there as must wait.
-pub flushed_replies : (b : Sofar) → (flushed b).state.replies ≡ filter (must_wait b.state.synced) b.state.replies
-flushed_replies b =
-    ap (λ (d : DataState). d.replies)
-    (only_all_leave (filter (may_leave b.state.synced) b.state.replies) (becomes (λ d. record d { replies = filter (must_wait d.synced) d.replies }) b)).state
+-- only such replies are left as must wait
+abbrev pub with_waiting : DataState → DataState
+with_waiting d = record d { replies = filter (must_wait d.synced) d.replies }
 
-pub flushed_order : (b : Sofar) → (flushed b).state.order ≡ b.state.order
-flushed_order b =
-    ap (λ (d : DataState). d.order)
-    (only_all_leave (filter (may_leave b.state.synced) b.state.replies) (becomes (λ d. record d { replies = filter (must_wait d.synced) d.replies }) b)).state
+-- A flush leaves those, and changes the windows.
+pub only_flushed : (b : Sofar) → OnlyWindows (becomes with_waiting b) (flushed b)
+only_flushed b = only_all_leave (filter (may_leave b.state.synced) b.state.replies) (becomes with_waiting b)
 
 -- an entry more, with what it drops
 abbrev pub with_appended : Entry → List SessionWindow → DataState → DataState
