@@ -10,6 +10,8 @@ use Rattle.plain_runs.specs.Step.{after}
 use Rattle.plain_runs.specs.Run.{IsRun, after_all, state_after}
 use Rattle.plain_runs.proofs.RunLemmas.{after_all-append}
 use Rattle.plain_runs.proofs.OrderLaws.{orders_kept}
+use Rattle.plain_runs.proofs.Ordered.{ordered_kept}
+use Rattle.plain_orders.specs.Ordered.{IsOrdered}
 use Rattle.data_rules.specs.declared.data_in.DataIn.{DataIn}
 use Rattle.data_rules.specs.DataState.{DataState}
 use Rattle.data_rules.specs.Step.{DataMay}
@@ -22,6 +24,8 @@ use Rattle.cluster_runs.specs.Mirrors.{Mirrors}
 use Rattle.cluster_runs.specs.Machine.{Machine, Site, with_acts}
 use Rattle.cluster_runs.specs.Goes.{at_site, server_site, begun_site, halted_site, ServerGoes, BeginGoes, HaltGoes}
 use Rattle.cluster_invariant.specs.Orders.{NodeOrder, OrderIs}
+use Rattle.cluster_invariant.specs.Dials.{NodeDials}
+use Rattle.cluster_invariant.proofs.PiecesOfSteps.{StepFrom}
 use Rattle.cluster_invariant.specs.Holds.{Holds}
 use Rattle.cluster_invariant.proofs.Small.{of_some, put_same, put_other}
 use Rattle.cluster_invariant.proofs.Frame.{others_left}
@@ -49,11 +53,20 @@ node_may : (c : CoresState) (m : Machine) (server now : ℕ) (input : DataIn) (n
     → (m.site_at server).node ≡ Some node → DataMay node input
 node_may c m server now input node shows allowed runs = subst (λ (o : Option DataState). NodeMay o input) (shows.nodes server ∙ runs) allowed.may
 
+-- what a step of a node begins with
+pub step_from : (l : Layout) (m : Machine) (server : ℕ) (node : DataState) → Holds l m → IsRun l m.trail → (m.site_at server).node ≡ Some node → StepFrom node
+step_from l m server node h run runs =
+    go (of_some (NodeOrder l server (m.site_at server).past ((state_after l m.trail).server_at server)) (m.site_at server).node node runs (h.sites server).order.node)
+    (of_some (NodeDials (m.site_at server)) (m.site_at server).node node runs (h.sites server).dials.node)
+  where
+    go : NodeOrder l server (m.site_at server).past ((state_after l m.trail).server_at server) node → NodeDials (m.site_at server) node → StepFrom node
+    go o dials = record { differ = dials.differ; ordered = subst IsOrdered (sym o.order) (ordered_kept l m.trail server run).now }
+
 -- What a step of a data server made of the plain machine.
 pub server_wrote : (l : Layout) (c : CoresState) (m : Machine) (server now : ℕ) (input : DataIn) (outs : MoveOuts) (written : List Act) (new : Machine)
-    → Holds l m → Mirrors c m → Allowed c (ServerMove server now input) → (goes : ServerGoes m server now input outs written new)
+    → Holds l m → IsRun l m.trail → Mirrors c m → Allowed c (ServerMove server now input) → (goes : ServerGoes m server now input outs written new)
     → StepWrote server goes.node goes.state (state_after l m.trail) (after_all l (state_after l m.trail) written)
-server_wrote l c m server now input outs written new h shows allowed goes =
+server_wrote l c m server now input outs written new h run shows allowed goes =
     go (of_some (NodeOrder l server (m.site_at server).past ((state_after l m.trail).server_at server)) (m.site_at server).node goes.node goes.runs (h.sites server).order.node)
   where
     its : (d : ℕ) → d ≡ server → goes.node.synced ≤ ((state_after l m.trail).server_at d).synced
@@ -66,15 +79,16 @@ server_wrote l c m server now input outs written new h shows allowed goes =
     go o =
         subst (λ (w : List Act). StepWrote server goes.node goes.state (state_after l m.trail) (after_all l (state_after l m.trail) w))
         (sym (goes.acts ∙ ap (λ (k : Layout). raised ((state_after k m.trail).server_at server).synced goes.data_outs.acts) h.layout))
-        (its goes.node.server o.its_server low (step_wrote l (state_after l m.trail) goes.node now input goes.data_outs goes.state (node_may c m server now input goes.node shows allowed goes.runs) low goes.steps))
+        (its goes.node.server o.its_server low (step_wrote l (state_after l m.trail) goes.node now input goes.data_outs goes.state
+        (step_from l m server goes.node h run goes.runs) (node_may c m server now input goes.node shows allowed goes.runs) low goes.steps))
       where
         low : goes.node.synced ≤ ((state_after l m.trail).server_at goes.node.server).synced
         low = subst (λ d. goes.node.synced ≤ ((state_after l m.trail).server_at d).synced) (sym o.its_server) (omega (arith, o.synced))
 
 -- Each step of a data server keeps all orders.
 pub orders_kept_by_server : (l : Layout) (c : CoresState) (m : Machine) (server now : ℕ) (input : DataIn) (outs : MoveOuts) (written : List Act) (new : Machine)
-    → Holds l m → Mirrors c m → Allowed c (ServerMove server now input) → ServerGoes m server now input outs written new → OrdersHold l (state_after l new.trail) new
-orders_kept_by_server l c m server now input outs written new h shows allowed goes = go (server_wrote l c m server now input outs written new h shows allowed goes)
+    → Holds l m → IsRun l m.trail → Mirrors c m → Allowed c (ServerMove server now input) → ServerGoes m server now input outs written new → OrdersHold l (state_after l new.trail) new
+orders_kept_by_server l c m server now input outs written new h run shows allowed goes = go (server_wrote l c m server now input outs written new h run shows allowed goes)
   where
     go : StepWrote server goes.node goes.state (state_after l m.trail) (after_all l (state_after l m.trail) written) → OrdersHold l (state_after l new.trail) new
     go w =

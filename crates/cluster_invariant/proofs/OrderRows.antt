@@ -20,7 +20,8 @@ use Rattle.data_rules.specs.Saving.{writes_synced}
 use Rattle.cluster_runs.specs.Steps.{raised}
 use Rattle.cluster_invariant.proofs.Small.{put_same, put_other}
 use Rattle.cluster_invariant.proofs.Deeds.{Deed, Does, act_of, DeedIs, order_by}
-use Rattle.cluster_invariant.proofs.Steps.{does_input}
+use Rattle.cluster_invariant.proofs.PieceDeeds.{does_step}
+use Rattle.cluster_invariant.proofs.PiecesOfSteps.{StepFrom}
 use Rattle.cluster_invariant.proofs.Written.{Wrote, wrote, all_raised}
 
 -- What a step of a data server makes of the plain machine: the order goes on by its deeds, behind the act of its save.
@@ -152,11 +153,11 @@ save_wrote l p old upto outs new false same up low does =
 
 -- Each step of a data server.
 pub step_wrote : (l : Layout) (p : Plain) (old : DataState) (now : ℕ) (input : DataIn) (outs : DataOuts) (new : DataState)
-    → DataMay old input → old.synced ≤ (p.server_at old.server).synced → DataStep old now input outs new
+    → StepFrom old → DataMay old input → old.synced ≤ (p.server_at old.server).synced → DataStep old now input outs new
     → StepWrote old.server old new p (after_all l p (raised (p.server_at old.server).synced outs.acts))
-step_wrote l p old now (data_in.Frame conn up) outs new may low steps = deeds_wrote l p old outs new low (does_input (begun old) now (data_in.Frame conn up) (made new outs) steps)
-step_wrote l p old now (data_in.Connected conn) outs new may low steps = deeds_wrote l p old outs new low (does_input (begun old) now (data_in.Connected conn) (made new outs) steps)
-step_wrote l p old now (data_in.Broken conn) outs new may low steps = deeds_wrote l p old outs new low (does_input (begun old) now (data_in.Broken conn) (made new outs) steps)
-step_wrote l p old now data_in.Tick outs new may low steps = deeds_wrote l p old outs new low (does_input (begun old) now data_in.Tick (made new outs) steps)
-step_wrote l p old now (data_in.Saved upto) outs new may low steps =
-    save_wrote l p old upto outs new (nat_lt old.synced upto) refl may.no_less low (does_input (begun old) now (data_in.Saved upto) (made new outs) steps)
+step_wrote l p old now (data_in.Frame conn up) outs new from may low steps = deeds_wrote l p old outs new low (does_step old now (data_in.Frame conn up) outs new from may steps)
+step_wrote l p old now (data_in.Connected conn) outs new from may low steps = deeds_wrote l p old outs new low (does_step old now (data_in.Connected conn) outs new from may steps)
+step_wrote l p old now (data_in.Broken conn) outs new from may low steps = deeds_wrote l p old outs new low (does_step old now (data_in.Broken conn) outs new from may steps)
+step_wrote l p old now data_in.Tick outs new from may low steps = deeds_wrote l p old outs new low (does_step old now data_in.Tick outs new from may steps)
+step_wrote l p old now (data_in.Saved upto) outs new from may low steps =
+    save_wrote l p old upto outs new (nat_lt old.synced upto) refl may.no_less low (does_step old now (data_in.Saved upto) outs new from may steps)
