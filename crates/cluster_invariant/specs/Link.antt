@@ -89,8 +89,6 @@ pub record NodeWindows (x : Site) (n : DataState) : Type 0 where
   -- a live session's is as its lane is
   pub each : (session : ℕ) → live n.order session ≡ true
       → WindowIs (window_of n session) (x.lane_at session x.past).down (x.lane_at session x.past).down_taken (x.lane_at session x.past).up_taken
-  -- one without a window didn't learn of this order
-  pub none : (session : ℕ) → live n.order session ≡ true → list_any (is_window_of session) n.windows ≡ false → (x.lane_at session x.past).began ≡ None
 
 -- upwards
 
@@ -221,9 +219,9 @@ AskedFirst v x s k c behind (Welcome session epoch kept front taken) =
 AskedFirst v x s k c behind (Reset session at) = ResetOn v s.number c (Reset session at) × (behind ≡ [])
 AskedFirst v x s k c behind m = ⊥
 
--- nothing, or the first frame and what is behind it
+-- nothing, and then no Welcome was put on it, or the first frame and what is behind it
 abbrev pub AskedWay : Server → Site → Session → ℕ → Connection → List DownFrame → Type 0
-AskedWay v x s k c [] = ⊤
+AskedWay v x s k c [] = c.its ≡ None
 AskedWay v x s k c (f ∷ fs) = (f.seq ≡ 0) × AskedFirst v x s k c fs f.message
 
 -- What is known of a session that was entered for an application server that is greeting on this connection, and that it didn't meet yet.
@@ -258,9 +256,9 @@ abbrev pub GreetedFirst : Server → Site → ℕ → ℕ → Connection → Dow
 GreetedFirst v x app told c (Welcome session epoch kept front taken) = NewWelcomeOn v x app told c session epoch kept front taken
 GreetedFirst v x app told c m = ⊥
 
--- nothing, or the Welcome alone
+-- nothing, and then none was put on it, or the Welcome alone
 abbrev pub GreetedWay : Server → Site → ℕ → ℕ → Connection → List DownFrame → Type 0
-GreetedWay v x app told c [] = ⊤
+GreetedWay v x app told c [] = c.its ≡ None
 GreetedWay v x app told c (f ∷ fs) = (f.seq ≡ 0) × GreetedFirst v x app told c f.message × (fs ≡ [])
 
 -- it goes by the session that the end has and the order that it is told of
