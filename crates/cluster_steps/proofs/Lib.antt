@@ -8,3 +8,4 @@ pub mod FrameEnds
 pub mod FrameCases
 pub mod InputEnds
 pub mod AppSites
+pub mod JobActs

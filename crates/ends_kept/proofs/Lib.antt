@@ -1,2 +1,4 @@
 pub mod PairTables
 pub mod PairActs
+pub mod TablesKept
+pub mod TablesMoves
