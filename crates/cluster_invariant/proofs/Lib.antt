@@ -24,3 +24,4 @@ pub mod OrderKept
 pub mod OrderMoves
 pub mod OrderBeside
 pub mod AppActs
+pub mod OrdersStay

@@ -123,7 +123,7 @@ all_raised n d (Breaks app now ∷ xs) = ap (λ (ys : List Act). act_of d (Break
 
 -- the place of the last Epoch
 
-entered_place : (e : Entry) → IsEntered e → (found k : ℕ) (es : List Entry) → epoch_place_from found k (es ++ e ∷ []) ≡ epoch_place_from found k es
+pub entered_place : (e : Entry) → IsEntered e → (found k : ℕ) (es : List Entry) → epoch_place_from found k (es ++ e ∷ []) ≡ epoch_place_from found k es
 entered_place (Epoch number) may found k [] = absurd may
 entered_place (Opened session app) may found k [] = refl
 entered_place (Closed session) may found k [] = absurd may
@@ -137,7 +137,7 @@ entered_place e may found k (Update session w job txn op ∷ es) = entered_place
 entered_place e may found k (Commit session w job txn ∷ es) = entered_place e may found (k + 1) es
 entered_place e may found k (Rollback session w job txn ∷ es) = entered_place e may found (k + 1) es
 
-closed_place : (s found k : ℕ) (es : List Entry) → epoch_place_from found k (es ++ Closed s ∷ []) ≡ epoch_place_from found k es
+pub closed_place : (s found k : ℕ) (es : List Entry) → epoch_place_from found k (es ++ Closed s ∷ []) ≡ epoch_place_from found k es
 closed_place s found k [] = refl
 closed_place s found k (Epoch number ∷ es) = closed_place s (k + 1) (k + 1) es
 closed_place s found k (Opened session app ∷ es) = closed_place s found (k + 1) es
