@@ -5,3 +5,4 @@ pub mod TablesMoves
 pub mod TakenDown
 pub mod EpochBegun
 pub mod MetTold
+pub mod AppRuns

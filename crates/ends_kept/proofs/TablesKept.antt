@@ -177,7 +177,7 @@ lost_pair a d now true pair = refl
 lost_pair a d now false pair = refl
 
 -- an end in trouble is one of those that are there
-trouble_here : (a : AppState) (d broke try_at : ℕ) → (end_at a d).link ≡ Trouble broke try_at → d < length a.ends
+pub trouble_here : (a : AppState) (d broke try_at : ℕ) → (end_at a d).link ≡ Trouble broke try_at → d < length a.ends
 trouble_here a d broke try_at same = go (nat_lt d (length a.ends)) refl
   where
     apart : NotConnected ≡ Trouble broke try_at → ⊥
@@ -187,7 +187,7 @@ trouble_here a d broke try_at same = go (nat_lt d (length a.ends)) refl
     go true low = ltb-true d (length a.ends) low
     go false past = absurd (apart (ap (λ (e : AppEnd). e.link) (sym (get_or_past a.ends d no_end (ltb-false d (length a.ends) past))) ∙ same))
 
-by_tick : (link : AppLink) (l : Layout) (p : Plain) (app d now : ℕ) (b : Sofar) → TablesAre l p app b → (end_at b.state d).link ≡ link → TablesAre l p app (ticks_from link d now b)
+pub by_tick : (link : AppLink) (l : Layout) (p : Plain) (app d now : ℕ) (b : Sofar) → TablesAre l p app b → (end_at b.state d).link ≡ link → TablesAre l p app (ticks_from link d now b)
 by_tick NotConnected l p app d now b t same = t
 by_tick NormalLink l p app d now b t same = t
 by_tick (Trouble broke try_at) l p app d now b t same = go (ticked_here d now b (trouble_here b.state d broke try_at same))

@@ -36,7 +36,7 @@ use Rattle.ends_kept.proofs.PairActs.{IsOfApp, acts_beside}
 use Rattle.ends_kept.proofs.TablesKept.{TablesAre, tables_by_input, tables_by_command}
 
 -- what may come at the ends as the lists have them, at the ends of the machine
-app_may : (c : CoresState) (m : Machine) (app : ℕ) (input : AppIn) → Mirrors c m → app < c.layout.apps → AppMay (app_at c app) input → AppMay (app_state m app) input
+pub app_may : (c : CoresState) (m : Machine) (app : ℕ) (input : AppIn) → Mirrors c m → app < c.layout.apps → AppMay (app_at c app) input → AppMay (app_state m app) input
 app_may c m app input shows known may = go input may
   where
     count : length (app_at c app).ends ≡ length (app_state m app).ends
@@ -57,7 +57,7 @@ app_may c m app input shows known may = go input may
     go app_in.Tick h = tt
 
 -- the tables as a step begins
-tables_begin : (l : Layout) (c : CoresState) (m : Machine) (app : ℕ) → Holds l m → Mirrors c m → app < c.layout.apps → m.is_dead_at app ≡ false → TablesAre l (state_after l m.trail) app (begun (app_state m app))
+pub tables_begin : (l : Layout) (c : CoresState) (m : Machine) (app : ℕ) → Holds l m → Mirrors c m → app < c.layout.apps → m.is_dead_at app ≡ false → TablesAre l (state_after l m.trail) app (begun (app_state m app))
 tables_begin l c m app h shows known alive = record {
   its = refl;
   own = tt;
