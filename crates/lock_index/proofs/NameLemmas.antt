@@ -12,6 +12,7 @@ use Rattle.std.proofs.lemmas.Bool.{eqb-true, eq-eqb, and_parts, false≢true, ca
 use Rattle.std.proofs.lemmas.Map.Lookups.{exact_bytes}
 use Rattle.subscript_keys.proofs.Orders.{nat_cmp-eq, nat_cmp-gt}
 use Rattle.plain_orders.specs.PairMap.{key_cmp, is_under}
+use Rattle.plain_orders.specs.Conflict.{names_overlap}
 use Rattle.lock_index.specs.IndexWords.{numbers_at, passes_below, passes_above, passes_beside}
 use Rattle.lock_index.proofs.RowLemmas.{sorted_filtered}
 
@@ -65,7 +66,7 @@ under_from (x ∷ n) (z ∷ q) h =
     ap (λ o. is_le (ordering_then o (key_cmp n q))) (nat_cmp-eq x z (eqb-true x z s.0)) ∙ under_from n q s.1
 
 -- equal names are the same
-same_names : (n q : List ℕ) → is_eq (key_cmp n q) ≡ true → n ≡ q
+pub same_names : (n q : List ℕ) → is_eq (key_cmp n q) ≡ true → n ≡ q
 same_names n q e = go (key_cmp n q) refl e
   where
     go : (o : Ordering) → key_cmp n q ≡ o → is_eq o ≡ true → n ≡ q
@@ -73,9 +74,9 @@ same_names n q e = go (key_cmp n q) refl e
     go Equal h e = exact_bytes n q h
     go Greater h e = cc
 
-name_itself : (n : List ℕ) → is_eq (key_cmp n n) ≡ true
-name_itself [] = refl
-name_itself (x ∷ n) = ap (λ o. is_eq (ordering_then o (key_cmp n n))) (nat_cmp-eq x x refl) ∙ name_itself n
+pub level_name : (n : List ℕ) → is_eq (key_cmp n n) ≡ true
+level_name [] = refl
+level_name (x ∷ n) = ap (λ o. is_eq (ordering_then o (key_cmp n n))) (nat_cmp-eq x x refl) ∙ level_name n
 
 -- behind a key from the name on that doesn't begin with it, none does
 none_behind : (n k : List ℕ) → is_le (key_cmp n k) ≡ true → is_under n k ≡ false → (q : List ℕ) → key_cmp k q ≡ Less → is_under n q ≡ false
@@ -163,6 +164,22 @@ module _ (n : List ℕ) (test : ℕ → Bool) where
           rw (here, any) refl
       go false h rest e = either (passes_above n test d) (list_any (passes_above n test) es) (rest (rw h at e))
 
+  -- or at one that overlaps it
+  pub found_beside : (es : List (List ℕ × List ℕ)) (q : List ℕ) → names_overlap n q ≡ true → list_any test (numbers_at key_cmp q es) ≡ true → list_any (passes_beside n test) es ≡ true
+  found_beside [] q u e = e
+  found_beside (d ∷ es) q u e = go (is_eq (key_cmp q d.0)) refl (found_beside es q u) e
+    where
+      either : (a b : Bool) → b ≡ true → (a || b) ≡ true
+      either true b e = refl
+      either false b e = e
+
+      go : (b : Bool) → is_eq (key_cmp q d.0) ≡ b → (list_any test (numbers_at key_cmp q es) ≡ true → list_any (passes_beside n test) es ≡ true) → list_any test (numbers_at key_cmp q (d ∷ es)) ≡ true → (passes_beside n test d || list_any (passes_beside n test) es) ≡ true
+      go true h rest e =
+          let here : names_overlap n d.0 ≡ true = subst (λ (m : List ℕ). names_overlap n m ≡ true) (same_names q d.0 h) u in
+          let any : list_any test d.1 ≡ true = rw h at e in
+          rw (here, any) refl
+      go false h rest e = either (passes_beside n test d) (list_any (passes_beside n test) es) (rest (rw h at e))
+
   no_numbers : (q : List ℕ) (es : List (List ℕ × List ℕ)) → AllByRecursion (λ k. key_cmp q k ≡ Less) (keys_of es) → list_any test (numbers_at key_cmp q es) ≡ false
   no_numbers q [] all = refl
   no_numbers q (d ∷ es) all = rw all.0 (no_numbers q es all.1)
@@ -175,7 +192,7 @@ module _ (n : List ℕ) (test : ℕ → Bool) where
       ap (λ (b : Bool). b || list_any (passes_above n test) es) (here (is_under d.0 n) refl) ∙ none_above es s.1 (λ q u. rest q u (is_eq (key_cmp q d.0)) refl)
     where
       here : (b : Bool) → is_under d.0 n ≡ b → (b && list_any test d.1) ≡ false
-      here true u = rw (name_itself d.0) at (none d.0 u)
+      here true u = rw (level_name d.0) at (none d.0 u)
       here false u = refl
 
       rest : (q : List ℕ) → is_under q n ≡ true → (b : Bool) → is_eq (key_cmp q d.0) ≡ b → list_any test (numbers_at key_cmp q es) ≡ false

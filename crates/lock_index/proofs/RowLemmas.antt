@@ -1,17 +1,17 @@
 -- Rows with rising numbers, and the numbers of those that pass a test.
-use Rattle.std.proofs.Common.{◌≡◌, ℕ, ◌+◌, ◌<◌, Bool, true, false, not, cond, List, [], ◌∷◌, ◌++◌, Some, None, refl, sym, ◌∙◌, ap, subst, arith, inl, inr, length, get_or, drop, add-one}
-use Rattle.std.specs.List.{AllByRecursion, filter, find}
+use Rattle.std.proofs.Common.{◌≡◌, ℕ, ◌+◌, ◌-◌, ◌<◌, Bool, true, false, not, ◌&&◌, ◌||◌, cond, List, [], ◌∷◌, ◌++◌, Option, Some, None, refl, sym, ◌∙◌, ap, subst, arith, inl, inr, length, get_or, take, drop, add-one, length-append}
+use Rattle.std.specs.List.{AllByRecursion, filter, find, list_any}
 use Rattle.std.specs.List.Sorted.{IsStrictlySortedBy}
 use Rattle.std.specs.Map.{keys_of, values_of, remove_entry, set_value}
 use Rattle.std.specs.BTreeMap.{is_at, insert_entry}
 use Rattle.std.specs.Ordering.{is_eq, nat_cmp}
 use Rattle.std.specs.declared.cmp.Ordering.{Ordering}
 use Rattle.std.specs.declared.cmp.Ordering.TheVariants.{Less, Equal, Greater}
-use Rattle.std.proofs.Math.Seq.{drop-cons}
+use Rattle.std.proofs.Math.Seq.{drop-cons, take-append_seam}
 use Rattle.std.proofs.lemmas.Bool.{cases_order, eq-eqb, ne_eqb, false≢true}
 use Rattle.std.proofs.lemmas.Map.Lookups.{exact_unsigned}
 use Rattle.subscript_keys.proofs.Orders.{nat_cmp-lt, nat_cmp-eq, nat_cmp-gt}
-use Rattle.lock_index.specs.IndexWords.{is_other, row_at, has_row, without_rows, AreRising, IsNumberedBelow, numbers_of}
+use Rattle.lock_index.specs.IndexWords.{is_other, row_at, has_row, without_rows, AreRising, IsNumberedBelow, numbers_of, row_passes, passes_at}
 
 -- a number is itself
 pub same_number : (n : ℕ) → is_eq (nat_cmp n n) ≡ true
@@ -250,3 +250,77 @@ module _ {X : Type 0} where
           behind_one : (b : Bool) → numbers_of test (set_value (is_at (nat_cmp n)) rows y) ≡ numbers_of test rows → keys_of (cond b (r ∷ filter (λ (e : ℕ × X). test e.1) (set_value (is_at (nat_cmp n)) rows y)) (filter (λ (e : ℕ × X). test e.1) (set_value (is_at (nat_cmp n)) rows y))) ≡ keys_of (cond b (r ∷ filter (λ (e : ℕ × X). test e.1) rows) (filter (λ (e : ℕ × X). test e.1) rows))
           behind_one true h = ap (λ (ns : List ℕ). r.0 ∷ ns) h
           behind_one false h = h
+
+  -- the last of rising rows has the greatest number
+  pub below_last : (n : ℕ) (x : X) (rows : List (ℕ × X)) → AreRising (rows ++ (n, x) ∷ []) → IsNumberedBelow n rows
+  below_last n x [] s = tt
+  below_last n x (r ∷ rows) s = (less_is r.0 n (last rows (rising_head r (rows ++ (n, x) ∷ []) s)), below_last n x rows (rising_tail r (rows ++ (n, x) ∷ []) s))
+    where
+      last : (rs : List (ℕ × X)) → AllByRecursion (λ y. nat_cmp r.0 y ≡ Less) (keys_of (rs ++ (n, x) ∷ [])) → nat_cmp r.0 n ≡ Less
+      last [] all = all.0
+      last (q ∷ rs) all = last rs all.1
+
+  pub below_front : (next n : ℕ) (x : X) (rows : List (ℕ × X)) → IsNumberedBelow next (rows ++ (n, x) ∷ []) → IsNumberedBelow next rows
+  below_front next n x [] b = tt
+  below_front next n x (r ∷ rows) b = (b.0, below_front next n x rows b.1)
+
+  pub values_front : (n : ℕ) (x : X) (rows : List (ℕ × X)) → take (length (values_of (rows ++ (n, x) ∷ [])) - 1) (values_of (rows ++ (n, x) ∷ [])) ≡ values_of rows
+  values_front n x rows = ap (λ (vs : List X). take (length vs - 1) vs) (values_pushed n x rows) ∙ front (values_of rows)
+    where
+      less_one : (k : ℕ) → k + 1 - 1 ≡ k
+      less_one k = omega arith
+
+      front : (vs : List X) → take (length (vs ++ x ∷ []) - 1) (vs ++ x ∷ []) ≡ vs
+      front vs = ap (λ (k : ℕ). take (k - 1) (vs ++ x ∷ [])) (length-append vs (x ∷ [])) ∙ ap (λ (k : ℕ). take k (vs ++ x ∷ [])) (less_one (length vs)) ∙ take-append_seam vs (x ∷ [])
+
+  passes_past : (test : X → Bool) (r : ℕ × X) (rows : List (ℕ × X)) (n : ℕ) → nat_cmp r.0 n ≡ Less → passes_at test (r ∷ rows) n ≡ passes_at test rows n
+  passes_past test r rows n l = rw (behind r.0 n l) refl
+
+  find_past : (test : X → Bool) (r : ℕ × X) (rows : List (ℕ × X)) (ns : List ℕ) → AllByRecursion (λ y. nat_cmp r.0 y ≡ Less) ns → find (passes_at test (r ∷ rows)) ns ≡ find (passes_at test rows) ns
+  find_past test r rows [] all = refl
+  find_past test r rows (n ∷ ns) all = rw (passes_past test r rows n all.0) (ap (λ (o : Option ℕ). cond (passes_at test rows n) (Some n) o) (find_past test r rows ns all.1))
+
+  any_past : (test : X → Bool) (r : ℕ × X) (rows : List (ℕ × X)) (ns : List ℕ) → AllByRecursion (λ y. nat_cmp r.0 y ≡ Less) ns → list_any (passes_at test (r ∷ rows)) ns ≡ list_any (passes_at test rows) ns
+  any_past test r rows [] all = refl
+  any_past test r rows (n ∷ ns) all = rw (passes_past test r rows n all.0) (ap (λ (b : Bool). passes_at test rows n || b) (any_past test r rows ns all.1))
+
+  passes_itself : (test : X → Bool) (r : ℕ × X) (rows : List (ℕ × X)) → passes_at test (r ∷ rows) r.0 ≡ test r.1
+  passes_itself test r rows = rw (same_number r.0) refl
+
+  -- the number of the first row that passes
+  abbrev pub first_number : (X → Bool) → List (ℕ × X) → Option ℕ
+  first_number test [] = None
+  first_number test (r ∷ rows) = cond (test r.1) (Some r.0) (first_number test rows)
+
+  -- a search by number of the rows of a key finds the first of all that passes, where only rows of the key do
+  pub find_numbered : (of_key test : X → Bool) → ((x : X) → test x ≡ true → of_key x ≡ true) → (rows : List (ℕ × X)) → AreRising rows → find (passes_at test rows) (numbers_of of_key rows) ≡ first_number test rows
+  find_numbered of_key test only [] s = refl
+  find_numbered of_key test only (r ∷ rows) s = go (test r.1) (of_key r.1) refl refl (find_past test r rows (numbers_of of_key rows) (numbers_behind r.0 of_key rows (rising_head r rows s)) ∙ find_numbered of_key test only rows (rising_tail r rows s))
+    where
+      go : (b c : Bool) → test r.1 ≡ b → of_key r.1 ≡ c → find (passes_at test (r ∷ rows)) (numbers_of of_key rows) ≡ first_number test rows → find (passes_at test (r ∷ rows)) (keys_of (cond c (r ∷ filter (λ (e : ℕ × X). of_key e.1) rows) (filter (λ (e : ℕ × X). of_key e.1) rows))) ≡ cond b (Some r.0) (first_number test rows)
+      go true true t k h = rw (passes_itself test r rows ∙ t) refl
+      go true false t k h = absurd (false≢true (sym k ∙ only r.1 t))
+      go false true t k h = rw (passes_itself test r rows ∙ t) h
+      go false false t k h = h
+
+  -- and tells whether one of the key passes
+  pub any_numbered : (of_key test : X → Bool) → (rows : List (ℕ × X)) → AreRising rows → list_any (passes_at test rows) (numbers_of of_key rows) ≡ list_any (λ (x : X). of_key x && test x) (values_of rows)
+  any_numbered of_key test [] s = refl
+  any_numbered of_key test (r ∷ rows) s = go (of_key r.1) (any_past test r rows (numbers_of of_key rows) (numbers_behind r.0 of_key rows (rising_head r rows s)) ∙ any_numbered of_key test rows (rising_tail r rows s))
+    where
+      go : (c : Bool) → list_any (passes_at test (r ∷ rows)) (numbers_of of_key rows) ≡ list_any (λ (x : X). of_key x && test x) (values_of rows) → list_any (passes_at test (r ∷ rows)) (keys_of (cond c (r ∷ filter (λ (e : ℕ × X). of_key e.1) rows) (filter (λ (e : ℕ × X). of_key e.1) rows))) ≡ ((c && test r.1) || list_any (λ (x : X). of_key x && test x) (values_of rows))
+      go true h = rw (passes_itself test r rows) (ap (λ (b : Bool). test r.1 || b) h)
+      go false h = h
+
+  -- a number whose row passes shows that one does
+  pub any_row : (test : X → Bool) (rows : List (ℕ × X)) (n : ℕ) → passes_at test rows n ≡ true → list_any test (values_of rows) ≡ true
+  any_row test [] n e = e
+  any_row test (r ∷ rows) n e = go (is_eq (nat_cmp n r.0)) (any_row test rows n) e
+    where
+      either : (a b : Bool) → b ≡ true → (a || b) ≡ true
+      either true b h = refl
+      either false b h = h
+
+      go : (b : Bool) → (passes_at test rows n ≡ true → list_any test (values_of rows) ≡ true) → row_passes test (cond b (Some r.1) (row_at rows n)) ≡ true → (test r.1 || list_any test (values_of rows)) ≡ true
+      go true rest h = rw h refl
+      go false rest h = either (test r.1) (list_any test (values_of rows)) (rest h)

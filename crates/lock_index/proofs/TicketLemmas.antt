@@ -7,9 +7,9 @@ use Rattle.std.specs.declared.cmp.Ordering.{Ordering}
 use Rattle.std.specs.declared.cmp.Ordering.TheVariants.{Less, Equal, Greater}
 use Rattle.std.proofs.lemmas.Bool.{eqb-true, eq-eqb, ne_eqb, and_parts, false≢true}
 use Rattle.subscript_keys.proofs.Orders.{nat_cmp-eq}
-use Rattle.lock_index.specs.IndexWords.{has_row, numbers_at, PutsAt, KeepsRows, without_rows, numbers_of, AreRising, IsNumberedBelow}
+use Rattle.lock_index.specs.IndexWords.{is_other, has_row, numbers_at, PutsAt, KeepsRows, without_rows, numbers_of, AreRising, IsNumberedBelow}
 use Rattle.lock_index.specs.TicketWords.{ticket_cmp, has_ticket, has_other_ticket, is_elsewhere, IsTicketIndex}
-use Rattle.lock_index.proofs.RowLemmas.{same_numbers, rising_pushed, below_pushed, numbers_pushed, all_filtered, sorted_filtered, without_numbered, values_filtered, kept_numbers}
+use Rattle.lock_index.proofs.RowLemmas.{same_numbers, rising_pushed, below_pushed, numbers_pushed, all_filtered, sorted_filtered, without_numbered, values_filtered, kept_numbers, removed_number, removed_last, below_last, below_front}
 
 -- the order of numbers tells them apart
 pub tells_numbers : (a b : ℕ) → is_eq (nat_cmp a b) ≡ eqb a b
@@ -58,6 +58,31 @@ module _ {T : Type 0} (session_of ticket_of : T → ℕ) where
           ∙ ap (λ (b : ℕ). numbers_at ticket_cmp (s, b) index ++ next ∷ []) same.1
           ∙ ap (λ (ns : List ℕ). ns ++ next ∷ []) (is.tickets s t)
       go s t false e = is.tickets s t ∙ sym (no_more (numbers_of (has_ticket session_of ticket_of s t) rows))
+
+  -- the last row goes
+  pub ticket_popped : (next : ℕ) (index new : List ((ℕ × ℕ) × List ℕ)) (rows : List (ℕ × T)) (n : ℕ) (x : T) → IsTicketIndex session_of ticket_of next index (rows ++ (n, x) ∷ []) → AreRising rows → PutsAt ticket_cmp (session_of x, ticket_of x) (filter (is_other n) (numbers_at ticket_cmp (session_of x, ticket_of x) index)) index new → IsTicketIndex session_of ticket_of next new rows
+  ticket_popped next index new rows n x is rising puts = record {
+    rising = rising;
+    below = below_front next n x rows is.below;
+    tickets = λ s t.
+        puts (s, t)
+        ∙ ap (λ (b : Bool). cond b (filter (is_other n) (numbers_at ticket_cmp (session_of x, ticket_of x) index)) (numbers_at ticket_cmp (s, t) index)) (tells_tickets (session_of x) (ticket_of x) s t)
+        ∙ go s t (has_ticket session_of ticket_of s t x) refl;
+  }
+    where
+      go : (s t : ℕ) (b : Bool) → has_ticket session_of ticket_of s t x ≡ b → cond b (filter (is_other n) (numbers_at ticket_cmp (session_of x, ticket_of x) index)) (numbers_at ticket_cmp (s, t) index) ≡ numbers_of (has_ticket session_of ticket_of s t) rows
+      go s t true e =
+          let same = same_ticket x s t e in
+          ap (λ (a : ℕ). filter (is_other n) (numbers_at ticket_cmp (a, ticket_of x) index)) same.0
+          ∙ ap (λ (b : ℕ). filter (is_other n) (numbers_at ticket_cmp (s, b) index)) same.1
+          ∙ ap (filter (is_other n)) (is.tickets s t)
+          ∙ sym (removed_number (has_ticket session_of ticket_of s t) n (rows ++ (n, x) ∷ []) is.rising)
+          ∙ ap (numbers_of (has_ticket session_of ticket_of s t)) (removed_last n x rows (below_last n x rows is.rising))
+      go s t false e =
+          is.tickets s t
+          ∙ numbers_pushed (has_ticket session_of ticket_of s t) rows n x
+          ∙ ap (λ (b : Bool). numbers_of (has_ticket session_of ticket_of s t) rows ++ cond b (n ∷ []) []) e
+          ∙ no_more (numbers_of (has_ticket session_of ticket_of s t) rows)
 
   -- the rows of a session go
   pub ticket_kept : (session next : ℕ) (index new : List ((ℕ × ℕ) × List ℕ)) (rows left : List (ℕ × T)) → IsTicketIndex session_of ticket_of next index rows → left ≡ filter (λ (e : ℕ × T). is_elsewhere session_of session e.1) rows → KeepsRows ticket_cmp left index new → IsTicketIndex session_of ticket_of next new left

@@ -8,10 +8,12 @@ mod numbers;
 mod overlaps;
 mod rows;
 mod ticket_list;
+mod ticket_rows;
 mod ticketed;
 
 pub use number_index::NumberIndex;
 pub use number_test::NumberTest;
 pub use rows::push_row;
 pub use ticket_list::TicketList;
+pub use ticket_rows::{drop_session, drop_ticket};
 pub use ticketed::Ticketed;

@@ -1,4 +1,4 @@
-ghost use Rattle.std.specs.Prelude.{◌≡◌, [], ◌∷◌, ◌++◌, OnOk, OnErr};
+ghost use Rattle.std.specs.Prelude.{◌≡◌, ◌-◌, [], ◌∷◌, ◌++◌, length, take, OnOk, OnErr};
 ghost use Rattle.std.specs.List.{filter, find};
 ghost use Rattle.std.specs.Option.{option_copied};
 ghost use Rattle.lock_index.specs.TicketWords.{has_ticket, has_other_ticket, is_elsewhere};
@@ -64,6 +64,15 @@ impl<T: Ticketed> TicketList<T> {
         push_row(&mut self.rows, &mut self.index, self.next, key, row)?;
         self.next += 1;
         Ok(())
+    }
+
+    /// The last row goes, if there is one.
+    pub fn drop_last(&mut self)
+        ensures { self.new ≡ take (length self.old - 1) self.old }
+    {
+        if let Some((number, row)) = self.rows.pop_last() {
+            self.index.remove(&(row.session(), row.ticket()), number);
+        }
     }
 
     /// The rows with this ticket go.
