@@ -18,7 +18,7 @@ pub record AreSame (w : Who) (n : List ℕ) (m : Mode) (who : Who) (name : List 
   pub named : n ≡ name
   pub in_mode : m ≡ mode
 
-names_same : (n k : List ℕ) → is_same_name n k ≡ true → n ≡ k
+pub names_same : (n k : List ℕ) → is_same_name n k ≡ true → n ≡ k
 names_same [] [] e = refl
 names_same [] (y ∷ ys) e = cc
 names_same (x ∷ xs) [] e = cc
@@ -43,7 +43,7 @@ lanes_same w n m who name mode e =
     let q = and_parts (is_same_who w who) (is_same_name n name) p.0 in
     record { holder = whos_same w who q.0; named = names_same n name q.1; in_mode = modes_same m mode p.1 }
 
-name_itself : (n : List ℕ) → is_same_name n n ≡ true
+pub name_itself : (n : List ℕ) → is_same_name n n ≡ true
 name_itself [] = refl
 name_itself (x ∷ xs) = rw (eq-eqb x x refl) (name_itself xs)
 

@@ -1,4 +1,5 @@
 pub mod HoldLemmas
+pub mod IndexLemmas
 pub mod CountLemmas
 pub mod PassLemmas
 pub mod ApartLemmas

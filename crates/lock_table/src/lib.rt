@@ -5,6 +5,7 @@
 //! pass, the requests that it hadn't come to wait on; every other call then leaves the table as it was.
 #![tactic(auto)]
 
+mod barring;
 mod conflicts;
 mod grants;
 mod holds;

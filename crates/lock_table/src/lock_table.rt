@@ -10,6 +10,7 @@ use crate::conflicts::{is_conflict, is_same_mode, is_same_who};
 use crate::grants::Grants;
 use crate::holds::Holds;
 use crate::rows::{Hold, Request, Who};
+use lock_index::{TicketList, drop_session, drop_ticket};
 use plain_orders::Mode;
 use std::alloc::{AllocError, Global};
 use std::marker::Model;
@@ -42,7 +43,7 @@ pub enum ClaimError {
 pub struct LockTable {
     holds: Holds,
     requests: Vec<Request>,
-    granted: Vec<Request>,
+    granted: TicketList<Request>,
     alloc: Global,
 }
 
@@ -53,7 +54,7 @@ impl Model for LockTable {
 
     ghost use Rattle.lock_table.specs.Counts.{FitCounts};
 
-    ghost view = { λ t. record { holds = t.holds; requests = t.requests.items; granted = t.granted.items } };
+    ghost view = { λ t. record { holds = t.holds; requests = t.requests.items; granted = t.granted } };
 
     ghost invariant = { λ t. FitCounts t.holds t.requests.items };
 }
@@ -66,7 +67,7 @@ impl LockTable {
         LockTable {
             holds: Holds::new(alloc),
             requests: Vec::new(alloc),
-            granted: Vec::new(alloc),
+            granted: TicketList::new(alloc),
             alloc,
         }
     }
@@ -76,7 +77,15 @@ impl LockTable {
     pub fn has_room(&self, who: Who, name: &KeyBytes, mode: Mode, more: u32) -> bool
         ensures { IsTrue result ↔ HasRoom self.now who name.now mode more }
     {
-        let waiting = request_count(self.requests.as_slice(), who, name, mode) as u64;
+        let waiting = self
+            .requests
+            .iter()
+            .filter(|request| {
+                is_same_who(who, request.who)
+                    && *name == request.name
+                    && is_same_mode(mode, request.mode)
+            })
+            .count() as u64;
         let held = u64::from(self.holds.count(who, name, mode));
         held + waiting + u64::from(more) <= u64::from(u32::MAX)
     }
@@ -90,7 +99,8 @@ impl LockTable {
         ensures grants { IfOk result (λ answer. (asked self.old request at).grants ≡ granted_by request answer) }
         ensures err { OnErr result (self.new ≡ self.old) }
     {
-        if waits(&self.holds, self.requests.as_slice(), &request) {
+        let must_wait = waits(&self.holds, self.requests.as_slice(), &request)?;
+        if must_wait {
             self.requests.push(request)?;
             return Ok(Asked::Waits);
         }
@@ -126,14 +136,15 @@ impl LockTable {
     pub fn waiting_with(&self, session: u64, ticket: u32) -> Option<&Request>
         ensures { option_copied result ≡ waiting_with self.now session ticket }
     {
-        with_ticket(self.requests.as_slice(), session, ticket)
+        self.requests.iter().find(|request| request.who.session == session
+            && request.ticket == ticket)
     }
 
     /// The granted request with this ticket.
     pub fn granted_with(&self, session: u64, ticket: u32) -> Option<&Request>
         ensures { option_copied result ≡ granted_with self.now session ticket }
     {
-        with_ticket(self.granted.as_slice(), session, ticket)
+        self.granted.first_with(session, ticket)
     }
 
     /// A waiting request goes, and what that lets through is granted at this length. Out of memory in the pass, the
@@ -151,7 +162,7 @@ impl LockTable {
     pub fn drop_ticket(&mut self, session: u64, ticket: u32)
         ensures { self.new ≡ without_ticket self.old session ticket }
     {
-        drop_ticket(&mut self.granted, session, ticket);
+        self.granted.drop_ticket(session, ticket);
     }
 
     /// A grant is given back: its ticket is forgotten, one of its holds goes, and what that lets through is granted at
@@ -189,7 +200,7 @@ impl LockTable {
     {
         self.holds.drop_session(session);
         drop_session(&mut self.requests, session);
-        drop_session(&mut self.granted, session);
+        self.granted.drop_session(session);
         self.pass(at)
     }
 
@@ -201,27 +212,24 @@ impl LockTable {
         ensures conflict { IfErr result (IsRefusal self.old hold) }
         ensures err { OnErr result (self.new ≡ self.old) }
     {
-        if let Some(held) = self.holds.first_barring(hold.who, &hold.name, hold.mode) {
-            return match held.clone() {
-                Ok(held) => Err(ClaimError::Conflict {
-                    held,
-                    claimed: hold,
-                }),
-                Err(error) => Err(ClaimError::Memory(error)),
-            };
+        let held = self.holds.first_barring(hold.who, &hold.name, hold.mode);
+        match held {
+            Err(error) => Err(ClaimError::Memory(error)),
+            Ok(Some(held)) => Err(ClaimError::Conflict {
+                held,
+                claimed: hold,
+            }),
+            Ok(None) => self.join(hold).map_err(ClaimError::Memory),
         }
-        self.join(&hold).map_err(ClaimError::Memory)
     }
 
     /// A claim joins what is held. Out of memory, nothing changes.
-    fn join(&mut self, hold: &Hold) -> Result<(), AllocError>
-        requires room { HasRoom self.old hold.now.who hold.now.name hold.now.mode hold.now.count }
-        ensures ok { OnOk result (self.new
-            ≡ claimed self.old hold.now.who hold.now.name hold.now.mode hold.now.count hold.now.at) }
+    fn join(&mut self, hold: Hold) -> Result<(), AllocError>
+        requires room { HasRoom self.old hold.who hold.name hold.mode hold.count }
+        ensures ok { OnOk result (self.new ≡ claimed self.old hold.who hold.name hold.mode hold.count hold.at) }
         ensures err { OnErr result (self.new ≡ self.old) }
     {
-        self.holds
-            .raise(hold.who, &hold.name, hold.mode, hold.count, hold.at)?;
+        self.holds.raise(hold)?;
         Ok(())
     }
 
@@ -234,7 +242,8 @@ impl LockTable {
         let mut grants = Grants::new(self.alloc);
         let mut place = 0;
         for _turn in 0..self.requests.len() {
-            if self.waits_at(place) {
+            let must_wait = self.waits_at(place)?;
+            if must_wait {
                 place += 1;
             } else {
                 let request = self.grant_at(place, at)?;
@@ -245,10 +254,10 @@ impl LockTable {
     }
 
     /// Whether the request at this place waits behind those before it.
-    fn waits_at(&self, place: usize) -> bool
+    fn waits_at(&self, place: usize) -> Result<bool, AllocError>
         requires { place < length self.now.requests }
-        ensures { (d : Request) → result
-            ≡ waits self.now.holds (take place self.now.requests) (slice_index_or self.now.requests place d) }
+        ensures { IfOk result (λ answer. (d : Request) → answer
+            ≡ waits self.now.holds (take place self.now.requests) (slice_index_or self.now.requests place d)) }
     {
         let requests = self.requests.as_slice();
         waits(&self.holds, &requests[..place], &requests[place])
@@ -269,16 +278,17 @@ impl LockTable {
 }
 
 /// Whether a request waits behind these holds and these earlier requests.
-fn waits(holds: &Holds, earlier: &[Request], request: &Request) -> bool
-    ensures { result ≡ waits holds.now earlier.now request.now }
+fn waits(holds: &Holds, earlier: &[Request], request: &Request) -> Result<bool, AllocError>
+    ensures { IfOk result (λ answer. answer ≡ waits holds.now earlier.now request.now) }
 {
-    if holds.bar(request.who, &request.name, request.mode) {
-        return true;
+    let bars = holds.bar(request.who, &request.name, request.mode)?;
+    if bars {
+        return Ok(true);
     }
     if holds.have_name(request.who, &request.name) {
-        return false;
+        return Ok(false);
     }
-    is_behind(request, earlier)
+    Ok(is_behind(request, earlier))
 }
 
 /// Whether a request of another holder that came earlier conflicts.
@@ -294,53 +304,27 @@ fn is_behind(request: &Request, earlier: &[Request]) -> bool
 /// A request is granted at this length. Out of memory, nothing changes.
 fn grant(
     holds: &mut Holds,
-    granted: &mut Vec<Request>,
+    granted: &mut TicketList<Request>,
     request: Request,
     at: u64,
 ) -> Result<(), AllocError>
     requires { held_count request.who request.name request.mode holds.old + 1 < 2 ^ 32 }
     ensures holds { OnOk result (holds.new ≡ raised request.who request.name request.mode 1 at holds.old) }
-    ensures granted { OnOk result (granted.new.items ≡ granted.old.items ++ request ∷ []) }
+    ensures granted { OnOk result (granted.new ≡ granted.old ++ request ∷ []) }
     ensures same_holds { OnErr result (holds.new ≡ holds.old) }
-    ensures same_granted { OnErr result (granted.new.items ≡ granted.old.items) }
+    ensures same_granted { OnErr result (granted.new ≡ granted.old) }
 {
-    granted.reserve(1)?;
-    holds.raise(request.who, &request.name, request.mode, 1, at)?;
+    let hold = Hold {
+        who: request.who,
+        name: request.name.clone()?,
+        mode: request.mode,
+        count: 1,
+        at,
+    };
     granted.push(request)?;
-    Ok(())
-}
-
-/// Those with a ticket go.
-fn drop_ticket(requests: &mut Vec<Request>, session: u64, ticket: u32)
-    ensures { requests.new.items ≡ filter (is_other_ticket session ticket) requests.old.items }
-{
-    requests.retain(|request| !(request.who.session == session && request.ticket == ticket));
-}
-
-/// Those of a session go.
-fn drop_session(requests: &mut Vec<Request>, session: u64)
-    ensures { requests.new.items ≡ filter (is_request_elsewhere session) requests.old.items }
-{
-    requests.retain(|request| request.who.session != session);
-}
-
-/// The first of these with a ticket.
-fn with_ticket(requests: &[Request], session: u64, ticket: u32) -> Option<&Request>
-    ensures { option_copied result ≡ find (is_ticket session ticket) requests.now }
-{
-    requests.iter().find(|request| request.who.session == session && request.ticket == ticket)
-}
-
-/// How many requests of a holder there are for a name in a mode.
-fn request_count(requests: &[Request], who: Who, name: &KeyBytes, mode: Mode) -> usize
-    ensures { result ≡ request_count who name.now mode requests.now }
-{
-    requests
-        .iter()
-        .filter(|request| {
-            is_same_who(who, request.who)
-                && *name == request.name
-                && is_same_mode(mode, request.mode)
-        })
-        .count()
+    let raised = holds.raise(hold);
+    if raised.is_err() {
+        granted.drop_last();
+    }
+    raised
 }

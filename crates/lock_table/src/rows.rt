@@ -1,3 +1,6 @@
+ghost use Rattle.std.specs.Prelude.{◌≡◌};
+
+use lock_index::Ticketed;
 use plain_orders::Mode;
 use subscript_keys::KeyBytes;
 
@@ -25,4 +28,18 @@ pub struct Request {
     pub ticket: u32,
     pub name: KeyBytes,
     pub mode: Mode,
+}
+
+impl Ticketed for Request {
+    ghost session = { λ r. r.who.session };
+
+    ghost ticket = { λ r. r.ticket };
+
+    fn session(&self) -> u64 {
+        self.who.session
+    }
+
+    fn ticket(&self) -> u32 {
+        self.ticket
+    }
 }

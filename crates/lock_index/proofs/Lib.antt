@@ -1,0 +1,4 @@
+pub mod RowLemmas
+pub mod KeyLemmas
+pub mod TicketLemmas
+pub mod NameLemmas

@@ -1,0 +1,2 @@
+pub mod IndexWords
+pub mod TicketWords
