@@ -7,7 +7,7 @@ use Rattle.span_index.specs.declared.numbered.Numbered.{Numbered}
 use Rattle.span_index.specs.declared.found.Found.TheVariants.{Nowhere, Once, Often}
 use Rattle.span_index.specs.SpanWords.{found_of, holds, in_order, owned_in, owned_of, put_in}
 use Rattle.span_index.specs.Ranges.{IsRange, holds_it}
-use Rattle.span_index.proofs.NumberLemmas.{filter-owned_in}
+use Rattle.span_index.proofs.NumberLemmas.{numbered_passes, filter-owned_in}
 use Rattle.span_index.proofs.LookLemmas.{range-first, range-none}
 use Rattle.span_index.proofs.TakeLemmas.{range-length}
 
@@ -76,3 +76,13 @@ module _ (key : List ℕ) (ordered others : List Numbered) (first last : ℕ) (r
 
   pub holder-none : last ≤ first → find (holds_it key) others ≡ None → Nowhere ≡ found_of (filter (holds key) (owned_in (ordered ++ others)))
   holder-none l e = sym (ap found_of (held ∙ ap owned_in (none-near l ∙ found-nothing (holds_it key) others e)))
+
+-- how many of all pass a test
+pub length-kept : (t : Owned → Bool) (ordered others : List Numbered) → length (filter t (owned_in (ordered ++ others))) ≡ length (filter (numbered_passes t) ordered) + length (filter (numbered_passes t) others)
+length-kept t ordered others =
+    let kept = filter (numbered_passes t) (ordered ++ others) in
+    ap length (filter-owned_in t (ordered ++ others))
+    ∙ length-owned (in_order kept)
+    ∙ length-in_order kept
+    ∙ ap length (filter-append (numbered_passes t) ordered others)
+    ∙ length-append (filter (numbered_passes t) ordered) (filter (numbered_passes t) others)

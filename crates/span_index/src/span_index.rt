@@ -1,4 +1,4 @@
-ghost use Rattle.std.specs.Prelude.{◌≡◌, ◌+◌, ◌++◌, ◌==◌, ◌&&◌, true, false, [], ◌∷◌, map, IfOk, IfNone, IfSome, OnOk, OnErr};
+ghost use Rattle.std.specs.Prelude.{◌≡◌, ◌+◌, ◌≤◌, ◌++◌, ◌==◌, ◌&&◌, true, false, [], ◌∷◌, length, map, IfOk, IfNone, IfSome, OnOk, OnErr};
 ghost use Rattle.std.specs.List.{filter, list_any};
 ghost use Rattle.end_words.specs.Runs.{meets};
 ghost use Rattle.span_index.specs.SpanWords.{found_of, holds, is_owned_at, owned_in, owned_of, touched, untouched, without_owner};
@@ -8,7 +8,7 @@ use crate::found::Found;
 use crate::holding::{count_holding, find_holding};
 use crate::place::Place;
 use crate::ranges::{holding, meeting, place_for};
-use crate::taking::{find_met, room_for, take_ordered, take_others};
+use crate::taking::{count_met, count_touched, find_met, take_ordered, take_others};
 use std::alloc::{AllocError, Global};
 use std::marker::Model;
 use std::mem;
@@ -74,6 +74,15 @@ impl SpanIndex {
         is_among(self.others.as_slice(), owner, span)
     }
 
+    /// How many meet one of the spans, at most.
+    pub fn room_for(&self, spans: &[Span]) -> usize
+        ensures { length (touched spans.now self.now) ≤ result }
+    {
+        let near = count_met(self.ordered.as_slice(), spans);
+        let far = count_touched(self.others.as_slice(), spans);
+        near.saturating_add(far)
+    }
+
     /// Takes out those that meet one of the spans, in the order in which they were put.
     pub fn touched(&mut self, spans: &[Span]) -> Result<Vec<Place>, AllocError>
         ensures hits { IfOk result (λ hits. map owned_of hits.items ≡ touched spans.now self.old) }
@@ -81,9 +90,7 @@ impl SpanIndex {
         ensures err { OnErr result (self.new ≡ self.old) }
     {
         let alloc = *self.ordered.allocator();
-        let Some(room) = room_for(self.ordered.as_slice(), self.others.as_slice(), spans) else {
-            return Err(AllocError);
-        };
+        let room = self.room_for(spans);
         if room == 0 {
             return Ok(Vec::new(alloc));
         }

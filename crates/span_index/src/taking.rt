@@ -1,4 +1,4 @@
-ghost use Rattle.std.specs.Prelude.{◌≡◌, ◌+◌, ◌-◌, ◌≤◌, ◌++◌, [], length, take, drop, IfSome, vec_len, vec_capacity};
+ghost use Rattle.std.specs.Prelude.{◌≡◌, ◌+◌, ◌-◌, ◌≤◌, ◌++◌, [], length, take, drop, vec_len, vec_capacity};
 ghost use Rattle.std.specs.List.{filter, find};
 ghost use Rattle.std.specs.Option.{option_copied};
 ghost use Rattle.std.specs.List.Sorted.{IsPermutation};
@@ -33,10 +33,11 @@ pub fn find_met<'a>(places: &'a [Place], span: &Span) -> Option<&'a Place>
 }
 
 /// How many places meet one of the spans, at most.
-fn count_met(places: &[Place], spans: &[Span]) -> usize
+pub fn count_met(places: &[Place], spans: &[Span]) -> usize
     requires rises { Rises places.now }
     requires full { AllFull places.now }
-    ensures { length (filter (touches spans.now) places.now) ≤ result }
+    ensures all { length (filter (touches spans.now) places.now) ≤ result }
+    ensures most { result ≤ length places.now }
 {
     let most = places.len();
     let mut count = 0usize;
@@ -48,22 +49,13 @@ fn count_met(places: &[Place], spans: &[Span]) -> usize
 }
 
 /// How many meet one of the spans.
-fn count_touched(places: &[Place], spans: &[Span]) -> usize
+pub fn count_touched(places: &[Place], spans: &[Span]) -> usize
     ensures { result ≡ length (filter (touches spans.now) places.now) }
 {
     places
         .iter()
         .filter(|place| is_touched(place, spans))
         .count()
-}
-
-/// How many meet one of the spans in both lists, at most; none where no number is that great.
-pub fn room_for(ordered: &[Place], others: &[Place], spans: &[Span]) -> Option<usize>
-    requires rises { Rises ordered.now }
-    requires full { AllFull ordered.now }
-    ensures { IfSome result (λ room. length (filter (touches spans.now) ordered.now) + length (filter (touches spans.now) others.now) ≤ room) }
-{
-    count_met(ordered, spans).checked_add(count_touched(others, spans))
 }
 
 /// Moves the places of a range behind the hits, which have room for them.

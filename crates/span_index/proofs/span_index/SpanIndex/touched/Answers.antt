@@ -4,25 +4,37 @@ use Rattle.std.proofs.lemmas.List.Sorted.{length_permutation, IsNonDecreasingBy-
 use Rattle.span_index.specs.SpanWords.{is_touched, is_untouched, touched, untouched}
 use Rattle.span_index.specs.Ranges.{stays, touches}
 use Rattle.span_index.specs.Indexes.{number_of}
+use Rattle.span_index.proofs.FoundLemmas.{length-kept}
 use Rattle.span_index.proofs.NumberLemmas.{IsIndex-filter, owned_in-filter}
 use Rattle.span_index.proofs.TakeLemmas.{taken-in_order, none-touched, none-left}
 use Rattle.span_index.proofs.span_index.SpanIndex.touched.Goals as goal
 
 pub returns-then-room-eq0-clause-hits : goal.returns-then-room-eq0-clause-hits
 returns-then-room-eq0-clause-hits c =
-    let none : length (filter (touches c.args.spans.now) c.self.inside.ordered.items) + length (filter (touches c.args.spans.now) c.self.inside.others.items) ≤ 0 = rw (← c.as_slice.ensures.value, ← c.as_slice-2.ensures.value, ← c.if-room-eq0.true) c.in-Some.ensures in
+    let room = rw (← c.self.view_is) at c.room_for-room.ensures in
+    let all = length-kept (is_touched c.args.spans.now) c.self.inside.ordered.items c.self.inside.others.items in
+    let none : length (filter (touches c.args.spans.now) c.self.inside.ordered.items) + length (filter (touches c.args.spans.now) c.self.inside.others.items) ≤ 0 = omega (arith, all, room, c.if-room-eq0.true) in
     rw (c.new.ensures.items, ← c.self.view_is) (sym (none-touched (is_touched c.args.spans.now) c.self.inside.ordered.items c.self.inside.others.items none))
 
 pub returns-then-room-eq0-clause-ok : goal.returns-then-room-eq0-clause-ok
 returns-then-room-eq0-clause-ok c =
-    let none : length (filter (touches c.args.spans.now) c.self.inside.ordered.items) + length (filter (touches c.args.spans.now) c.self.inside.others.items) ≤ 0 = rw (← c.as_slice.ensures.value, ← c.as_slice-2.ensures.value, ← c.if-room-eq0.true) c.in-Some.ensures in
+    let room = rw (← c.self.view_is) at c.room_for-room.ensures in
+    let all = length-kept (is_touched c.args.spans.now) c.self.inside.ordered.items c.self.inside.others.items in
+    let none : length (filter (touches c.args.spans.now) c.self.inside.ordered.items) + length (filter (touches c.args.spans.now) c.self.inside.others.items) ≤ 0 = omega (arith, all, room, c.if-room-eq0.true) in
     rw (← c.self.view_is) (none-left (is_touched c.args.spans.now) c.self.inside.ordered.items c.self.inside.others.items none)
 
 pub take_others-requires-clause-room : goal.take_others-requires-clause-room
 take_others-requires-clause-room c =
-    let room : length (filter (touches c.args.spans.now) c.self.inside.ordered.items) + length (filter (touches c.args.spans.now) c.self.inside.others.items) ≤ c.in-Some.room = rw (← c.as_slice.ensures.value, ← c.as_slice-2.ensures.value) c.in-Some.ensures in
+    let room = rw (← c.self.view_is) at c.room_for-room.ensures in
+    let all = length-kept (is_touched c.args.spans.now) c.self.inside.ordered.items c.self.inside.others.items in
     let count = length_permutation _ _ c.take_ordered.ensures.hits in
-    rw c.replace-others.ensures.value (omega (arith, room, count, c.take_ordered.ensures.capacity, c.in_ok-hits.ensures.capacity))
+    rw c.replace-others.ensures.value (omega (arith, all, room, count, c.take_ordered.ensures.capacity, c.in_ok-hits.ensures.capacity))
+
+pub take_ordered-requires-clause-room : goal.take_ordered-requires-clause-room
+take_ordered-requires-clause-room c =
+    let room = rw (← c.self.view_is) at c.room_for-room.ensures in
+    let all = length-kept (is_touched c.args.spans.now) c.self.inside.ordered.items c.self.inside.others.items in
+    omega (arith, all, room, c.in_ok-hits.ensures.capacity)
 
 pub invariant_of-self : goal.invariant_of-self
 invariant_of-self c =
