@@ -1,18 +1,18 @@
 -- Runs by distinct numbers: the first that passes a test, found and removed by its number.
-use Rattle.std.proofs.Common.{◌≡◌, ℕ, zero, suc, ◌+◌, ◌-◌, ◌<◌, Bool, true, false, not, cond, nat_eq, List, [], ◌∷◌, filter, length, take, Option, Some, None, refl, ap, subst, ◌∙◌, arith}
+use Rattle.std.proofs.Common.{◌≡◌, ℕ, zero, suc, ◌+◌, ◌-◌, ◌<◌, Bool, true, false, not, cond, nat_eq, List, [], ◌∷◌, filter, length, slice_get, take, Option, Some, None, refl, ap, subst, ◌∙◌, arith}
 use Rattle.std.specs.List.{find, AllByRecursion, IsDistinct}
 use Rattle.std.specs.Option.{option_map}
-use Rattle.std.specs.Map.{keys_of, values_of, lookup_entry, remove_entry}
+use Rattle.std.specs.Map.{keys_of, values_of, lookup, lookup_entry, remove_entry}
 use Rattle.std.proofs.lemmas.Bool.Decides.{nat_tests}
 use Rattle.subscript_keys.specs.declared.run.Run.{Run}
-use Rattle.lru.specs.LruCache.{LruCache, promoted, put_entries}
+use Rattle.lru.specs.LruCache.{LruCache, displaced, promoted, put_entries}
 use Rattle.block_cache.specs.CacheWords.{without_first, in_front}
 use Rattle.block_cache.specs.Numbering.{run_of, number_of, IsNumberedBelow}
 
-same_number : (n : ℕ) → nat_eq n n ≡ true
+pub same_number : (n : ℕ) → nat_eq n n ≡ true
 same_number n = grind (arith, nat_tests)
 
-other_number : (m n : ℕ) → nat_eq m n ≡ false → nat_eq n m ≡ false
+pub other_number : (m n : ℕ) → nat_eq m n ≡ false → nat_eq n m ≡ false
 other_number m n h = grind (arith, nat_tests)
 
 not_self : (m n : ℕ) → n < m → nat_eq m n ≡ false
@@ -150,3 +150,11 @@ found_no_number (Some e) h = cc
 -- after a run with the next number
 pub put_entries-next : (c : LruCache ℕ Run) (next : ℕ) (run : Run) → IsNumberedBelow next c.entries → put_entries nat_eq c next run ≡ (next, run) ∷ take (c.cap - 1) c.entries
 put_entries-next c next run b = rw (lookup_entry-next next c.entries b) refl
+
+lookup-next : (next : ℕ) (es : List (ℕ × Run)) → IsNumberedBelow next es → lookup (nat_eq next) es ≡ None
+lookup-next next [] b = refl
+lookup-next next (e ∷ es) b = rw (not_self next e.0 b.0) (lookup-next next es b.1)
+
+-- what a run with the next number pushes out
+pub displaced-next : (c : LruCache ℕ Run) (next : ℕ) (run : Run) → IsNumberedBelow next c.entries → c.cap ≡ 256 → displaced nat_eq c next run ≡ slice_get c.entries 255
+displaced-next c next run b e = rw (lookup-next next c.entries b, e) refl

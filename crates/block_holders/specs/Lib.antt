@@ -1,1 +1,2 @@
 pub mod HolderWords
+pub mod Notes

@@ -1,9 +1,7 @@
-use Rattle.std.proofs.Common.{refl, rules}
-use Rattle.std.proofs.lemmas.Fn.{filter_same}
+use Rattle.std.proofs.Common.{sym}
 use Rattle.block_holders.specs.HolderWords.{is_noted_elsewhere}
+use Rattle.block_holders.proofs.NoteLemmas.{filter-noted}
 use Rattle.block_holders.proofs.holders.Holders.forget.Goals as goal
 
 pub returns : goal.returns
-returns c =
-    let kept = filter_same _ (is_noted_elsewhere c.args.session) _ (λ x b f k. search rules) _ _ c.retain.ensures.filtered in
-    rw (kept, ← c.self.view_is) refl
+returns c = rw (c.drop_owner.ensures, ← c.self.view_is) (sym (filter-noted (is_noted_elsewhere c.args.session) c.self.inside.notes))

@@ -1,0 +1,3 @@
+pub mod SpanWords
+pub mod Ranges
+pub mod Indexes
