@@ -9,3 +9,4 @@ pub mod Coherence
 pub mod Fronts
 pub mod Rounds
 pub mod Holds
+pub mod Stays

@@ -1,0 +1,35 @@
+-- What a move keeps, where the invariant holds before it.
+use Rattle.std.specs.Prelude.{◌≡◌, ℕ, false, List}
+use Rattle.plain_orders.specs.declared.act.Act.{Act}
+use Rattle.plain_orders.specs.declared.layout.Layout.{Layout}
+use Rattle.plain_runs.specs.Run.{IsRun, state_after}
+use Rattle.app_job.specs.declared.command.Command.{Command}
+use Rattle.app_rules.specs.declared.app_in.AppIn.{AppIn}
+use Rattle.cluster_runs.specs.declared.move_outs.MoveOuts.{MoveOuts}
+use Rattle.cluster_runs.specs.declared.moves.Move.TheVariants.{App, Step}
+use Rattle.cluster_runs.specs.CoresState.{CoresState, app_of_job}
+use Rattle.cluster_runs.specs.Moves.{Allowed}
+use Rattle.cluster_runs.specs.Mirrors.{Mirrors}
+use Rattle.cluster_runs.specs.Machine.{Machine}
+use Rattle.cluster_runs.specs.Goes.{AppGoes, JobGoes}
+use Rattle.cluster_invariant.specs.Ends.{AppTables}
+use Rattle.cluster_invariant.specs.Holds.{Holds}
+
+-- The trail stays a run as an application server takes an input.
+abbrev pub InputsKeepRuns : Type 0
+InputsKeepRuns = (l : Layout) (c : CoresState) (m : Machine) (app now : ℕ) (input : AppIn) (outs : MoveOuts) (written : List Act) (new : Machine)
+    → Holds l m → IsRun l m.trail → Mirrors c m → Allowed c (App app now input) → AppGoes m app now input outs written new → IsRun l new.trail
+
+-- what the tables of living application ends are to be, after a move
+abbrev pub TablesHold : Layout → Machine → Type 0
+TablesHold l m = (d app : ℕ) → m.is_dead_at app ≡ false → AppTables (((state_after l m.trail).server_at d).pair_at app) ((m.site_at d).end_at app).state
+
+-- An input of an application server keeps them.
+abbrev pub InputsKeepTables : Type 0
+InputsKeepTables = (l : Layout) (c : CoresState) (m : Machine) (app now : ℕ) (input : AppIn) (outs : MoveOuts) (written : List Act) (new : Machine)
+    → Holds l m → Mirrors c m → Allowed c (App app now input) → AppGoes m app now input outs written new → TablesHold l new
+
+-- A step of a job does.
+abbrev pub CommandsKeepTables : Type 0
+CommandsKeepTables = (l : Layout) (c : CoresState) (m : Machine) (job now line : ℕ) (command : Command) (outs : MoveOuts) (written : List Act) (new : Machine)
+    → Holds l m → Mirrors c m → Allowed c (Step job now line command) → JobGoes m (app_of_job m.layout job) job now line command outs written new → TablesHold l new

@@ -1,0 +1,14 @@
+ghost use Rattle.ends_kept.specs.Laws.{CommandsKeepTables, InputsKeepRuns, InputsKeepTables};
+
+/// Where the invariant holds, the acts that an application server writes as it takes an input may come in the plain
+/// machine, one after the other: breaks, mendings, losses, and what Welcomes tell.
+pub fn an_input_keeps_the_trail_a_run()
+    ensures { InputsKeepRuns }
+{}
+
+/// Where the invariant holds, the tables of the application ends stay those of the plain pairs: session, break, and how
+/// far the connection is.
+pub fn the_tables_are_kept()
+    ensures inputs { InputsKeepTables }
+    ensures commands { CommandsKeepTables }
+{}
