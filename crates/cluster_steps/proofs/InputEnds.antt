@@ -1,7 +1,7 @@
 -- What the other inputs make of an application server's ends: a connection that is there, an attempt that failed, a connection that ended, a
 -- pair that was joined again, and a tick.
-use Rattle.std.proofs.Common.{◌≡◌, ◌<◌, ◌+◌, ℕ, Bool, true, false, List, [], ◌∷◌, length, refl, sym, ap, subst}
-use Rattle.std.specs.Prelude.{nat_le}
+use Rattle.std.proofs.Common.{◌≡◌, ◌<◌, ◌+◌, ℕ, Bool, true, false, List, [], ◌∷◌, length, refl, sym, ap, subst, ltb-true, ◌∙◌}
+use Rattle.std.specs.Prelude.{nat_le, nat_lt}
 use Rattle.plain_orders.specs.declared.act.Act.{Act}
 use Rattle.plain_orders.specs.declared.act.Act.TheVariants as act
 use Rattle.plain_orders.specs.declared.causes.Loss.TheVariants as losses
@@ -17,11 +17,13 @@ use Rattle.ecp_messages.specs.declared.up.UpFrame.{UpFrame}
 use Rattle.app_job.specs.declared.reason.Reason.TheVariants as reasons
 use Rattle.end_words.specs.Windows.{with_ack_put}
 use Rattle.app_rules.specs.declared.line.Line.TheVariants.{Apart, Trying, Greeting, Asking}
-use Rattle.app_rules.specs.AppState.{AppEnd}
+use Rattle.app_rules.specs.AppState.{AppEnd, AppState, no_end}
 use Rattle.app_rules.specs.Works.{Sofar, frame_to, becomes, tries, tries_if, end_at, session_of, session_at, with_line, with_session, with_window, is_apart}
 use Rattle.app_rules.specs.Losing.{broken, without_session, tries_when, ticks_trouble, ticks_from, joins_from, recovers, greets, connected_from, connected, with_dial, with_failure, failed_from, failed}
 use Rattle.cluster_steps.proofs.EndSteps.{Here, here_same, then_becomes, then_writes, then_connects, then_frames, then_tells, then_happens}
 use Rattle.cluster_steps.proofs.FrameEnds.{ended_from, ended_acts, then_broken}
+use Rattle.std.proofs.lemmas.List.{get_or_past}
+use Rattle.std.proofs.lemmas.Bool.{false≢true, ltb-true, ltb-false}
 
 -- a connection is there
 
@@ -199,3 +201,14 @@ ticked_here d now b there = go (end_at b.state d).link
     go NormalLink = here_same d b there
     go (Trouble broke try_at) = trouble (nat_le (until broke b.state.times.recover) now) (nat_le try_at now) broke try_at refl
     go Recovery = here_same d b there
+
+-- an end in trouble is one of those that are there
+pub trouble_here : (a : AppState) (d broke try_at : ℕ) → (end_at a d).link ≡ Trouble broke try_at → d < length a.ends
+trouble_here a d broke try_at same = go (nat_lt d (length a.ends)) refl
+  where
+    apart : NotConnected ≡ Trouble broke try_at → ⊥
+    apart e = absurd (cc (e))
+
+    go : (t : Bool) → nat_lt d (length a.ends) ≡ t → d < length a.ends
+    go true low = ltb-true d (length a.ends) low
+    go false past = absurd (apart (ap (λ (e : AppEnd). e.link) (sym (get_or_past a.ends d no_end (ltb-false d (length a.ends) past))) ∙ same))

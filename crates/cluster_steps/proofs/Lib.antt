@@ -9,3 +9,4 @@ pub mod FrameCases
 pub mod InputEnds
 pub mod AppSites
 pub mod JobActs
+pub mod Outcomes

@@ -46,9 +46,9 @@ use Rattle.cluster_steps.proofs.AppSites.{app_ends}
 use Rattle.cluster_steps.proofs.EndSteps.{Here}
 use Rattle.cluster_steps.proofs.FrameEnds.{FrameCame, NumberedCame, EndsIt, ended_acts}
 use Rattle.cluster_steps.proofs.FrameCases.{frame_came}
-use Rattle.cluster_steps.proofs.InputEnds.{ConnectedCame, connected_came, failed_acts, failed_came, broken_came, joined_came, lost_if, ticked_from, ticked_acts, ticked_here}
+use Rattle.cluster_steps.proofs.InputEnds.{ConnectedCame, connected_came, failed_acts, failed_came, broken_came, joined_came, lost_if, ticked_from, ticked_acts, ticked_here, trouble_here}
 use Rattle.ends_kept.proofs.PairTables.{line_has}
-use Rattle.ends_kept.proofs.TablesKept.{TablesAre, by_tick, trouble_here}
+use Rattle.ends_kept.proofs.TablesKept.{TablesAre, by_tick}
 use Rattle.ends_kept.proofs.TablesMoves.{app_may, tables_begin}
 use Rattle.ends_kept.proofs.TakenDown.{Taken, taken_down}
 use Rattle.ends_kept.proofs.MetTold.{met_may, told_may, reset_may}

@@ -40,7 +40,7 @@ use Rattle.cluster_steps.proofs.JobPieces.{GoesOn, IsOfJob}
 use Rattle.cluster_steps.proofs.EndSteps.{Here}
 use Rattle.cluster_steps.proofs.FrameEnds.{EndsIt, FrameCame, NumberedCame, ended_from, ended_acts}
 use Rattle.cluster_steps.proofs.FrameCases.{frame_came}
-use Rattle.cluster_steps.proofs.InputEnds.{ConnectedCame, connected_came, failed_acts, failed_end, failed_came, broken_came, rejoined, joined_came, ticked_from, ticked_acts, ticked_here, lost_if}
+use Rattle.cluster_steps.proofs.InputEnds.{ConnectedCame, connected_came, failed_acts, failed_end, failed_came, broken_came, rejoined, joined_came, ticked_from, ticked_acts, ticked_here, lost_if, trouble_here}
 use Rattle.ends_kept.proofs.PairActs.{IsAt, IsOfApp, pair_by, pair_with, acts_pair, acts_elsewhere, job_pairs}
 use Rattle.ends_kept.proofs.PairTables.{line_has, tables_by_job, tables_by_fresh, tables_by_ack, broke_by, tables_by_end, tables_by_meeting, tables_by_going_on, tables_by_learning, tables_by_loss, mended_by, connected_end, tables_by_connection, tables_by_failure, tables_by_join, lost_by, ticked_by, tables_by_tick}
 
@@ -175,17 +175,6 @@ lost_at app a d now false its = tt
 lost_pair : (a d now : ℕ) (over : Bool) (pair : Pair) → pair_by (lost_if over a d now) pair ≡ lost_by over pair
 lost_pair a d now true pair = refl
 lost_pair a d now false pair = refl
-
--- an end in trouble is one of those that are there
-pub trouble_here : (a : AppState) (d broke try_at : ℕ) → (end_at a d).link ≡ Trouble broke try_at → d < length a.ends
-trouble_here a d broke try_at same = go (nat_lt d (length a.ends)) refl
-  where
-    apart : NotConnected ≡ Trouble broke try_at → ⊥
-    apart e = absurd (cc (e))
-
-    go : (t : Bool) → nat_lt d (length a.ends) ≡ t → d < length a.ends
-    go true low = ltb-true d (length a.ends) low
-    go false past = absurd (apart (ap (λ (e : AppEnd). e.link) (sym (get_or_past a.ends d no_end (ltb-false d (length a.ends) past))) ∙ same))
 
 pub by_tick : (link : AppLink) (l : Layout) (p : Plain) (app d now : ℕ) (b : Sofar) → TablesAre l p app b → (end_at b.state d).link ≡ link → TablesAre l p app (ticks_from link d now b)
 by_tick NotConnected l p app d now b t same = t
