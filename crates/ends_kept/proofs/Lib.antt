@@ -6,3 +6,6 @@ pub mod TakenDown
 pub mod EpochBegun
 pub mod MetTold
 pub mod AppRuns
+pub mod OrderApps
+pub mod OrderJobs
+pub mod OrdersKept

@@ -57,10 +57,11 @@ no_session_of pair e t line = ap is_some t.session ∙ some e.session (sym t.con
     some None h = refl
     some (Some s) h = absurd (false≢true (sym h))
 
--- The Welcome of a new session: it may be met.
-pub met_may : (l : Layout) (m : Machine) (app d : ℕ) (frame : DownFrame) (session epoch kept : ℕ) (front : Front) (taken : ℕ) → Holds l m → IsRun l m.trail → m.is_dead_at app ≡ false → Taken ((m.site_at d).end_at app) frame
-    → frame.message ≡ Welcome session epoch kept front taken → ((m.site_at d).end_at app).state.line ≡ Greeting → MetMay ((state_after l m.trail).server_at d) app session
-met_may l m app d frame session epoch kept front taken h run alive t message line = go (downs_left t.connection) t.left (down_by v x app e frame Greeting t ((h.sites d).link.apps app alive) line)
+-- The Welcome of a new session, as it was on its way.
+pub new_on : (l : Layout) (m : Machine) (app d : ℕ) (frame : DownFrame) (session epoch kept : ℕ) (front : Front) (taken : ℕ) → Holds l m → m.is_dead_at app ≡ false → (t : Taken ((m.site_at d).end_at app) frame)
+    → frame.message ≡ Welcome session epoch kept front taken → ((m.site_at d).end_at app).state.line ≡ Greeting
+    → NewWelcomeOn ((state_after l m.trail).server_at d) (m.site_at d) app ((m.site_at d).end_at app).state.told t.connection session epoch kept front taken
+new_on l m app d frame session epoch kept front taken h alive t message line = go (downs_left t.connection) t.left (down_by v x app e frame Greeting t ((h.sites d).link.apps app alive) line)
   where
     v : Server
     v = (state_after l m.trail).server_at d
@@ -71,7 +72,25 @@ met_may l m app d frame session epoch kept front taken h run alive t message lin
     e : End
     e = x.end_at app
 
-    by : NewWelcomeOn v x app e.state.told t.connection session epoch kept front taken → MetMay v app session
+    go : (fs : List DownFrame) → fs ≡ frame ∷ t.behind → GreetedWay v x app e.state.told t.connection fs → NewWelcomeOn v x app e.state.told t.connection session epoch kept front taken
+    go [] is way = absurd (cc (is))
+    go (f ∷ fs) is way = subst (λ (k : Down). GreetedFirst v x app e.state.told t.connection k) message (subst (λ (g : DownFrame). GreetedFirst v x app e.state.told t.connection g.message) (heads f fs frame t.behind is) way.1)
+      where
+        heads : (a : DownFrame) (xs : List DownFrame) (b : DownFrame) (bs : List DownFrame) → a ∷ xs ≡ b ∷ bs → a ≡ b
+        heads a xs b bs same = cc (same)
+
+-- It may be met.
+pub met_may : (l : Layout) (m : Machine) (app d : ℕ) (frame : DownFrame) (session epoch kept : ℕ) (front : Front) (taken : ℕ) → Holds l m → IsRun l m.trail → m.is_dead_at app ≡ false → Taken ((m.site_at d).end_at app) frame
+    → frame.message ≡ Welcome session epoch kept front taken → ((m.site_at d).end_at app).state.line ≡ Greeting → MetMay ((state_after l m.trail).server_at d) app session
+met_may l m app d frame session epoch kept front taken h run alive t message line = by (new_on l m app d frame session epoch kept front taken h alive t message line)
+  where
+    v : Server
+    v = (state_after l m.trail).server_at d
+
+    e : End
+    e = (m.site_at d).end_at app
+
+    by : NewWelcomeOn v (m.site_at d) app e.state.told t.connection session epoch kept front taken → MetMay v app session
     by w = record {
       place = ap (λ (es : List Entry). entry_at es session) (sym (last_order v)) ∙ entry_stays l m.trail d w.order (current v) session (Opened session app) run w.unmet.there (omega arith) w.synced w.unmet.opened;
       synced = omega (arith, w.synced, stays_synced l m.trail d w.order run w.unmet.there);
@@ -80,13 +99,6 @@ met_may l m app d frame session epoch kept front taken h run alive t message lin
       fresh = ap is_some w.unmet.unmet;
       none = no_session_of (v.pair_at app) e.state ((h.sites d).ends.tables app alive) line;
     }
-
-    go : (fs : List DownFrame) → fs ≡ frame ∷ t.behind → GreetedWay v x app e.state.told t.connection fs → MetMay v app session
-    go [] is way = absurd (cc (is))
-    go (f ∷ fs) is way = by (subst (λ (k : Down). GreetedFirst v x app e.state.told t.connection k) message (subst (λ (g : DownFrame). GreetedFirst v x app e.state.told t.connection g.message) (heads f fs frame t.behind is) way.1))
-      where
-        heads : (a : DownFrame) (xs : List DownFrame) (b : DownFrame) (bs : List DownFrame) → a ∷ xs ≡ b ∷ bs → a ≡ b
-        heads a xs b bs same = cc (same)
 
 -- a session that is there, in its pair
 pair_of : (pair : Pair) (e : AppEnd) (s : Session) → AppTables pair e → e.session ≡ Some s → pair.session ≡ Some s.number
@@ -100,11 +112,16 @@ told_in v app s k met = go (v.session_at s.number) met
     go None h = absurd h
     go (Some t) h = h.1
 
--- The Welcome of a new epoch: it may be told.
-pub told_may : (l : Layout) (m : Machine) (app d : ℕ) (frame : DownFrame) (s : Session) (session epoch kept : ℕ) (front : Front) (taken : ℕ) → Holds l m → IsRun l m.trail → m.is_dead_at app ≡ false → Taken ((m.site_at d).end_at app) frame
+-- The Welcome of a new epoch, as it was on its way, and the order that its session is told of.
+pub record EpochOn (v : Server) (x : Site) (s : Session) (c : Connection) (session epoch kept : ℕ) (front : Front) (taken : ℕ) (behind : List DownFrame) : Type 0 where
+  pub before : ℕ
+  pub told : (session_in v s.number).told ≡ before
+  pub welcome : EpochWelcomeOn v x s before c session epoch kept front taken behind
+
+pub epoch_on : (l : Layout) (m : Machine) (app d : ℕ) (frame : DownFrame) (s : Session) (session epoch kept : ℕ) (front : Front) (taken : ℕ) → Holds l m → m.is_dead_at app ≡ false → (t : Taken ((m.site_at d).end_at app) frame)
     → frame.message ≡ Welcome session epoch kept front taken → ((m.site_at d).end_at app).state.line ≡ Asking → ((m.site_at d).end_at app).state.session ≡ Some s → s.epoch < epoch
-    → ToldMay ((state_after l m.trail).server_at d) app session epoch kept
-told_may l m app d frame s session epoch kept front taken h run alive t message line there later =
+    → EpochOn ((state_after l m.trail).server_at d) (m.site_at d) s t.connection session epoch kept front taken t.behind
+epoch_on l m app d frame s session epoch kept front taken h alive t message line there later =
     told_at e.told (subst (λ (o : Option Session). WithSession o e.told (λ y k. AskedWay v x y k t.connection (downs_left t.connection))) there (down_by v x app e frame Asking t ((h.sites d).link.apps app alive) line))
     (of_some (λ y. ToldPlace v app y e.told) e.state.session s there ((h.sites d).ends.told app alive).place)
   where
@@ -117,20 +134,12 @@ told_may l m app d frame s session epoch kept front taken h run alive t message 
     e : End
     e = x.end_at app
 
-    by : (k : ℕ) → (session_in v s.number).told ≡ k → SameWelcome v x s k t.connection session epoch front taken t.behind ⊎ EpochWelcomeOn v x s k t.connection session epoch kept front taken t.behind → ToldMay v app session epoch kept
+    by : (k : ℕ) → (session_in v s.number).told ≡ k → SameWelcome v x s k t.connection session epoch front taken t.behind ⊎ EpochWelcomeOn v x s k t.connection session epoch kept front taken t.behind
+        → EpochOn v x s t.connection session epoch kept front taken t.behind
     by k told (inl w) = absurd (omega (arith, w.epoch_told, later))
-    by k told (inr w) = record {
-      its = pair_of (v.pair_at app) e.state s ((h.sites d).ends.tables app alive) there ∙ ap (λ n. Some n) (sym w.number);
-      later = subst (λ n. (session_in v n).told < begun_by v epoch) (sym w.number) (omega (arith, told, begun, w.says.later));
-      place = subst (λ n. place_of_epoch (last_epoch (order_at v (session_in v n).told)) 0 (order_at v (begun_by v epoch)) ≡ Some kept) (sym w.number)
-          (subst (λ i. place_of_epoch (last_epoch (order_at v i)) 0 (order_at v (begun_by v epoch)) ≡ Some kept) (sym told)
-          (subst (λ i. place_of_epoch (last_epoch (order_at v k)) 0 (order_at v i) ≡ Some kept) (sym begun) w.says.place));
-    }
-      where
-        begun : begun_by v epoch ≡ w.order
-        begun = begun_is v epoch w.order w.says.there w.says.its_epoch w.says.only
+    by k told (inr w) = record { before = k; told = told; welcome = w }
 
-    first : (k : ℕ) (fs : List DownFrame) → fs ≡ frame ∷ t.behind → (session_in v s.number).told ≡ k → AskedWay v x s k t.connection fs → ToldMay v app session epoch kept
+    first : (k : ℕ) (fs : List DownFrame) → fs ≡ frame ∷ t.behind → (session_in v s.number).told ≡ k → AskedWay v x s k t.connection fs → EpochOn v x s t.connection session epoch kept front taken t.behind
     first k [] is told way = absurd (cc (is))
     first k (f ∷ fs) is told way =
         by k told
@@ -143,12 +152,33 @@ told_may l m app d frame s session epoch kept front taken h run alive t message 
         tails : (a : DownFrame) (xs : List DownFrame) (b : DownFrame) (bs : List DownFrame) → a ∷ xs ≡ b ∷ bs → xs ≡ bs
         tails a xs b bs same = cc (same)
 
-    told_at : (o : Option Place) → WithSession (Some s) o (λ y k. AskedWay v x y k t.connection (downs_left t.connection)) → ToldPlace v app s o → ToldMay v app session epoch kept
+    told_at : (o : Option Place) → WithSession (Some s) o (λ y k. AskedWay v x y k t.connection (downs_left t.connection)) → ToldPlace v app s o → EpochOn v x s t.connection session epoch kept front taken t.behind
     told_at None way place = absurd way
     told_at (Some p) way place = first p.order (downs_left t.connection) t.left (told_in v app s place.order place.met ∙ order_of p place.order place.its) way
       where
         order_of : (q : Place) (k : ℕ) → Some q ≡ Some (record { session = s.number; order = k }) → k ≡ q.order
         order_of q k same = cc (same)
+
+-- It may be told.
+pub told_may : (l : Layout) (m : Machine) (app d : ℕ) (frame : DownFrame) (s : Session) (session epoch kept : ℕ) (front : Front) (taken : ℕ) → Holds l m → IsRun l m.trail → m.is_dead_at app ≡ false → Taken ((m.site_at d).end_at app) frame
+    → frame.message ≡ Welcome session epoch kept front taken → ((m.site_at d).end_at app).state.line ≡ Asking → ((m.site_at d).end_at app).state.session ≡ Some s → s.epoch < epoch
+    → ToldMay ((state_after l m.trail).server_at d) app session epoch kept
+told_may l m app d frame s session epoch kept front taken h run alive t message line there later = by (epoch_on l m app d frame s session epoch kept front taken h alive t message line there later)
+  where
+    v : Server
+    v = (state_after l m.trail).server_at d
+
+    by : EpochOn v (m.site_at d) s t.connection session epoch kept front taken t.behind → ToldMay v app session epoch kept
+    by o = record {
+      its = pair_of (v.pair_at app) ((m.site_at d).end_at app).state s ((h.sites d).ends.tables app alive) there ∙ ap (λ n. Some n) (sym o.welcome.number);
+      later = subst (λ n. (session_in v n).told < begun_by v epoch) (sym o.welcome.number) (omega (arith, o.told, begun, o.welcome.says.later));
+      place = subst (λ n. place_of_epoch (last_epoch (order_at v (session_in v n).told)) 0 (order_at v (begun_by v epoch)) ≡ Some kept) (sym o.welcome.number)
+          (subst (λ i. place_of_epoch (last_epoch (order_at v i)) 0 (order_at v (begun_by v epoch)) ≡ Some kept) (sym o.told)
+          (subst (λ i. place_of_epoch (last_epoch (order_at v o.before)) 0 (order_at v i) ≡ Some kept) (sym begun) o.welcome.says.place));
+    }
+      where
+        begun : begun_by v epoch ≡ o.welcome.order
+        begun = begun_is v epoch o.welcome.order o.welcome.says.there o.welcome.says.its_epoch o.welcome.says.only
 
 -- A Reset: its Close stands, and is synced.
 closed_may : (l : Layout) (m : Machine) (app d k session at n : ℕ) → IsRun l m.trail → k ≤ current ((state_after l m.trail).server_at d) → (((state_after l m.trail).server_at d).pair_at app).session ≡ Some n

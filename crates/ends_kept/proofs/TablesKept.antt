@@ -228,7 +228,7 @@ jobs_pairs : (l : Layout) (p : Plain) (ws : List Act) (app d : ℕ) → AllByRec
 jobs_pairs l p [] app d of_job = refl
 jobs_pairs l p (a ∷ ws) app d of_job = jobs_pairs l (after l p a) ws app d of_job.1 ∙ job_pairs l p a app d of_job.0
 
-normal_has : (pair : Pair) (e : AppEnd) → AppTables pair e → is_normal e.link ≡ true → is_some e.session ≡ true
+pub normal_has : (pair : Pair) (e : AppEnd) → AppTables pair e → is_normal e.link ≡ true → is_some e.session ≡ true
 normal_has pair e t normal = sym t.connected ∙ go e.link normal
   where
     go : (link : AppLink) → is_normal link ≡ true → has_session link ≡ true

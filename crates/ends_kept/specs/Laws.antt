@@ -11,9 +11,11 @@ use Rattle.cluster_runs.specs.CoresState.{CoresState, app_of_job}
 use Rattle.cluster_runs.specs.Moves.{Allowed}
 use Rattle.cluster_runs.specs.Mirrors.{Mirrors}
 use Rattle.cluster_runs.specs.Machine.{Machine}
-use Rattle.cluster_runs.specs.Goes.{AppGoes, JobGoes}
+use Rattle.cluster_runs.specs.Goes.{AppGoes, JobGoes, Goes}
 use Rattle.cluster_invariant.specs.Ends.{AppTables}
 use Rattle.cluster_invariant.specs.Holds.{Holds}
+use Rattle.cluster_invariant.specs.Orders.{OrderIs}
+use Rattle.cluster_runs.specs.declared.moves.Move.{Move}
 
 -- The trail stays a run as an application server takes an input.
 abbrev pub InputsKeepRuns : Type 0
@@ -33,3 +35,9 @@ InputsKeepTables = (l : Layout) (c : CoresState) (m : Machine) (app now : ℕ) (
 abbrev pub CommandsKeepTables : Type 0
 CommandsKeepTables = (l : Layout) (c : CoresState) (m : Machine) (job now line : ℕ) (command : Command) (outs : MoveOuts) (written : List Act) (new : Machine)
     → Holds l m → Mirrors c m → Allowed c (Step job now line command) → JobGoes m (app_of_job m.layout job) job now line command outs written new → TablesHold l new
+
+-- Each move keeps the orders: each data server's node and disk have the plain machine's.
+abbrev pub MovesKeepOrders : Type 0
+MovesKeepOrders = (l : Layout) (c : CoresState) (m : Machine) (move : Move) (outs : MoveOuts) (written : List Act) (new : Machine)
+    → Holds l m → IsRun l m.trail → Mirrors c m → Allowed c move → Goes m move outs written new
+    → (d : ℕ) → OrderIs l d ((state_after l new.trail).server_at d) (new.site_at d)

@@ -1,4 +1,4 @@
-ghost use Rattle.ends_kept.specs.Laws.{CommandsKeepTables, InputsKeepRuns, InputsKeepTables};
+ghost use Rattle.ends_kept.specs.Laws.{CommandsKeepTables, InputsKeepRuns, InputsKeepTables, MovesKeepOrders};
 
 /// Where the invariant holds, the acts that an application server writes as it takes an input may come in the plain
 /// machine, one after the other: breaks, mendings, losses, and what Welcomes tell.
@@ -11,4 +11,10 @@ pub fn an_input_keeps_the_trail_a_run()
 pub fn the_tables_are_kept()
     ensures inputs { InputsKeepTables }
     ensures commands { CommandsKeepTables }
+{}
+
+/// Where the invariant holds, each move keeps the orders: each data server's node and disk have the plain machine's
+/// order, and as much of it is synced, but for the first Epoch before a save.
+pub fn the_orders_are_kept()
+    ensures { MovesKeepOrders }
 {}
