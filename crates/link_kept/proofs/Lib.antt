@@ -1,0 +1,4 @@
+pub mod Later
+pub mod AppLater
+pub mod NodeBeside
+pub mod ShortMoves
