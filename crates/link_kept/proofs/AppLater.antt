@@ -48,9 +48,10 @@ numbered_append n (x ∷ xs) ys =
 -- what is behind a place goes on with the whole
 pub behind_front : {M : Type 0} (n : ℕ) (a b : List M) → n ≤ length a → IsFront a b → IsFront (numbered_behind n a) (numbered_behind n b)
 behind_front n a b low front =
-    let parts : (k : ℕ) × (numbered_from n (drop n a ++ front.0) ≡ numbered_from n (drop n a) ++ numbered_from k front.0) = numbered_append n (drop n a) front.0 in
-    (numbered_from parts.0 front.0,
-    ap (numbered_behind n) front.1 ∙ ap (numbered_from n) (drop-append-le n a front.0 low) ∙ parts.1)
+    let parts : (k : ℕ) × (numbered_from n (drop n a ++ front.0) ≡ numbered_from n (drop n a) ++ numbered_from k front.0) = numbered_append n (drop n a) front.0 in (
+      numbered_from parts.0 front.0,
+      ap (numbered_behind n) front.1 ∙ ap (numbered_from n) (drop-append-le n a front.0 low) ∙ parts.1,
+    )
 
 -- the next messages of a lane are so when it goes on
 pub next_later : (a b : Lane) (xs : List (ℕ × Down)) → a.down_taken ≤ length a.down → LaneLater a b → IsFront xs (numbered_behind a.down_taken a.down)
@@ -64,9 +65,11 @@ next_later a b xs low goes front =
 
 pub reset_later : (es fs : List Entry) (a b s : ℕ) (m : Down) → IsFront es fs → a ≤ b → ResetIs es a s m → ResetIs fs b s m
 reset_later es fs a b s (Welcome session epoch kept front taken) goes low is = is
-reset_later es fs a b s (Reset session at) goes low is =
-    (is.0, omega (arith, is.1, low),
-    subst (λ (xs : List Entry). entry_at xs at ≡ Some (Closed s)) (sym goes.1) (entry_append es goes.0 (Closed s) at is.2))
+reset_later es fs a b s (Reset session at) goes low is = (
+  is.0,
+  omega (arith, is.1, low),
+  subst (λ (xs : List Entry). entry_at xs at ≡ Some (Closed s)) (sym goes.1) (entry_append es goes.0 (Closed s) at is.2),
+)
 reset_later es fs a b s (Block front block) goes low is = is
 reset_later es fs a b s (Drop front lo hi) goes low is = is
 reset_later es fs a b s (Ack front) goes low is = is
@@ -237,8 +240,12 @@ module _ (v w : Server) (x y : Site) (later : Later x v w) (lanes : (s k : ℕ) 
         epoch_told = e.epoch_told;
         counted = e.counted ∙ subst (λ n. (x.lane_at n k).up_taken ≡ (y.lane_at n k).up_taken) (sym e.number) (sym same);
         synced =
-            omega (arith, e.synced, counts_front (order_at v k) (order_at w k) (stays_at v k) (stays_at w k) session (later.goes_on k there)
-            (later.within k there) (later.stays k there));
+            omega (
+              arith,
+              e.synced,
+              counts_front (order_at v k) (order_at w k) (stays_at v k) (stays_at w k) session (later.goes_on k there)
+                  (later.within k there) (later.stays k there),
+            );
         way =
             way_later (order_at v k) (order_at w k) (stays_at v k) (stays_at w k) session (x.lane_at session k) (y.lane_at session k) s.normal_due
             behind (later.goes_on k there) (later.stays k there) (counts session k).down_taken (lanes session k) e.way;

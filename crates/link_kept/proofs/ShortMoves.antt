@@ -1,6 +1,7 @@
 -- The part on what is on its way, for the moves that put and take nothing: a tick, a look, and a node or an application server that goes.
 use Rattle.std.proofs.Common.{◌≡◌, ◌≢◌, ◌≤◌, ◌<◌, inl, inr, ℕ, ◌+◌, Bool, true, false, List, [], ◌∷◌, length, ◌++◌, ◌-◌, Option, Some, None, option_map, if◌then◌else◌, refl, sym, ◌∙◌, ap, subst, arith, ◌==◌}
-use Rattle.std.specs.Prelude.{⊤, IfSome, IsSomeAnd}
+use Rattle.std.specs.Prelude.{⊤, IfSome, IsSomeAnd, get_or}
+use Rattle.std.proofs.lemmas.List.{get_or-append-add}
 use Rattle.std.proofs.lemmas.Bool.{eqb-true, eq-eqb, false≢true}
 use Rattle.plain_orders.specs.declared.act.Act.{Act}
 use Rattle.plain_orders.specs.declared.act.Act.TheVariants as act
@@ -45,6 +46,10 @@ LinksHold l p m = (d : ℕ) → LinkHolds (p.server_at d) (m.site_at d) m.is_dea
 pub link_kept_by_tick : (l : Layout) (m new : Machine) (now : ℕ) (outs : MoveOuts) (written : List Act) → Holds l m → TickGoes m now outs written new
     → LinksHold l (state_after l new.trail) new
 link_kept_by_tick l m new now outs written h goes d = ((kept_by_tick l m new now outs written h goes).sites d).link
+
+-- the current order is the last one
+order_now : (v : Server) → order_at v (current v) ≡ v.order
+order_now v = ap (λ (n : ℕ). get_or (v.past ++ v.order ∷ []) n []) (omega arith) ∙ get_or-append-add v.past (v.order ∷ []) 0 []
 
 -- what of an order stays is in it
 pub stays_within : (v : Server) → OrdersAgree v → (k : ℕ) → k ≤ current v → stays_at v k ≤ length (order_at v k)
@@ -176,10 +181,10 @@ link_kept_by_look l m app job line at outs written new h agree goes =
     look : Act
     look = act.Read job line at.server goes.front.n Cached (GetQuestion at.key (value_at (pairs_of goes.run) at.key))
 
-    known : (d : ℕ) (known : ℕ → Known) → LinkHolds (record (p.server_at d) { known_at = known }) (m.site_at d) m.is_dead_at
-    known d known =
-        link_beside (p.server_at d) (record (p.server_at d) { known_at = known }) (m.site_at d) (m.site_at d).end_at m.is_dead_at m.is_dead_at
-        (later_known (m.site_at d) (p.server_at d) known (agree d)) refl (h.sites d).order.past (h.sites d).link (h.sites d).ends (h.sites d).dials
+    known : (d : ℕ) (knows : ℕ → Known) → LinkHolds (record (p.server_at d) { known_at = knows }) (m.site_at d) m.is_dead_at
+    known d knows =
+        link_beside (p.server_at d) (record (p.server_at d) { known_at = knows }) (m.site_at d) (m.site_at d).end_at m.is_dead_at m.is_dead_at
+        (later_known (m.site_at d) (p.server_at d) knows (agree d)) refl (h.sites d).order.past (h.sites d).link (h.sites d).ends (h.sites d).dials
         (λ a n. quietly_same (((m.site_at d).end_at a).connection_at n)) (λ a. refl) (λ a. refl) (λ a alive. alive)
 
     each : (d : ℕ) → LinkHolds ((after l p look).server_at d) (m.site_at d) m.is_dead_at
