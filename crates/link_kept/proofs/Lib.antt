@@ -4,3 +4,7 @@ pub mod NodeBeside
 pub mod ShortMoves
 pub mod WindowLists
 pub mod WindowsGo
+pub mod WindowPieces
+pub mod LanesAfter
+pub mod LockWaits
+pub mod WindowsServer

@@ -32,7 +32,6 @@ set_elsewhere (x ∷ xs) s q w apart = go (x.session == s) refl (set_elsewhere x
         other = ne_eqb x.session q (λ is. apart (sym is ∙ eqb-true x.session s same))
     go false other more = ap (λ (l : Window Down). if x.session == q then x.window else l) more
 
-
 -- a window of another session that is there was there before
 pub set_others : (ws : List SessionWindow) (s q : ℕ) (w : Window Down) → q ≢ s → list_any (is_window_of q) (set_window ws s w) ≡ list_any (is_window_of q) ws
 set_others [] s q w apart = ap (λ (b : Bool). b || false) (ne_eqb s q (λ same. apart (sym same)))

@@ -1,9 +1,9 @@
 -- What the windows of a data server were given while a step goes on: its small changes, one by one.
 use Rattle.std.proofs.Common.{◌≡◌, ◌≢◌, ◌≤◌, ◌⊎◌, inl, inr, ℕ, ◌+◌, ◌-◌, Bool, true, false, max, if◌then◌else◌, List, [], ◌∷◌, ◌++◌, length, drop, map, filter, Option, Some, None, is_some, refl, sym, ◌∙◌, ap, subst, arith, drop-drop}
-use Rattle.std.specs.Prelude.{⊤, ◌==◌}
+use Rattle.std.specs.Prelude.{⊤, ◌==◌, ◌&&◌}
 use Rattle.std.specs.List.{AllByRecursion, list_any, list_all}
 use Rattle.std.proofs.lemmas.Bool.{eqb-true, eq-eqb, ne_eqb, true≢false, false≢true}
-use Rattle.std.proofs.lemmas.List.{drop-append-le, append_assoc, length-append}
+use Rattle.std.proofs.lemmas.List.{drop-append-le, append_assoc, length-append, drop-drop}
 use Rattle.plain_orders.specs.declared.entry.Entry.{Entry}
 use Rattle.plain_orders.specs.declared.entry.Entry.TheVariants.{Epoch, Opened, Closed, Update, Commit, Rollback}
 use Rattle.plain_orders.specs.Entries.{live, live_session}
@@ -46,11 +46,11 @@ grown_fresh lane counts unlearnt = record {
 
 all_pushed : (p : Down → Bool) (ms : List Down) (m : Down) → list_all p ms ≡ true → p m ≡ true → list_all p (ms ++ m ∷ []) ≡ true
 all_pushed p [] m all is = ap (λ (b : Bool). b && true) is
-all_pushed p (x ∷ ms) m all is = go (p x) all
+all_pushed p (x ∷ ms) m all is = go (p x) all (λ rest. all_pushed p ms m rest is)
   where
-    go : (b : Bool) → (b && list_all p ms) ≡ true → (b && list_all p (ms ++ m ∷ [])) ≡ true
-    go true rest = all_pushed p ms m rest is
-    go false rest = absurd (false≢true rest)
+    go : (b : Bool) → (b && list_all p ms) ≡ true → (list_all p ms ≡ true → list_all p (ms ++ m ∷ []) ≡ true) → (b && list_all p (ms ++ m ∷ [])) ≡ true
+    go true rest more = more rest
+    go false rest more = absurd (false≢true rest)
 
 -- a session that learnt of the order may be put a numbered message
 pub grown_sent : (lane : Lane) (w : Window Down) (m : Down) → LaneCounts lane → is_begun lane ≡ true → is_numbered_down m ≡ true → Grown lane w
@@ -71,7 +71,7 @@ pub grown_ack_put : (lane : Lane) (w : Window Down) → Grown lane w → Grown l
 grown_ack_put lane w g = record { more = g.more; waiting = g.waiting; acked = g.acked; taken = g.taken; numbered = g.numbered; none = g.none }
 
 drop_more : {X : Type 0} (a b : ℕ) (xs : List X) → drop (b - a) (drop a xs) ≡ drop (max a b) xs
-drop_more a b xs = drop-drop (b - a) a xs ∙ ap (λ (n : ℕ). drop n xs) (omega arith)
+drop_more a b xs = let same : a + (b - a) ≡ max a b = omega arith in drop-drop (b - a) a xs ∙ ap (λ (n : ℕ). drop n xs) same
 
 pub grown_ack : (lane : Lane) (w : Window Down) (ack : ℕ) → ack ≤ lane.down_taken → Grown lane w → Grown lane (with_ack w ack)
 grown_ack lane w ack low g = record {
@@ -92,14 +92,16 @@ grown_taken lane w ack low room g = go (grown_ack lane w ack low g)
 -- all windows
 
 -- each window is of a live session, and a live session's has grown from its lane
-pub record WindowsGo (lane_of : ℕ → Lane) (ws : List SessionWindow) (es : List Entry) : Type 0 where
+pub record WindowsGo (was : ℕ → Bool) (lane_of : ℕ → Lane) (ws : List SessionWindow) (es : List Entry) : Type 0 where
   pub differ : all_differ (map whose ws) ≡ true
   pub lives : (s : ℕ) → list_any (is_window_of s) ws ≡ true → live es s ≡ true
   pub each : (s : ℕ) → live es s ≡ true → Grown (lane_of s) (window_in ws s)
+  -- one that wasn't live before didn't learn of the order
+  pub newly : (s : ℕ) → live es s ≡ true → was s ≡ false → (lane_of s).began ≡ None
 
 -- of the state that a step has come to
-abbrev pub WindowsGoOn : (ℕ → Lane) → Sofar → Type 0
-WindowsGoOn lane_of b = WindowsGo lane_of b.state.windows b.state.order
+abbrev pub WindowsGoOn : (ℕ → Bool) → (ℕ → Lane) → Sofar → Type 0
+WindowsGoOn was lane_of b = WindowsGo was lane_of b.state.windows b.state.order
 
 -- the session is live and learnt of the order
 abbrev pub Served : (ℕ → Lane) → List Entry → ℕ → Type 0
@@ -116,12 +118,13 @@ same_or q s = go (q == s) refl
     go true same = inl (eqb-true q s same)
     go false other = inr (λ same. false≢true (sym other ∙ eq-eqb q s same))
 
-pub set_go : (lane_of : ℕ → Lane) (ws : List SessionWindow) (es : List Entry) (s : ℕ) (w : Window Down) → live es s ≡ true → Grown (lane_of s) w
-    → WindowsGo lane_of ws es → WindowsGo lane_of (set_window ws s w) es
-set_go lane_of ws es s w is g h = record {
+pub set_go : (was : ℕ → Bool) (lane_of : ℕ → Lane) (ws : List SessionWindow) (es : List Entry) (s : ℕ) (w : Window Down) → live es s ≡ true → Grown (lane_of s) w
+    → WindowsGo was lane_of ws es → WindowsGo was lane_of (set_window ws s w) es
+set_go was lane_of ws es s w is g h = record {
   differ = set_differ ws s w h.differ;
   lives = λ q there. lives q there (same_or q s);
   each = λ q lives. each q lives (same_or q s);
+  newly = h.newly;
 }
   where
     lives : (q : ℕ) → list_any (is_window_of q) (set_window ws s w) ≡ true → (q ≡ s) ⊎ (q ≢ s) → live es q ≡ true
@@ -134,34 +137,34 @@ set_go lane_of ws es s w is g h = record {
         (subst (λ (l : Window Down). Grown (lane_of s) l) (sym (set_here ws s w)) g)
     each q lives (inr apart) = subst (λ (l : Window Down). Grown (lane_of q) l) (sym (set_elsewhere ws s q w apart)) (h.each q lives)
 
-pub tells_go : (lane_of : ℕ → Lane) (s conn n : ℕ) (m : Down) (b : Sofar) → live b.state.order s ≡ true → WindowsGoOn lane_of b → WindowsGoOn lane_of (tells s conn n m b)
-tells_go lane_of s conn n m b is h =
-    set_go lane_of b.state.windows b.state.order s (with_ack_put (window_in b.state.windows s)) is (grown_ack_put (lane_of s) (window_in b.state.windows s) (h.each s is)) h
+pub tells_go : (was : ℕ → Bool) (lane_of : ℕ → Lane) (s conn n : ℕ) (m : Down) (b : Sofar) → live b.state.order s ≡ true → WindowsGoOn was lane_of b → WindowsGoOn was lane_of (tells s conn n m b)
+tells_go was lane_of s conn n m b is h =
+    set_go was lane_of b.state.windows b.state.order s (with_ack_put (window_in b.state.windows s)) is (grown_ack_put (lane_of s) (window_in b.state.windows s) (h.each s is)) h
 
-module _ (lane_of : ℕ → Lane) (counts : (s : ℕ) → LaneCounts (lane_of s)) where
-  pub puts_go : (s : ℕ) (m : Down) (b : Sofar) → Served lane_of b.state.order s → is_numbered_down m ≡ true → WindowsGoOn lane_of b → WindowsGoOn lane_of (puts s m b)
+module _ (was : ℕ → Bool) (lane_of : ℕ → Lane) (counts : (s : ℕ) → LaneCounts (lane_of s)) where
+  pub puts_go : (s : ℕ) (m : Down) (b : Sofar) → Served lane_of b.state.order s → is_numbered_down m ≡ true → WindowsGoOn was lane_of b → WindowsGoOn was lane_of (puts s m b)
   puts_go s m b served is h =
-      subst (λ (d : DataState). WindowsGo lane_of d.windows d.order) (sym (puts_state s m b)) (go (conn_of b.state s))
+      subst (λ (d : DataState). WindowsGo was lane_of d.windows d.order) (sym (puts_state s m b)) (go (conn_of b.state s))
     where
       ws : List SessionWindow
       ws = b.state.windows
 
-      once : WindowsGo lane_of (set_window ws s (with_sent (window_in ws s) m)) b.state.order
+      once : WindowsGo was lane_of (set_window ws s (with_sent (window_in ws s) m)) b.state.order
       once =
-          set_go lane_of ws b.state.order s (with_sent (window_in ws s) m) served.0
+          set_go was lane_of ws b.state.order s (with_sent (window_in ws s) m) served.0
           (grown_sent (lane_of s) (window_in ws s) m (counts s) served.1 is (h.each s served.0)) h
 
-      go : (o : Option ℕ) → WindowsGo lane_of (windows_put o s m ws) b.state.order
+      go : (o : Option ℕ) → WindowsGo was lane_of (windows_put o s m ws) b.state.order
       go None = once
       go (Some conn) =
-          set_go lane_of (set_window ws s (with_sent (window_in ws s) m)) b.state.order s
+          set_go was lane_of (set_window ws s (with_sent (window_in ws s) m)) b.state.order s
           (with_ack_put (window_in (set_window ws s (with_sent (window_in ws s) m)) s)) served.0
           (grown_ack_put (lane_of s) (window_in (set_window ws s (with_sent (window_in ws s) m)) s) (once.each s served.0)) once
 
   puts_order : (s : ℕ) (m : Down) (b : Sofar) → (puts s m b).state.order ≡ b.state.order
   puts_order s m b = ap (λ (d : DataState). d.order) (only_puts s m b).state
 
-  pub drops_go : (before : ℕ) (xs : List Noted) (b : Sofar) → AllServed lane_of b.state.order xs → WindowsGoOn lane_of b → WindowsGoOn lane_of (drops before xs b)
+  pub drops_go : (before : ℕ) (xs : List Noted) (b : Sofar) → AllServed lane_of b.state.order xs → WindowsGoOn was lane_of b → WindowsGoOn was lane_of (drops before xs b)
   drops_go before [] b served h = h
   drops_go before (x ∷ xs) b served h =
       drops_go before xs (drops_one before x xs b)
@@ -169,7 +172,7 @@ module _ (lane_of : ℕ → Lane) (counts : (s : ℕ) → LaneCounts (lane_of s)
 
   -- an entry, whose Drops go to sessions that are served still
   pub appends_go : (e : Entry) (b : Sofar) → AllServed lane_of (b.state.order ++ e ∷ []) b.state.noted
-      → WindowsGo lane_of b.state.windows (b.state.order ++ e ∷ []) → WindowsGoOn lane_of (appends e b)
+      → WindowsGo was lane_of b.state.windows (b.state.order ++ e ∷ []) → WindowsGoOn was lane_of (appends e b)
   appends_go e b served h =
       drops_go (length b.state.order) (touched (spans_of b.state e) b.state.noted) (becomes (with_entry e (spans_of b.state e)) b)
       (all_filtered (λ (y : Noted). Served lane_of (b.state.order ++ e ∷ []) y.session) (is_touched (spans_of b.state e)) b.state.noted served) h
@@ -201,6 +204,9 @@ open_live es s app q is = live-push es (Opened s app) q ∙ go (s == q)
     go true = refl
     go false = is
 
+pub opened_live : (es : List Entry) (s app : ℕ) → live (es ++ Opened s app ∷ []) s ≡ true
+opened_live es s app = live-push es (Opened s app) s ∙ ap (λ (b : Bool). if b then true else live es s) (eq-eqb s s refl)
+
 -- what is live behind an Open is its session, or was live
 pub open_or : (es : List Entry) (s app q : ℕ) → live (es ++ Opened s app ∷ []) q ≡ true → (q ≡ s) ⊎ (live es q ≡ true)
 open_or es s app q is = go (s == q) refl (sym (live-push es (Opened s app) q) ∙ is)
@@ -222,20 +228,22 @@ other_live es s q apart is = live-push es (Closed s) q ∙ ap (λ (b : Bool). if
 
 -- the windows as an entry more stands
 
-pub still_windows : (lane_of : ℕ → Lane) (ws : List SessionWindow) (es : List Entry) (e : Entry) → IsStill e → WindowsGo lane_of ws es → WindowsGo lane_of ws (es ++ e ∷ [])
-still_windows lane_of ws es e is h = record {
+pub still_windows : (was : ℕ → Bool) (lane_of : ℕ → Lane) (ws : List SessionWindow) (es : List Entry) (e : Entry) → IsStill e → WindowsGo was lane_of ws es → WindowsGo was lane_of ws (es ++ e ∷ [])
+still_windows was lane_of ws es e is h = record {
   differ = h.differ;
   lives = λ s there. still_live es e s is ∙ h.lives s there;
   each = λ s lives. h.each s (sym (still_live es e s is) ∙ lives);
+  newly = λ s lives before. h.newly s (sym (still_live es e s is) ∙ lives) before;
 }
 
 -- a session that opens, of which nothing was put in this order
-pub open_windows : (lane_of : ℕ → Lane) (ws : List SessionWindow) (es : List Entry) (s app : ℕ) → LaneCounts (lane_of s) → (lane_of s).began ≡ None → live es s ≡ false
-    → WindowsGo lane_of ws es → WindowsGo lane_of ws (es ++ Opened s app ∷ [])
-open_windows lane_of ws es s app counts unlearnt closed h = record {
+pub open_windows : (was : ℕ → Bool) (lane_of : ℕ → Lane) (ws : List SessionWindow) (es : List Entry) (s app : ℕ) → LaneCounts (lane_of s) → (lane_of s).began ≡ None → live es s ≡ false
+    → WindowsGo was lane_of ws es → WindowsGo was lane_of ws (es ++ Opened s app ∷ [])
+open_windows was lane_of ws es s app counts unlearnt closed h = record {
   differ = h.differ;
   lives = λ q there. open_live es s app q (h.lives q there);
   each = λ q lives. each q (open_or es s app q lives);
+  newly = λ q lives before. newly q before (open_or es s app q lives);
 }
   where
     none : list_any (is_window_of s) ws ≡ false
@@ -245,6 +253,10 @@ open_windows lane_of ws es s app counts unlearnt closed h = record {
         go true there = absurd (true≢false (sym (h.lives s there) ∙ closed))
         go false there = refl
 
+    newly : (q : ℕ) → was q ≡ false → (q ≡ s) ⊎ (live es q ≡ true) → (lane_of q).began ≡ None
+    newly q before (inl same) = subst (λ (n : ℕ). (lane_of n).began ≡ None) (sym same) unlearnt
+    newly q before (inr is) = h.newly q is before
+
     each : (q : ℕ) → (q ≡ s) ⊎ (live es q ≡ true) → Grown (lane_of q) (window_in ws q)
     each q (inl same) =
         subst (λ (n : ℕ). Grown (lane_of n) (window_in ws n)) (sym same)
@@ -252,13 +264,14 @@ open_windows lane_of ws es s app counts unlearnt closed h = record {
     each q (inr is) = h.each q is
 
 -- one that is closed, whose window goes
-pub close_windows : (lane_of : ℕ → Lane) (ws : List SessionWindow) (es : List Entry) (s : ℕ) → WindowsGo lane_of ws es
-    → WindowsGo lane_of (filter (is_window_elsewhere s) ws) (es ++ Closed s ∷ [])
-close_windows lane_of ws es s h = record {
+pub close_windows : (was : ℕ → Bool) (lane_of : ℕ → Lane) (ws : List SessionWindow) (es : List Entry) (s : ℕ) → WindowsGo was lane_of ws es
+    → WindowsGo was lane_of (filter (is_window_elsewhere s) ws) (es ++ Closed s ∷ [])
+close_windows was lane_of ws es s h = record {
   differ = gone_differ ws s h.differ;
   lives = λ q there. let at : (q ≢ s) × (list_any (is_window_of q) ws ≡ true) = gone_there ws s q there in other_live es s q at.0 (h.lives q at.1);
   each =
       λ q lives.
       let at : (q ≢ s) × (live es q ≡ true) = close_live es s q lives in
       subst (λ (w : Window Down). Grown (lane_of q) w) (sym (gone_elsewhere ws s q at.0)) (h.each q at.1);
+  newly = λ q lives before. let at : (q ≢ s) × (live es q ≡ true) = close_live es s q lives in h.newly q at.1 before;
 }
