@@ -8,3 +8,8 @@ pub mod WindowPieces
 pub mod LanesAfter
 pub mod LockWaits
 pub mod WindowsServer
+pub mod LockSessions
+pub mod ServesGo
+pub mod ServesPieces
+pub mod ServesServer
+pub mod FramesFit

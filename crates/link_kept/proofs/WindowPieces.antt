@@ -154,7 +154,7 @@ same_calls (Releases session) b =
     record { windows = s.windows; order = s.order }
 
 -- the round is over, and no end is told of it yet
-abbrev back_written : Sofar → Sofar
+abbrev pub back_written : Sofar → Sofar
 back_written b = writes (act.Back b.state.server) (becomes (λ d. record d { round = None }) b)
 
 same_round : (xs : List LiveEnd) (now : ℕ) (b : Sofar) → SameWindows b (ends_back xs now (back_written b))

@@ -88,9 +88,10 @@ pub windows_kept_by_step : (x : Site) (old : DataState) (now : ℕ) (input : Dat
     → (S : Sofar → Type 0)
     → ((p : Piece) (b : Sofar) → MayMake (record { old = old; now = now; input = input }) p b → S b
     → WindowsGoOn (live old.order) (λ s. x.lane_at s x.past) b → PutsWell (λ s. x.lane_at s x.past) p b)
-    → ((p : Piece) (b : Sofar) → MayMake (record { old = old; now = now; input = input }) p b → S b → S (makes now p b))
-    → S (begins (record { old = old; now = now; input = input })) → WindowsAfter (server_site old now input outs new x) new
-windows_kept_by_step x old now input outs new h noted from may steps S gives keeps first = after (server_lanes old now input outs new x)
+    → ((p : Piece) (b : Sofar) → MayMake (record { old = old; now = now; input = input }) p b → S b
+    → WindowsGoOn (live old.order) (λ s. x.lane_at s x.past) b → S (makes now p b))
+    → S (begins (record { old = old; now = now; input = input })) → WindowsAfter (server_site old now input outs new x) new × S (made new outs)
+windows_kept_by_step x old now input outs new h noted from may steps S gives keeps first = (after (server_lanes old now input outs new x), goes.1)
   where
     t : Coming
     t = record { old = old; now = now; input = input }
@@ -107,7 +108,7 @@ windows_kept_by_step x old now input outs new h noted from may steps S gives kee
     goes : WindowsGoOn (live old.order) lane_of (made new outs) × S (made new outs)
     goes =
         kept_by_pieces t (λ b. WindowsGoOn (live old.order) lane_of b × S b)
-        (λ p b m both. (windows_piece (live old.order) lane_of counts t p b m (gives p b m both.1 both.0) both.0, keeps p b m both.1))
+        (λ p b m both. (windows_piece (live old.order) lane_of counts t p b m (gives p b m both.1 both.0) both.0, keeps p b m both.1 both.0))
         (begins t) (made new outs) (step_pieces old now input outs new from may steps) (begins_go (live old.order) lane_of t begun_go, first)
 
     after : LanesGrow old new outs x (server_site old now input outs new x) → WindowsAfter (server_site old now input outs new x) new
