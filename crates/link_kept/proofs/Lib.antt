@@ -13,3 +13,4 @@ pub mod ServesGo
 pub mod ServesPieces
 pub mod ServesServer
 pub mod FramesFit
+pub mod StepFits
