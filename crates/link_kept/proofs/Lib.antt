@@ -14,3 +14,4 @@ pub mod ServesPieces
 pub mod ServesServer
 pub mod FramesFit
 pub mod StepFits
+pub mod ServerMoves

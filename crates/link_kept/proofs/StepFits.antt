@@ -52,10 +52,8 @@ pub record ConnsKnow (lane_of : ℕ → Lane) (t : Coming) (b : Sofar) : Type 0 
   -- no entry went
   pub longer : length t.old.order ≤ length b.state.order
 
--- What is left to other parts: that no session has begun in an order before it opens in it or is told of it; that it learnt of the order where a
--- round is over; that a job asks once; that a claim is of a job that doesn't ask; and that requests of a session that was closed go the latest first.
+-- What is left to other parts: that a session that comes again didn't learn of the order; that each learnt of it where a round is over; that a job asks once; that a claim is of a job that doesn't ask; and that requests of a session that was closed go the latest first.
 pub record LeftToOthers (lane_of : ℕ → Lane) (t : Coming) (E : Sofar → Type 0) : Type 0 where
-  pub to_open : (s : ℕ) → length t.old.order < s → (lane_of s).began ≡ None
   pub again : (session conn kept : ℕ) (b : Sofar) → E b → ComesAgainMay t session conn kept b → (lane_of session).began ≡ None
   pub normal : (app session : ℕ) (b : Sofar) → E b → PutsNormalMay app session b → Served lane_of b.state.order session
   pub asks : (r : Request) (b : Sofar) → E b → Asked t r.who.session (up.Ask r.ticket r.who.job r.mode r.name) b → IsAlone r.who b.state.locks.requests
@@ -108,7 +106,8 @@ part_unsynced p (suc n) (suc m) [] is = absurd (false≢true is)
 part_unsynced p (suc n) (suc m) (x ∷ es) is = part_unsynced p n m es is
 
 module _ (x : Site) (dead : ℕ → Bool) (t : Coming) (at_frame : FrameAt x dead t.old t.input) (E : Sofar → Type 0)
-    (know : (b : Sofar) → E b → ConnsKnow (λ s. x.lane_at s x.past) t b) (left : LeftToOthers (λ s. x.lane_at s x.past) t E)
+    (know : (b : Sofar) → E b → ConnsKnow (λ s. x.lane_at s x.past) t b) (to_open : (s : ℕ) → length t.old.order < s → (x.lane_at s x.past).began ≡ None)
+    (left : LeftToOthers (λ s. x.lane_at s x.past) t E)
     (items : (s : ℕ) → (x.lane_at s x.past).began ≡ None → has_item_of (drop t.old.synced t.old.order) s ≡ false) where
   -- a session on whose connection a numbered message came
   came_served : (session : ℕ) (b : Sofar) → E b → (m : Message t session b) → kind_of m.up.message ≡ Numbered
@@ -150,8 +149,8 @@ module _ (x : Site) (dead : ℕ → Bool) (t : Coming) (at_frame : FrameAt x dea
   fits_well (Breaks ending conn session app) b may e = tt
   fits_well (Dials app dial) b may e = tt
   fits_well (Waits app conn) b may e = tt
-  fits_well (Opens app conn) b may e = let low : length t.old.order ≤ length b.state.order = (know b e).longer in left.to_open (length b.state.order + 1) (omega (arith, low))
-  fits_well (OpensNext app conn) b may e = let low : length t.old.order ≤ length b.state.order = (know b e).longer in left.to_open (length b.state.order + 1) (omega (arith, low))
+  fits_well (Opens app conn) b may e = let low : length t.old.order ≤ length b.state.order = (know b e).longer in to_open (length b.state.order + 1) (omega (arith, low))
+  fits_well (OpensNext app conn) b may e = let low : length t.old.order ≤ length b.state.order = (know b e).longer in to_open (length b.state.order + 1) (omega (arith, low))
   fits_well (Resumes app session conn) b may e = tt
   fits_well (GoesOn session conn taken) b may e = tt
   fits_well (ComesAgain session conn kept) b may e = left.again session conn kept b e may
