@@ -109,7 +109,12 @@ pub record Untold (c d : Connection) : Type 0 where
 -- what was put and all of which is on its way is so still
 abbrev pub WholeStays : Site → Site → Connection → Connection → Type 0
 WholeStays x y c d =
-    (s k : ℕ) (left : List DownFrame) → WholeIf x s k (x.lane_at s k) c left → WholeIf y s k (y.lane_at s k) d left
+    (s k : ℕ) (left : List DownFrame) → c.its ≡ Some (record { session = s; order = k }) → WholeIf x s k (x.lane_at s k) c left
+    → WholeIf y s k (y.lane_at s k) d left
+
+-- the messages of a session that it has in an order
+abbrev at_place : ℕ → ℕ → Option Place
+at_place k s = Some (record { session = s; order = k })
 
 -- the count of an end that asks is as it was
 abbrev pub CountStays : Site → Site → Line → Option Session → Option Place → Type 0
@@ -158,7 +163,7 @@ module _ (v w : Server) (x y : Site) (later : Later x v w) (lanes : (s k : ℕ) 
           subst (λ (l : List DownFrame). DownWay (order_at w k) (stays_at w k) s.number (y.lane_at s.number k) (is_in_recovery e.link) l) (sym untold.left)
           (way_later (order_at v k) (order_at w k) (stays_at v k) (stays_at w k) s.number (x.lane_at s.number k) (y.lane_at s.number k) (is_in_recovery e.link)
           (downs_left c) (later.goes_on k there) (later.stays k there) (counts s.number k).down_taken (lanes s.number k) j.way);
-      whole = subst (λ (l : List DownFrame). WholeIf y s.number k (y.lane_at s.number k) d l) (sym untold.left) (whole s.number k (downs_left c) j.whole);
+      whole = subst (λ (l : List DownFrame). WholeIf y s.number k (y.lane_at s.number k) d l) (sym untold.left) (whole s.number k (downs_left c) j.its j.whole);
     }
 
     new_later : (app told s epoch kept : ℕ) (front : Front) (taken : ℕ) → NewWelcomeOn v x app told c s epoch kept front taken
@@ -176,7 +181,7 @@ module _ (v w : Server) (x y : Site) (later : Later x v w) (lanes : (s k : ℕ) 
       none_counted = n.none_counted;
       none_synced = n.none_synced;
       none_taken = n.none_taken;
-      whole = whole s n.order [] n.whole;
+      whole = whole s n.order [] n.its n.whole;
     }
       where
         within : front.n ≤ length (order_at w n.order)
@@ -228,7 +233,7 @@ module _ (v w : Server) (x y : Site) (later : Later x v w) (lanes : (s k : ℕ) 
       way =
           way_later (order_at v e.order) (order_at w e.order) (stays_at v e.order) (stays_at w e.order) session (x.lane_at session e.order) (y.lane_at session e.order) true
           behind (later.goes_on e.order e.says.there) (later.stays e.order e.says.there) (counts session e.order).down_taken (lanes session e.order) e.way;
-      whole = whole session e.order behind e.whole;
+      whole = whole session e.order behind (e.its ∙ ap (at_place e.order) (sym e.number)) e.whole;
     }
 
     module _ (s : Session) (k : ℕ) (there : k ≤ current v) (same : (y.lane_at s.number k).up_taken ≡ (x.lane_at s.number k).up_taken) where
@@ -249,7 +254,7 @@ module _ (v w : Server) (x y : Site) (later : Later x v w) (lanes : (s k : ℕ) 
         way =
             way_later (order_at v k) (order_at w k) (stays_at v k) (stays_at w k) session (x.lane_at session k) (y.lane_at session k) s.normal_due
             behind (later.goes_on k there) (later.stays k there) (counts session k).down_taken (lanes session k) e.way;
-        whole = whole session k behind e.whole;
+        whole = whole session k behind (e.its ∙ ap (at_place k) (sym e.number)) e.whole;
         awaited = e.awaited;
       }
 

@@ -15,3 +15,4 @@ pub mod ServesServer
 pub mod FramesFit
 pub mod StepFits
 pub mod ServerMoves
+pub mod BeginMoves

@@ -48,7 +48,7 @@ pub link_kept_by_tick : (l : Layout) (m new : Machine) (now : ℕ) (outs : MoveO
 link_kept_by_tick l m new now outs written h goes d = ((kept_by_tick l m new now outs written h goes).sites d).link
 
 -- the current order is the last one
-order_now : (v : Server) → order_at v (current v) ≡ v.order
+pub order_now : (v : Server) → order_at v (current v) ≡ v.order
 order_now v = ap (λ (n : ℕ). get_or (v.past ++ v.order ∷ []) n []) (omega arith) ∙ get_or-append-add v.past (v.order ∷ []) 0 []
 
 -- what of an order stays is in it
@@ -103,7 +103,7 @@ told_there v app e told =
 pub app_quiet : (v w : Server) (x y : Site) (dead : ℕ → Bool) → Later x v w → ((s k : ℕ) → LaneLater (x.lane_at s k) (y.lane_at s k)) → LinkHolds v x dead
     → EndsAre v x dead → DialsAre v x dead → (app : ℕ) → dead app ≡ false → (f : End) → f.state ≡ (x.end_at app).state → f.told ≡ (x.end_at app).told
     → Quietly ((x.end_at app).connection_at (x.end_at app).state.dial) (f.connection_at (x.end_at app).state.dial)
-    → ((c d : Connection) → Quiet c d → WholeStays x y c d)
+    → ((c d : Connection) → Quiet c d → ConnectionIs v x app (x.end_at app).state.dial c → WholeStays x y c d)
     → CountStays x y (x.end_at app).state.line (x.end_at app).state.session (x.end_at app).told → AppWay w y app f
 app_quiet v w x y dead later lanes link ends dials app alive f state told quiet whole same =
     app_later w v x y lanes app (x.end_at app) f state told
@@ -118,11 +118,11 @@ app_quiet v w x y dead later lanes link ends dials app alive f state told quiet 
 
     down : (c d : Connection) → Quiet c d → DownBy e.state.line v x app e c × ConnectionIs v x app e.state.dial c → DownBy e.state.line w y app e d
     down c d q is =
-        down_later v w x y later lanes link.lanes c d (quiet_untold c d q) (whole c d q) e.state.line app e (told_there v app e (ends.told app alive))
+        down_later v w x y later lanes link.lanes c d (quiet_untold c d q) (whole c d q is.1) e.state.line app e (told_there v app e (ends.told app alive))
         (firsts_there v x app e.state.dial c is.1) same is.0
 
 -- where lanes stay as they are, counts do
-count_same : (x y : Site) → ((s k : ℕ) → y.lane_at s k ≡ x.lane_at s k) → (line : Line) (o : Option Session) (p : Option Place) → CountStays x y line o p
+pub count_same : (x y : Site) → ((s k : ℕ) → y.lane_at s k ≡ x.lane_at s k) → (line : Line) (o : Option Session) (p : Option Place) → CountStays x y line o p
 count_same x y lanes Apart o p = tt
 count_same x y lanes Trying o p = tt
 count_same x y lanes Greeting o p = tt
@@ -132,7 +132,7 @@ count_same x y lanes Asking (Some s) (Some q) = ap (λ (z : Lane). z.up_taken) (
 count_same x y lanes Joined o p = tt
 
 whole_beside : (x : Site) (ends : ℕ → End) (c d : Connection) → Quiet c d → WholeStays x (with_ends ends x) c d
-whole_beside x ends c d q s k left is at here =
+whole_beside x ends c d q s k left its is at here =
     some_kept (λ (n : DataState). IsSomeAnd c.first (λ f. DownWhole n s f.conn (x.lane_at s k) left)) (λ (n : DataState). IsSomeAnd d.first (λ f. DownWhole n s f.conn (x.lane_at s k) left))
     (λ n got. subst (λ (o : Option FirstTaken). IsSomeAnd o (λ f. DownWhole n s f.conn (x.lane_at s k) left)) (sym q.first) got) x.node (is (q.data_left at) here)
 
@@ -150,14 +150,14 @@ link_beside v w x ends dead gone later same past link ends_are dials quiet state
   apps =
       λ app alive.
       app_quiet v w x (with_ends ends x) dead later (λ s k. same_lane (x.lane_at s k)) link ends_are dials app (more app alive) (ends app) (states app) (told app)
-      (quiet app (x.end_at app).state.dial) (whole_beside x ends)
+      (quiet app (x.end_at app).state.dial) (λ c d q its. whole_beside x ends c d q)
       (count_same x (with_ends ends x) (λ s k. refl) (x.end_at app).state.line (x.end_at app).state.session (x.end_at app).told);
 }
 
 quiet_same : (c : Connection) → Quiet c c
 quiet_same c = record { ups = refl; ups_taken = refl; downs = refl; downs_taken = refl; its = refl; knew = refl; first = refl; data_left = λ is. is }
 
-quietly_same : (o : Option Connection) → Quietly o o
+pub quietly_same : (o : Option Connection) → Quietly o o
 quietly_same None = tt
 quietly_same (Some c) = quiet_same c
 
@@ -254,6 +254,6 @@ link_kept_by_halt l m server outs written new h agree goes =
           λ app alive.
           app_quiet v v x (halted_site x) m.is_dead_at (later_known x v v.known_at (agree server)) (λ s k. same_lane (x.lane_at s k)) (h.sites server).link
           (h.sites server).ends (h.sites server).dials app alive ((halted_site x).end_at app) refl refl
-          (quietly_mapped leaves_linked quiet ((x.end_at app).connection_at (x.end_at app).state.dial)) (λ c d q s k left is at there. tt)
+          (quietly_mapped leaves_linked quiet ((x.end_at app).connection_at (x.end_at app).state.dial)) (λ c d q made s k left its is at there. tt)
           (count_same x (halted_site x) (λ s k. refl) (x.end_at app).state.line (x.end_at app).state.session (x.end_at app).told);
     }
