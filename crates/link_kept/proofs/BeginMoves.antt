@@ -35,6 +35,7 @@ use Rattle.data_rules.specs.Places.{epoch_place}
 use Rattle.data_rules.specs.Puts.{window_in, window_of}
 use Rattle.data_rules.specs.Saving.{has_item_of}
 use Rattle.data_rules.specs.Step.{recovering, started, with_epoch}
+use Rattle.cluster_runs.specs.CoresState.{Linked}
 use Rattle.cluster_runs.specs.Sent.{Connection, FirstTaken, Lane, Place, no_lane}
 use Rattle.cluster_runs.specs.Machine.{Site, End, DataConnection}
 use Rattle.cluster_runs.specs.Connections.{link_in}
@@ -52,7 +53,7 @@ use Rattle.cluster_invariant.proofs.Written.{next_place}
 use Rattle.link_kept.proofs.Later.{Later, front_same}
 use Rattle.link_kept.proofs.AppLater.{WholeStays, LaneLater, same_lane, app_later}
 use Rattle.link_kept.proofs.NodeBeside.{Quiet}
-use Rattle.link_kept.proofs.ShortMoves.{app_quiet, count_same, quietly_same, order_now, stays_within}
+use Rattle.link_kept.proofs.ShortMoves.{app_quiet, some_both, count_same, quietly_same, order_now, stays_within}
 
 -- a node that starts
 
@@ -233,3 +234,69 @@ link_kept_by_later l d now clock es v x dead order link ends dials agree opened 
     gone : (app : ℕ) (c : Connection) (s k : ℕ) → ConnectionIs v x app (x.end_at app).state.dial c → c.its ≡ Some (record { session = s; order = k })
         → k ≡ past_with x.order x.past → ⊥
     gone app c s k made its here = absurd (omega (arith, its_there v x app (x.end_at app).state.dial c s k made its, here, next))
+
+-- the first start
+
+-- nothing was put on a connection of a data server that never started
+untouched : (v : Server) (x : Site) (app number : ℕ) (c : Connection) → ((conn : ℕ) → x.connection_at conn ≡ None) → ConnectionIs v x app number c
+    → (c.its ≡ None) × (downs_left c ≡ [])
+untouched v x app number c none made = (unmarked c.its refl made.its, ap (drop c.downs_taken) silent ∙ drop-nil c.downs_taken)
+  where
+    no_first : (o : Option FirstTaken) → IfSome o (FirstIs v x app number) → o ≡ None
+    no_first None is = refl
+    no_first (Some f) is =
+        absurd (let both : ◌≡◌ {A = Option Linked} None (Some (record { app = app; dial = number })) = sym (ap link_in (none f.conn)) ∙ is.linked in cc)
+
+    untaken : c.first ≡ None
+    untaken = no_first c.first made.where_taken
+
+    unmarked : (o : Option Place) → c.its ≡ o → IfSome o (CarriesOf v app c.first) → o ≡ None
+    unmarked None its is = refl
+    unmarked (Some p) its is = absurd (subst (λ (f : Option FirstTaken). IsSomeAnd f (λ y. y.order ≡ p.order)) untaken is.order)
+
+    silent : c.downs ≡ []
+    silent =
+        let low : c.ups_taken ≤ 0 = ltb-false 0 c.ups_taken (sym made.linked ∙ sym made.taken ∙ ap is_some untaken) in
+        made.silent (omega (arith, low))
+
+down_untouched : (line : Line) (v w : Server) (x y : Site) (app : ℕ) (e : End) (c : Connection) → (c.its ≡ None) × (downs_left c ≡ []) → DownBy line v x app e c
+    → DownBy line w y app e c
+down_untouched Apart v w x y app e c none is = tt
+down_untouched Trying v w x y app e c none is = tt
+down_untouched Greeting v w x y app e c none is = subst (λ (fs : List DownFrame). GreetedWay w y app e.state.told c fs) (sym none.1) none.0
+down_untouched Asking v w x y app e c none is = go e.state.session e.told is
+  where
+    go : (o : Option Session) (p : Option Place) → WithSession o p (λ s k. AskedWay v x s k c (downs_left c)) → WithSession o p (λ s k. AskedWay w y s k c (downs_left c))
+    go None p at = at
+    go (Some s) None at = at
+    go (Some s) (Some p) at = subst (λ (fs : List DownFrame). AskedWay w y s p.order c fs) (sym none.1) none.0
+down_untouched Joined v w x y app e c none is = go e.state.session e.told is
+  where
+    go : (o : Option Session) (p : Option Place) → WithSession o p (λ s k. JoinedWay v x e.state s k c) → WithSession o p (λ s k. JoinedWay w y e.state s k c)
+    go None p at = at
+    go (Some s) None at = at
+    go (Some s) (Some p) at = absurd (let both : ◌≡◌ {A = Option Place} None (Some (record { session = s.number; order = p.order })) = sym none.0 ∙ at.its in cc)
+
+-- The first start keeps it.
+pub link_kept_by_first : (l : Layout) (d now : ℕ) (es : List Entry) (v w : Server) (x : Site) (dead : ℕ → Bool) → OrderIs l d v x → LinkHolds v x dead
+    → DialsAre v x dead → v.opened ≡ false → LinkHolds w (begun_site l d now es x) dead
+link_kept_by_first l d now es v w x dead order link dials shut = record {
+  lanes = λ s k. link.lanes s k;
+  node =
+      node_empty w y dead es (last_epoch es + 1) (started d l.times es now) (λ s. order.to_come s (past_with x.order x.past) (omega arith))
+      (started_empty d l.times es now);
+  apps =
+      λ app alive.
+      app_later w v x y (λ s k. same_lane (x.lane_at s k)) app (x.end_at app) (x.end_at app) refl refl
+      (some_kept (λ (c : Connection). DownBy (x.end_at app).state.line v x app (x.end_at app) c × ConnectionIs v x app (x.end_at app).state.dial c)
+      (DownBy (x.end_at app).state.line w y app (x.end_at app))
+      (λ (c : Connection) is.
+      down_untouched (x.end_at app).state.line v w x y app (x.end_at app) c (untouched v x app (x.end_at app).state.dial c (order.no_conns shut) is.1) is.0)
+      ((x.end_at app).connection_at (x.end_at app).state.dial)
+      (some_both (DownBy (x.end_at app).state.line v x app (x.end_at app)) (ConnectionIs v x app (x.end_at app).state.dial)
+      ((x.end_at app).connection_at (x.end_at app).state.dial) (link.apps app alive).down ((dials.pairs app).each (x.end_at app).state.dial)))
+      (link.apps app alive);
+}
+  where
+    y : Site
+    y = begun_site l d now es x

@@ -16,3 +16,5 @@ pub mod FramesFit
 pub mod StepFits
 pub mod ServerMoves
 pub mod BeginMoves
+pub mod LinkBegins
+pub mod CancelWaits

@@ -86,7 +86,7 @@ later_known x v known agree = record {
 
 -- ends whose connections are quiet
 
-some_both : {X : Type 0} (P Q : X → Type 0) (o : Option X) → IfSome o P → IfSome o Q → IfSome o (λ c. P c × Q c)
+pub some_both : {X : Type 0} (P Q : X → Type 0) (o : Option X) → IfSome o P → IfSome o Q → IfSome o (λ c. P c × Q c)
 some_both P Q None a b = tt
 some_both P Q (Some c) a b = (a, b)
 
