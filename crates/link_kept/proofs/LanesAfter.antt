@@ -26,6 +26,7 @@ use Rattle.cluster_invariant.specs.Link.{LaneCounts, WindowIs, is_numbered_down,
 use Rattle.cluster_invariant.specs.Words.{all_differ, is_begun}
 use Rattle.cluster_invariant.proofs.PieceMay.{Coming, begins}
 use Rattle.cluster_invariant.proofs.PiecesOfSteps.{synced_state}
+use Rattle.link_kept.proofs.AppLater.{LaneLater}
 use Rattle.link_kept.proofs.WindowLists.{none_there}
 use Rattle.link_kept.proofs.WindowsGo.{Grown, WindowsGo, WindowsGoOn, Served, AllServed}
 
@@ -94,6 +95,7 @@ windows_begin lane_of d differ lives each counts = record {
       waiting = w.waiting ∙ ap (drop (window_of d s).acked) (sym (append-nil (lane_of s).down));
       acked = w.acked;
       taken = omega (arith, w.taken, (counts s).up_taken);
+      no_less = omega (arith, w.taken);
       numbered = refl;
       none = λ _. refl;
     }
@@ -220,3 +222,17 @@ module _ (lane_of : ℕ → Lane) (counts : (s : ℕ) → LaneCounts (lane_of s)
         ups = (counts s).ups;
         downs = list_joined is_numbered_down (lane_of s).down (downs_given (is_closed_by old new s) old new s) (counts s).downs g.numbered;
       }
+
+  -- So the lane goes on.
+  pub lane_goes : (s : ℕ) → LaneLater (lane_of s) (lane_after s)
+  lane_goes s = record {
+    began = refl;
+    up = refl;
+    up_taken = taken (live new.order s) refl;
+    down = (downs_given (is_closed_by old new s) old new s, refl);
+    down_taken = refl;
+  }
+    where
+      taken : (b : Bool) → live new.order s ≡ b → (lane_of s).up_taken ≤ (if b then (window_of new s).taken else (lane_of s).up_taken)
+      taken true lives = (goes.each s lives).no_less
+      taken false gone = omega arith

@@ -40,11 +40,12 @@ use Rattle.cluster_invariant.proofs.PieceKinds.{Piece, makes}
 use Rattle.cluster_invariant.proofs.PieceMay.{Coming, begins}
 use Rattle.cluster_invariant.proofs.Pieces.{MayMake}
 use Rattle.cluster_invariant.proofs.PiecesOfSteps.{StepFrom, synced_state}
+use Rattle.link_kept.proofs.AppLater.{LaneLater}
 use Rattle.link_kept.proofs.LockWaits.{TableWaits}
 use Rattle.link_kept.proofs.LockSessions.{RequestsOf}
 use Rattle.link_kept.proofs.WindowsGo.{WindowsGoOn, Served, open_or, close_live, still_live}
 use Rattle.link_kept.proofs.WindowPieces.{SaysServed}
-use Rattle.link_kept.proofs.WindowsServer.{LanesGrow, WindowsAfter, server_lanes, windows_kept_by_step}
+use Rattle.link_kept.proofs.WindowsServer.{LanesGrow, WindowsAfter, StepKept, server_lanes, windows_kept_by_step}
 use Rattle.link_kept.proofs.ServesGo.{MayAsk, RepliesServed, ServesGo}
 use Rattle.link_kept.proofs.ServesPieces.{FitsWell, may_close, puts_well, serves_piece}
 
@@ -140,6 +141,7 @@ serves_begins lane_of closing old now (data_in.Saved upto) may h =
 -- what holds after a step, where the requests that wait are of live sessions again
 pub record ServesAfter (old new : DataState) (x y : Site) (closing : Bool) : Type 0 where
   pub windows : WindowsAfter y new
+  pub goes_on : (s k : ℕ) → LaneLater (x.lane_at s k) (y.lane_at s k)
   pub goes : ServesGo (λ s. x.lane_at s x.past) closing new
   pub serves : RequestsOf (λ s. live new.order s ≡ true) new.locks.requests → NodeServes y new
 
@@ -160,18 +162,18 @@ serves_kept_by_step x old now input outs new h serves from may steps E fits keep
     lane_of : ℕ → Lane
     lane_of s = x.lane_at s x.past
 
-    went : WindowsAfter (server_site old now input outs new x) new × ServesGo lane_of (may_close input) new
+    went : StepKept old now input outs new x × ServesGo lane_of (may_close input) new
     went =
-        let both : WindowsAfter (server_site old now input outs new x) new × (ServesGo lane_of (may_close input) new × E (made new outs)) =
+        let both : StepKept old now input outs new x × (ServesGo lane_of (may_close input) new × E (made new outs)) =
         windows_kept_by_step x old now input outs new h serves.noted from may steps (λ b. ServesGo lane_of (may_close input) b.state × E b)
         (λ p b m s w. puts_well lane_of t p b m (fits p b m s.1 s.0 w) s.0)
         (λ p b m s w. (serves_piece lane_of t p b m (fits p b m s.1 s.0 w) s.0, keeps p b m s.1))
         (serves_begins lane_of (may_close input) old now input may serves, first) in
         (both.0, both.1.0)
 
-    after : LanesGrow old new outs x (server_site old now input outs new x) → WindowsAfter (server_site old now input outs new x) new × ServesGo lane_of (may_close input) new
+    after : LanesGrow old new outs x (server_site old now input outs new x) → StepKept old now input outs new x × ServesGo lane_of (may_close input) new
         → ServesAfter old new x (server_site old now input outs new x) (may_close input)
-    after g both = record { windows = both.0; goes = both.1; serves = λ lives. serve lives }
+    after g both = record { windows = both.0.windows; goes_on = both.0.goes_on; goes = both.1; serves = λ lives. serve lives }
       where
         y : Site
         y = server_site old now input outs new x

@@ -9,6 +9,7 @@ use Rattle.plain_orders.specs.declared.entry.Entry.TheVariants.{Epoch, Opened, C
 use Rattle.plain_orders.specs.Entries.{live, live_session}
 use Rattle.plain_orders.proofs.EntryLemmas.{live-push}
 use Rattle.ecp_messages.specs.declared.down.Down.{Down}
+use Rattle.ecp_messages.specs.declared.up.Up.{Up}
 use Rattle.ecp_messages.specs.declared.down.Down.TheVariants as down
 use Rattle.end_words.specs.Windows.{Window, fresh, with_sent, with_ack, with_taken, with_ack_put}
 use Rattle.block_holders.specs.declared.noted.Noted.{Noted}
@@ -31,6 +32,7 @@ pub record Grown (lane : Lane) (w : Window Down) : Type 0 where
   pub waiting : w.waiting ≡ drop w.acked (lane.down ++ more)
   pub acked : w.acked ≤ lane.down_taken
   pub taken : w.taken ≤ length lane.up
+  pub no_less : lane.up_taken ≤ w.taken
   pub numbered : list_all is_numbered_down more ≡ true
   pub none : lane.began ≡ None → more ≡ []
 
@@ -40,6 +42,7 @@ grown_fresh lane counts unlearnt = record {
   waiting = sym (ap (λ (ms : List Down). drop 0 (ms ++ [])) (counts.no_down unlearnt));
   acked = omega arith;
   taken = omega arith;
+  no_less = omega (arith, counts.up_taken, ap (λ (ms : List Up). length ms) (counts.no_up unlearnt));
   numbered = refl;
   none = λ _. refl;
 }
@@ -63,12 +66,13 @@ grown_sent lane w m counts begun is g = record {
       ∙ ap (drop w.acked) (append_assoc lane.down g.more (m ∷ []));
   acked = g.acked;
   taken = g.taken;
+  no_less = g.no_less;
   numbered = all_pushed is_numbered_down g.more m g.numbered is;
   none = λ none. absurd (false≢true (sym (ap is_some none) ∙ begun));
 }
 
 pub grown_ack_put : (lane : Lane) (w : Window Down) → Grown lane w → Grown lane (with_ack_put w)
-grown_ack_put lane w g = record { more = g.more; waiting = g.waiting; acked = g.acked; taken = g.taken; numbered = g.numbered; none = g.none }
+grown_ack_put lane w g = record { more = g.more; waiting = g.waiting; acked = g.acked; taken = g.taken; no_less = g.no_less; numbered = g.numbered; none = g.none }
 
 drop_more : {X : Type 0} (a b : ℕ) (xs : List X) → drop (b - a) (drop a xs) ≡ drop (max a b) xs
 drop_more a b xs = let same : a + (b - a) ≡ max a b = omega arith in drop-drop (b - a) a xs ∙ ap (λ (n : ℕ). drop n xs) same
@@ -79,6 +83,7 @@ grown_ack lane w ack low g = record {
   waiting = ap (drop (ack - w.acked)) g.waiting ∙ drop_more w.acked ack (lane.down ++ g.more);
   acked = omega (arith, low, g.acked);
   taken = g.taken;
+  no_less = g.no_less;
   numbered = g.numbered;
   none = g.none;
 }
@@ -87,7 +92,7 @@ pub grown_taken : (lane : Lane) (w : Window Down) (ack : ℕ) → ack ≤ lane.d
 grown_taken lane w ack low room g = go (grown_ack lane w ack low g)
   where
     go : Grown lane (with_ack w ack) → Grown lane (with_taken w ack)
-    go a = record { more = a.more; waiting = a.waiting; acked = a.acked; taken = room; numbered = a.numbered; none = a.none }
+    go a = record { more = a.more; waiting = a.waiting; acked = a.acked; taken = room; no_less = omega (arith, a.no_less); numbered = a.numbered; none = a.none }
 
 -- all windows
 

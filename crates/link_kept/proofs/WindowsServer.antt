@@ -22,7 +22,8 @@ use Rattle.cluster_invariant.proofs.Pieces.{MayMake, Pieced, kept_by_pieces}
 use Rattle.cluster_invariant.proofs.PiecesOfSteps.{StepFrom, step_pieces}
 use Rattle.link_kept.proofs.WindowsGo.{WindowsGo, WindowsGoOn, AllServed, same_or}
 use Rattle.link_kept.proofs.WindowPieces.{PutsWell, windows_piece}
-use Rattle.link_kept.proofs.LanesAfter.{windows_begin, begins_go, window_after, counts_after}
+use Rattle.link_kept.proofs.LanesAfter.{windows_begin, begins_go, window_after, counts_after, lane_goes}
+use Rattle.link_kept.proofs.AppLater.{LaneLater, same_lane}
 
 -- the lanes of a site after a step of its node
 
@@ -81,6 +82,11 @@ pub record WindowsAfter (x : Site) (n : DataState) : Type 0 where
   pub lanes : (s k : ℕ) → LaneCounts (x.lane_at s k)
   pub windows : NodeWindows x n
 
+-- and after a step: each lane goes on
+pub record StepKept (old : DataState) (now : ℕ) (input : DataIn) (outs : DataOuts) (new : DataState) (x : Site) : Type 0 where
+  pub windows : WindowsAfter (server_site old now input outs new x) new
+  pub goes_on : (s k : ℕ) → LaneLater (x.lane_at s k) ((server_site old now input outs new x).lane_at s k)
+
 -- Each step of a data server keeps its windows and the counts of its lanes, where the sessions that it puts to and takes from are served
 -- well, piece by piece.
 pub windows_kept_by_step : (x : Site) (old : DataState) (now : ℕ) (input : DataIn) (outs : DataOuts) (new : DataState) → WindowsAfter x old
@@ -90,8 +96,9 @@ pub windows_kept_by_step : (x : Site) (old : DataState) (now : ℕ) (input : Dat
     → WindowsGoOn (live old.order) (λ s. x.lane_at s x.past) b → PutsWell (λ s. x.lane_at s x.past) p b)
     → ((p : Piece) (b : Sofar) → MayMake (record { old = old; now = now; input = input }) p b → S b
     → WindowsGoOn (live old.order) (λ s. x.lane_at s x.past) b → S (makes now p b))
-    → S (begins (record { old = old; now = now; input = input })) → WindowsAfter (server_site old now input outs new x) new × S (made new outs)
-windows_kept_by_step x old now input outs new h noted from may steps S gives keeps first = (after (server_lanes old now input outs new x), goes.1)
+    → S (begins (record { old = old; now = now; input = input })) → StepKept old now input outs new x × S (made new outs)
+windows_kept_by_step x old now input outs new h noted from may steps S gives keeps first =
+    (record { windows = after (server_lanes old now input outs new x); goes_on = goes_on (server_lanes old now input outs new x) }, goes.1)
   where
     t : Coming
     t = record { old = old; now = now; input = input }
@@ -132,3 +139,16 @@ windows_kept_by_step x old now input outs new h noted from may steps S gives kee
             subst (λ (n : ℕ). LaneCounts (y.lane_at s n)) (sym same)
             (subst LaneCounts (sym (g.here s)) (counts_after lane_of counts old new outs.frames begun_go h.windows.each noted goes.0 s))
         counted s k (inr other) = subst LaneCounts (sym (g.others s k other)) (h.lanes s k)
+
+    goes_on : LanesGrow old new outs x (server_site old now input outs new x) → (s k : ℕ) → LaneLater (x.lane_at s k) ((server_site old now input outs new x).lane_at s k)
+    goes_on g s k = by (same_or k x.past)
+      where
+        y : Site
+        y = server_site old now input outs new x
+
+        by : (k ≡ x.past) ⊎ (k ≢ x.past) → LaneLater (x.lane_at s k) (y.lane_at s k)
+        by (inl same) =
+            subst (λ (n : ℕ). LaneLater (x.lane_at s n) (y.lane_at s n)) (sym same)
+            (subst (λ (z : Lane). LaneLater (x.lane_at s x.past) z) (sym (g.here s))
+            (lane_goes lane_of counts old new outs.frames begun_go h.windows.each noted goes.0 s))
+        by (inr other) = subst (λ (z : Lane). LaneLater (x.lane_at s k) z) (sym (g.others s k other)) (same_lane (x.lane_at s k))
