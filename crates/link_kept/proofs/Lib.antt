@@ -13,6 +13,7 @@ pub mod ServesGo
 pub mod ServesPieces
 pub mod ServesServer
 pub mod FramesFit
+pub mod OrderGrows
 pub mod StepFits
 pub mod ServerMoves
 pub mod BeginMoves

@@ -16,7 +16,7 @@ use Rattle.plain_runs.proofs.OrderLaws.{orders_kept}
 use Rattle.data_rules.specs.DataState.{DataState}
 use Rattle.data_rules.specs.declared.data_in.DataIn.{DataIn}
 use Rattle.data_rules.specs.declared.data_in.DataIn.TheVariants as data_in
-use Rattle.data_rules.specs.Puts.{Sofar}
+use Rattle.data_rules.specs.Puts.{Sofar, begun}
 use Rattle.data_rules.specs.Step.{DataMay}
 use Rattle.cluster_runs.specs.declared.move_outs.MoveOuts.{MoveOuts}
 use Rattle.cluster_runs.specs.declared.moves.Move.TheVariants.{Server as ServerMove}
@@ -28,18 +28,20 @@ use Rattle.cluster_runs.specs.Goes.{ServerGoes, server_site}
 use Rattle.cluster_invariant.specs.Orders.{NodeOrder}
 use Rattle.cluster_invariant.specs.Dials.{DialsAre, NodeDials, LearntBy}
 use Rattle.cluster_invariant.specs.Link.{LinkHolds, NodeLink}
+use Rattle.cluster_invariant.specs.Words.{IsFront}
 use Rattle.cluster_invariant.specs.Holds.{SiteHolds, Holds}
 use Rattle.cluster_invariant.proofs.Small.{of_some, put_same}
 use Rattle.cluster_invariant.proofs.OrderMoves.{step_from}
 use Rattle.cluster_invariant.proofs.PieceKinds.{Piece, makes}
 use Rattle.cluster_invariant.proofs.PieceMay.{Coming, begins}
 use Rattle.cluster_invariant.proofs.Pieces.{MayMake}
-use Rattle.cluster_invariant.proofs.PiecesOfSteps.{StepFrom}
+use Rattle.cluster_invariant.proofs.PiecesOfSteps.{StepFrom, synced_state}
 use Rattle.link_kept.proofs.WindowsServer.{WindowsAfter}
 use Rattle.link_kept.proofs.ServesGo.{ServesGo}
 use Rattle.link_kept.proofs.ServesPieces.{may_close}
 use Rattle.link_kept.proofs.ServesServer.{ServesAfter, serves_begin, serves_kept_by_step}
 use Rattle.link_kept.proofs.FramesFit.{FrameAt, frame_next}
+use Rattle.link_kept.proofs.OrderGrows.{order_grows}
 use Rattle.link_kept.proofs.StepFits.{ConnsKnow, LeftToOthers, fits_well}
 
 -- a session that isn't opened yet
@@ -86,8 +88,9 @@ pub serves_kept_by_server : (l : Layout) (c : CoresState) (m : Machine) (server 
 serves_kept_by_server l c m server now input outs written new h run shows allowed goes E know left keeps first =
     subst (λ (y : Site). ServesAfter old goes.state x y (may_close input)) (sym after)
     (serves_kept_by_step x old now input goes.data_outs goes.state (record { lanes = its.link.lanes; windows = node.windows })
-    (serves_begin v x old (may_close input) from.ordered within dials node.serves node.replies) from may goes.steps E
-    (λ p b made e s w. fits_well x m.is_dead_at t at_frame E know to_open left node.serves.items p b made e) keeps first)
+    (serves_begin v x old (may_close input) from.ordered within dials node.serves node.replies) from may goes.steps F
+    (λ p b made f s w. fits_well x m.is_dead_at t at_frame F (λ a g. know a g.0) (λ a g. g.1) to_open left_all node.serves.items p b made f)
+    (λ p b made f. (keeps p b made f.0, omega (arith, f.1, grown b (makes now p b) (order_grows now p b)))) (first, begins_long input))
   where
     x : Site
     x = m.site_at server
@@ -100,6 +103,29 @@ serves_kept_by_server l c m server now input outs written new h run shows allowe
 
     t : Coming
     t = record { old = goes.node; now = now; input = input }
+
+    -- what is left to others, while no entry goes
+    F : Sofar → Type 0
+    F b = E b × (length old.order ≤ length b.state.order)
+
+    left_all : LeftToOthers (λ s. x.lane_at s x.past) t F
+    left_all = record {
+      again = λ session conn kept b f is. left.again session conn kept b f.0 is;
+      normal = λ app session b f is. left.normal app session b f.0 is;
+      asks = λ r b f is. left.asks r b f.0 is;
+      claims = λ who key mode number at b f is. left.claims who key mode number at b f.0 is;
+      cancels = λ r b f is. left.cancels r b f.0 is;
+    }
+
+    grown : (b e : Sofar) → IsFront b.state.order e.state.order → length b.state.order ≤ length e.state.order
+    grown b e goes_on = omega (arith, ap (λ (es : List Entry). length es) goes_on.1, length-append b.state.order goes_on.0)
+
+    begins_long : (i : DataIn) → length old.order ≤ length (begins (record { old = old; now = now; input = i })).state.order
+    begins_long (data_in.Frame conn f) = omega arith
+    begins_long (data_in.Connected conn) = omega arith
+    begins_long (data_in.Broken conn) = omega arith
+    begins_long data_in.Tick = omega arith
+    begins_long (data_in.Saved upto) = omega (arith, ap (λ (d : DataState). length d.order) (synced_state upto (begun old)))
 
     its : SiteHolds l server m.is_dead_at v x
     its = h.sites server

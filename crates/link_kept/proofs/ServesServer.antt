@@ -145,6 +145,13 @@ pub record ServesAfter (old new : DataState) (x y : Site) (closing : Bool) : Typ
   pub goes : ServesGo (λ s. x.lane_at s x.past) closing new
   pub serves : RequestsOf (λ s. live new.order s ≡ true) new.locks.requests → NodeServes y new
 
+-- They are where the step can't close a session.
+pub serves_still : (old new : DataState) (x y : Site) (closing : Bool) → closing ≡ false → ServesAfter old new x y closing → NodeServes y new
+serves_still old new x y closing still a =
+    a.serves
+    (all_follow (λ (r : Request). MayAsk (λ s. x.lane_at s x.past) closing new.order r.who.session) (λ (r : Request). live new.order r.who.session ≡ true)
+    (λ (r : Request) is. is.0 still) new.locks.requests a.goes.table.requests)
+
 -- Each step of a data server keeps its windows, the counts of its lanes and what it has of its sessions, where what it puts to and takes from
 -- them fits, piece by piece.
 pub serves_kept_by_step : (x : Site) (old : DataState) (now : ℕ) (input : DataIn) (outs : DataOuts) (new : DataState) → WindowsAfter x old

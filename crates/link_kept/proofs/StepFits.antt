@@ -49,8 +49,6 @@ pub record ConnsKnow (lane_of : ℕ → Lane) (t : Coming) (b : Sofar) : Type 0 
   pub has : (conn s : ℕ) → conn_of b.state s ≡ Some conn → live b.state.order s ≡ true
   pub learnt : (conn s : ℕ) (f : UpFrame) → t.input ≡ data_in.Frame conn f → kind_of f.message ≡ Numbered → role_of b.state conn ≡ Some (Bound s)
       → is_begun (lane_of s) ≡ true
-  -- no entry went
-  pub longer : length t.old.order ≤ length b.state.order
 
 -- What is left to other parts: that a session that comes again didn't learn of the order; that each learnt of it where a round is over; that a job asks once; that a claim is of a job that doesn't ask; and that requests of a session that was closed go the latest first.
 pub record LeftToOthers (lane_of : ℕ → Lane) (t : Coming) (E : Sofar → Type 0) : Type 0 where
@@ -106,7 +104,8 @@ part_unsynced p (suc n) (suc m) [] is = absurd (false≢true is)
 part_unsynced p (suc n) (suc m) (x ∷ es) is = part_unsynced p n m es is
 
 module _ (x : Site) (dead : ℕ → Bool) (t : Coming) (at_frame : FrameAt x dead t.old t.input) (E : Sofar → Type 0)
-    (know : (b : Sofar) → E b → ConnsKnow (λ s. x.lane_at s x.past) t b) (to_open : (s : ℕ) → length t.old.order < s → (x.lane_at s x.past).began ≡ None)
+    (know : (b : Sofar) → E b → ConnsKnow (λ s. x.lane_at s x.past) t b) (longer : (b : Sofar) → E b → length t.old.order ≤ length b.state.order)
+    (to_open : (s : ℕ) → length t.old.order < s → (x.lane_at s x.past).began ≡ None)
     (left : LeftToOthers (λ s. x.lane_at s x.past) t E)
     (items : (s : ℕ) → (x.lane_at s x.past).began ≡ None → has_item_of (drop t.old.synced t.old.order) s ≡ false) where
   -- a session on whose connection a numbered message came
@@ -149,8 +148,8 @@ module _ (x : Site) (dead : ℕ → Bool) (t : Coming) (at_frame : FrameAt x dea
   fits_well (Breaks ending conn session app) b may e = tt
   fits_well (Dials app dial) b may e = tt
   fits_well (Waits app conn) b may e = tt
-  fits_well (Opens app conn) b may e = let low : length t.old.order ≤ length b.state.order = (know b e).longer in to_open (length b.state.order + 1) (omega (arith, low))
-  fits_well (OpensNext app conn) b may e = let low : length t.old.order ≤ length b.state.order = (know b e).longer in to_open (length b.state.order + 1) (omega (arith, low))
+  fits_well (Opens app conn) b may e = let low : length t.old.order ≤ length b.state.order = longer b e in to_open (length b.state.order + 1) (omega (arith, low))
+  fits_well (OpensNext app conn) b may e = let low : length t.old.order ≤ length b.state.order = longer b e in to_open (length b.state.order + 1) (omega (arith, low))
   fits_well (Resumes app session conn) b may e = tt
   fits_well (GoesOn session conn taken) b may e = tt
   fits_well (ComesAgain session conn kept) b may e = left.again session conn kept b e may

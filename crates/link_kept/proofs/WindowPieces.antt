@@ -107,19 +107,19 @@ go_same was lane_of b c same h =
     subst (λ (ws : List SessionWindow). WindowsGo was lane_of ws c.state.order) (sym same.windows)
     (subst (λ (es : List Entry). WindowsGo was lane_of b.state.windows es) (sym same.order) h)
 
-same_cuts : (ending : Ending) (conn : ℕ) (b : Sofar) → SameWindows b (cuts_if ending conn b)
+pub same_cuts : (ending : Ending) (conn : ℕ) (b : Sofar) → SameWindows b (cuts_if ending conn b)
 same_cuts There conn b = record { windows = refl; order = refl }
 same_cuts Here conn b = record { windows = refl; order = refl }
 
-same_drops : (o : Option ℕ) (b : Sofar) → SameWindows b (drops_conn o b)
+pub same_drops : (o : Option ℕ) (b : Sofar) → SameWindows b (drops_conn o b)
 same_drops None b = record { windows = refl; order = refl }
 same_drops (Some conn) b = record { windows = refl; order = refl }
 
-same_breaks : (normal : Bool) (app now : ℕ) (b : Sofar) → SameWindows b (breaks_if normal app now b)
+pub same_breaks : (normal : Bool) (app now : ℕ) (b : Sofar) → SameWindows b (breaks_if normal app now b)
 same_breaks true app now b = record { windows = refl; order = refl }
 same_breaks false app now b = record { windows = refl; order = refl }
 
-same_parts : (cause : ShutCause) (o : Option ℕ) (s : ℕ) (b : Sofar) → SameWindows b (parts_from cause o s b)
+pub same_parts : (cause : ShutCause) (o : Option ℕ) (s : ℕ) (b : Sofar) → SameWindows b (parts_from cause o s b)
 same_parts (Trouble time) None s b = record { windows = refl; order = refl }
 same_parts (Trouble time) (Some conn) s b = record { windows = refl; order = refl }
 same_parts Replaced o s b = same_drops o b
@@ -132,7 +132,7 @@ same_locks f b = record {
   order = ap (λ (d : DataState). d.order) (only_locks f b).state;
 }
 
-same_calls : (call : LockCall) (b : Sofar) → SameWindows b (calls call b)
+pub same_calls : (call : LockCall) (b : Sofar) → SameWindows b (calls call b)
 same_calls (Asks r) b = same_locks (asked b.state.locks r (length b.state.order)) b
 same_calls (Unlocks who mode key) b =
     let s : SameWindows (frees who mode key b) (calls (Unlocks who mode key) b) = same_locks (freed b.state.locks who key mode (length b.state.order)) (frees who mode key b) in
@@ -157,7 +157,7 @@ same_calls (Releases session) b =
 abbrev pub back_written : Sofar → Sofar
 back_written b = writes (act.Back b.state.server) (becomes (λ d. record d { round = None }) b)
 
-same_round : (xs : List LiveEnd) (now : ℕ) (b : Sofar) → SameWindows b (ends_back xs now (back_written b))
+pub same_round : (xs : List LiveEnd) (now : ℕ) (b : Sofar) → SameWindows b (ends_back xs now (back_written b))
 same_round xs now b = record { windows = (ends_aside xs now).windows (back_written b); order = (ends_aside xs now).order (back_written b) }
 
 some_same : (x y : Entry) → Some x ≡ Some y → x ≡ y
