@@ -19,3 +19,4 @@ pub mod ServerMoves
 pub mod BeginMoves
 pub mod LinkBegins
 pub mod CancelWaits
+pub mod CloseRequests
