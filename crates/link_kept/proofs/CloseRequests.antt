@@ -158,7 +158,7 @@ reset_locks : (o : Option ℕ) (s at : ℕ) (b : Sofar) → (waits_for_reset o s
 reset_locks None s at b = refl
 reset_locks (Some conn) s at b = refl
 
-drop_locks : (o : Option ℕ) (b : Sofar) → (drops_conn o b).state.locks ≡ b.state.locks
+pub drop_locks : (o : Option ℕ) (b : Sofar) → (drops_conn o b).state.locks ≡ b.state.locks
 drop_locks None b = refl
 drop_locks (Some conn) b = refl
 

@@ -20,3 +20,4 @@ pub mod BeginMoves
 pub mod LinkBegins
 pub mod CancelWaits
 pub mod CloseRequests
+pub mod HelloRequests
