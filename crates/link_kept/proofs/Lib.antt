@@ -21,3 +21,4 @@ pub mod LinkBegins
 pub mod CancelWaits
 pub mod CloseRequests
 pub mod HelloRequests
+pub mod ServesKept
