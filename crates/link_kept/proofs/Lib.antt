@@ -10,6 +10,7 @@ pub mod LockWaits
 pub mod WindowsServer
 pub mod LockSessions
 pub mod ServesGo
+pub mod FitsWell
 pub mod ServesPieces
 pub mod ServesServer
 pub mod FramesFit

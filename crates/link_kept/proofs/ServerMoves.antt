@@ -38,7 +38,7 @@ use Rattle.cluster_invariant.proofs.Pieces.{MayMake}
 use Rattle.cluster_invariant.proofs.PiecesOfSteps.{StepFrom, synced_state}
 use Rattle.link_kept.proofs.WindowsServer.{WindowsAfter}
 use Rattle.link_kept.proofs.ServesGo.{ServesGo}
-use Rattle.link_kept.proofs.ServesPieces.{may_close}
+use Rattle.link_kept.proofs.FitsWell.{may_close}
 use Rattle.link_kept.proofs.ServesServer.{ServesAfter, serves_begin, serves_kept_by_step}
 use Rattle.link_kept.proofs.FramesFit.{FrameAt, frame_next}
 use Rattle.link_kept.proofs.OrderGrows.{order_grows}

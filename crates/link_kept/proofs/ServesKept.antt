@@ -31,7 +31,7 @@ use Rattle.cluster_invariant.proofs.PieceMay.{Coming, begins}
 use Rattle.cluster_invariant.proofs.Pieces.{MayMake}
 use Rattle.link_kept.proofs.AppLater.{LaneLater}
 use Rattle.link_kept.proofs.WindowsServer.{WindowsAfter}
-use Rattle.link_kept.proofs.ServesPieces.{is_hello, may_close}
+use Rattle.link_kept.proofs.FitsWell.{is_hello, may_close}
 use Rattle.link_kept.proofs.ServesServer.{ServesAfter, serves_still}
 use Rattle.link_kept.proofs.StepFits.{ConnsKnow, LeftToOthers}
 use Rattle.link_kept.proofs.ServerMoves.{serves_kept_by_server}

@@ -47,7 +47,8 @@ use Rattle.link_kept.proofs.WindowsGo.{WindowsGoOn, Served, open_or, close_live,
 use Rattle.link_kept.proofs.WindowPieces.{SaysServed}
 use Rattle.link_kept.proofs.WindowsServer.{LanesGrow, WindowsAfter, StepKept, server_lanes, windows_kept_by_step}
 use Rattle.link_kept.proofs.ServesGo.{MayAsk, RepliesServed, ServesGo}
-use Rattle.link_kept.proofs.ServesPieces.{FitsWell, may_close, puts_well, serves_piece}
+use Rattle.link_kept.proofs.FitsWell.{FitsWell, may_close}
+use Rattle.link_kept.proofs.ServesPieces.{puts_well, serves_piece}
 
 -- live sessions stand at their places
 

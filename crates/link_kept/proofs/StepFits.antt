@@ -37,7 +37,7 @@ use Rattle.link_kept.proofs.LockWaits.{IsAlone}
 use Rattle.link_kept.proofs.LockSessions.{RequestsOf}
 use Rattle.link_kept.proofs.WindowsGo.{Served}
 use Rattle.link_kept.proofs.WindowPieces.{SaysServed}
-use Rattle.link_kept.proofs.ServesPieces.{CallsWell, FitsWell}
+use Rattle.link_kept.proofs.FitsWell.{CallsWell, FitsWell}
 use Rattle.link_kept.proofs.FramesFit.{FrameAt, acknowledges_well, takes_well}
 
 -- what came on a session's connection
