@@ -1,6 +1,6 @@
 -- The part on what is on its way, for a start of a data server: its node has nothing yet, and its order is a new one.
-use Rattle.std.proofs.Common.{◌≡◌, ◌≢◌, ◌≤◌, ◌<◌, ◌⊎◌, inl, inr, ℕ, ◌+◌, ◌-◌, Bool, true, false, if◌then◌else◌, List, [], ◌∷◌, ◌++◌, length, drop, take, map, Option, Some, None, is_some, option_map, refl, sym, ◌∙◌, ap, subst, arith}
-use Rattle.std.specs.Prelude.{⊤, IfSome, IsSomeAnd, get_or, nat_lt, ◌==◌}
+use Rattle.std.proofs.Common.{◌≡◌, ◌≢◌, ◌≤◌, ◌<◌, ℕ, ◌+◌, ◌-◌, Bool, true, false, if◌then◌else◌, List, [], ◌∷◌, ◌++◌, length, drop, take, map, Option, Some, None, is_some, option_map, refl, sym, ◌∙◌, ap, subst, arith}
+use Rattle.std.specs.Prelude.{⊤, IfSome, IsSomeAnd, ◌==◌}
 use Rattle.std.specs.List.{AllByRecursion, list_any, flat_map, find}
 use Rattle.std.proofs.lemmas.Bool.{eqb-true, eq-eqb, ne_eqb, false≢true, ltb-false}
 use Rattle.std.proofs.lemmas.List.{length-append, get_or_append_left, length-take-le}
@@ -8,11 +8,11 @@ use Rattle.std.proofs.Math.Seq.{drop-append_seam, drop-nil}
 use Rattle.plain_orders.specs.declared.entry.Entry.{Entry}
 use Rattle.plain_orders.specs.declared.entry.Entry.TheVariants.{Epoch}
 use Rattle.plain_orders.specs.declared.layout.Times.{Times}
-use Rattle.plain_orders.specs.Entries.{live, last_epoch, count}
+use Rattle.plain_orders.specs.Entries.{last_epoch, count}
 use Rattle.plain_orders.specs.Times.{until}
 use Rattle.plain_orders.proofs.EntryLemmas.{last_epoch-push}
 use Rattle.plain_runs.specs.Plain.{Server, current, order_at}
-use Rattle.plain_runs.specs.OrderRows.{opened_with, crashed}
+use Rattle.plain_runs.specs.OrderRows.{crashed}
 use Rattle.link_states.specs.declared.data_link.DataLink.TheVariants.{Recovering}
 use Rattle.lock_table.specs.LockWords.{Locks, no_locks}
 use Rattle.lock_table.specs.declared.rows.Hold.{Hold}
@@ -37,22 +37,21 @@ use Rattle.data_rules.specs.Saving.{has_item_of}
 use Rattle.data_rules.specs.Step.{recovering, started, with_epoch}
 use Rattle.cluster_runs.specs.CoresState.{Linked}
 use Rattle.cluster_runs.specs.Sent.{Connection, FirstTaken, Lane, Place, no_lane}
-use Rattle.cluster_runs.specs.Machine.{Site, End, DataConnection}
+use Rattle.cluster_runs.specs.Machine.{Site, End}
 use Rattle.cluster_runs.specs.Connections.{link_in}
 use Rattle.cluster_runs.specs.Goes.{begun_site, past_with}
 use Rattle.plain_orders.specs.declared.layout.Layout.{Layout}
 use Rattle.cluster_invariant.specs.Orders.{OrderIs, OrdersAgree}
 use Rattle.cluster_invariant.specs.Ends.{EndsAre}
 use Rattle.cluster_invariant.specs.Dials.{DialsAre, ConnectionIs, CarriesOf, FirstIs}
-use Rattle.cluster_invariant.specs.Link.{LinkHolds, NodeLink, NodeWindows, WindowIs, JoinedWay, AskedWay, GreetedWay, WithSession, DownBy, is_window_of, whose}
-use Rattle.cluster_invariant.specs.Served.{IsServed, NodeServes, AllWait, has_one_each, HasLearnt}
+use Rattle.cluster_invariant.specs.Link.{LinkHolds, NodeLink, WindowIs, JoinedWay, AskedWay, GreetedWay, WithSession, DownBy, is_window_of, whose}
+use Rattle.cluster_invariant.specs.Served.{IsServed, AllWait, has_one_each, HasLearnt}
 use Rattle.cluster_invariant.specs.Waiting.{ReplyWaits, conns_in}
 use Rattle.cluster_invariant.specs.Words.{IsFront, all_differ, downs_left, stays_at}
 use Rattle.cluster_invariant.proofs.Small.{of_some, some_kept}
 use Rattle.cluster_invariant.proofs.Written.{next_place}
 use Rattle.link_kept.proofs.Later.{Later, front_same}
-use Rattle.link_kept.proofs.AppLater.{WholeStays, LaneLater, same_lane, app_later}
-use Rattle.link_kept.proofs.NodeBeside.{Quiet}
+use Rattle.link_kept.proofs.AppLater.{same_lane, app_later}
 use Rattle.link_kept.proofs.ShortMoves.{app_quiet, some_both, count_same, quietly_same, order_now, stays_within}
 
 -- a node that starts

@@ -1,8 +1,8 @@
 -- As the latest request of a session goes, none of its other requests is granted.
-use Rattle.std.proofs.Common.{◌≡◌, ℕ, Bool, true, false, cond, List, [], ◌∷◌, ◌++◌, filter, refl, sym, ◌∙◌, ap, subst}
+use Rattle.std.proofs.Common.{◌≡◌, ℕ, Bool, true, false, cond, List, [], ◌∷◌, ◌++◌, filter, sym, subst}
 use Rattle.lock_table.specs.declared.rows.Hold.{Hold}
 use Rattle.lock_table.specs.declared.rows.Request.{Request}
-use Rattle.lock_table.specs.LockWords.{Locks, Freed, waits, with_grant, pass, passed, is_other_ticket, without_request}
+use Rattle.lock_table.specs.LockWords.{Locks, waits, with_grant, pass, is_other_ticket, without_request}
 use Rattle.cluster_invariant.specs.Served.{AllWait}
 use Rattle.cluster_invariant.proofs.AllLists.{all_joined}
 use Rattle.link_kept.proofs.LockSessions.{RequestsOf}

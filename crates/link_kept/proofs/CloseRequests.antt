@@ -3,7 +3,7 @@ use Rattle.std.proofs.Common.{◌≡◌, ◌≢◌, ℕ, ◌+◌, ◌⊎◌, inl
 use Rattle.std.specs.Prelude.{◌==◌}
 use Rattle.std.specs.List.{AllByRecursion}
 use Rattle.std.proofs.lemmas.List.{reverse-append}
-use Rattle.std.proofs.lemmas.Bool.{eq-eqb, eqb-true, false≢true, true≢false}
+use Rattle.std.proofs.lemmas.Bool.{eq-eqb, false≢true, true≢false}
 use Rattle.plain_orders.specs.declared.causes.ShutCause.{ShutCause}
 use Rattle.plain_orders.specs.declared.causes.ShutCause.TheVariants.{Trouble, Replaced, Round}
 use Rattle.plain_orders.specs.declared.act.Act.TheVariants as act
@@ -11,12 +11,12 @@ use Rattle.plain_orders.specs.declared.entry.Entry.{Entry}
 use Rattle.plain_orders.specs.declared.entry.Entry.TheVariants.{Closed}
 use Rattle.plain_orders.specs.Entries.{live}
 use Rattle.lock_table.specs.declared.rows.Request.{Request}
-use Rattle.lock_table.specs.LockWords.{Locks, Freed, waits, with_grant, pass, is_ticket, is_other_ticket, is_request_of, without_request}
+use Rattle.lock_table.specs.LockWords.{Locks, Freed, waits, with_grant, pass, is_other_ticket, is_request_of, without_request}
 use Rattle.data_rules.specs.DataState.{DataState}
 use Rattle.data_rules.specs.declared.rows.LiveEnd.{LiveEnd}
 use Rattle.data_rules.specs.declared.data_in.DataIn.TheVariants as data_in
 use Rattle.data_rules.specs.declared.data_outs.DataOuts.{DataOuts}
-use Rattle.data_rules.specs.Step.{DataStep, made}
+use Rattle.data_rules.specs.Step.{DataStep}
 use Rattle.data_rules.specs.Puts.{Sofar, becomes, writes, begun, conn_of}
 use Rattle.data_rules.specs.Entering.{appends}
 use Rattle.data_rules.specs.Granting.{grants, grants_one, locks_become, with_locks}
@@ -24,7 +24,7 @@ use Rattle.data_rules.specs.Conns.{link_of, drops_conn}
 use Rattle.data_rules.specs.Closing.{silenced, unawaited, cancels_one, cancels, cancels_all, waits_for_reset, turns_away, closes}
 use Rattle.data_rules.specs.Opening.{live_ends}
 use Rattle.data_rules.specs.Messages.{is_awaited}
-use Rattle.data_rules.specs.Saving.{is_free, cause_of, hears_tick, closes_late, ticks_end, ticks_one, ticks, ticks_all}
+use Rattle.data_rules.specs.Saving.{is_free, cause_of, hears_tick, closes_late, ticks_end, ticks_one, ticks}
 use Rattle.link_states.specs.Tables.{data_next}
 use Rattle.link_states.specs.declared.link_event.LinkEvent.TheVariants.{Ticked}
 use Rattle.cluster_invariant.proofs.AllLists.{all_joined, all_filtered, all_follow, all_both, all_passed}

@@ -1,8 +1,7 @@
 -- A frame that comes on the connection of a live session is the next one of its lane.
-use Rattle.std.proofs.Common.{◌≡◌, ◌≢◌, ◌≤◌, ◌<◌, ℕ, zero, suc, ◌+◌, Bool, true, false, if◌then◌else◌, List, [], ◌∷◌, ◌++◌, length, drop, Option, Some, None, option_map, refl, sym, ◌∙◌, ap, subst, arith}
+use Rattle.std.proofs.Common.{◌≡◌, ◌≤◌, ◌<◌, ℕ, ◌+◌, Bool, true, false, if◌then◌else◌, List, [], ◌∷◌, length, drop, Option, Some, None, option_map, refl, sym, ◌∙◌, ap, subst, arith}
 use Rattle.std.specs.Prelude.{IfSome, Ok, Err, Result, nat_lt, ◌==◌}
-use Rattle.std.specs.List.{AllByRecursion}
-use Rattle.std.proofs.lemmas.Bool.{ltb-true, ltb-false, eqb-true, false≢true}
+use Rattle.std.proofs.lemmas.Bool.{ltb-true, eqb-true}
 use Rattle.std.proofs.lemmas.List.{length-drop}
 use Rattle.plain_orders.specs.Entries.{live}
 use Rattle.link_window.specs.declared.window.Taken.{Taken}
@@ -19,19 +18,19 @@ use Rattle.data_rules.specs.declared.data_in.DataIn.{DataIn}
 use Rattle.data_rules.specs.declared.data_in.DataIn.TheVariants as data_in
 use Rattle.data_rules.specs.declared.rows.Role.TheVariants.{Bound}
 use Rattle.data_rules.specs.Conns.{role_of}
-use Rattle.data_rules.specs.Puts.{Sofar, begun, body_of, window_of}
+use Rattle.data_rules.specs.Puts.{Sofar, body_of, window_of}
 use Rattle.cluster_runs.specs.declared.moves.Move.TheVariants.{Server as ServerMove}
-use Rattle.cluster_runs.specs.CoresState.{CoresState, Linked, Accepted, Dial, dial_at, accepted_at}
+use Rattle.cluster_runs.specs.CoresState.{CoresState, Linked, Accepted, Dial, dial_at}
 use Rattle.cluster_runs.specs.Moves.{Allowed, TakenMay, LinkedMay, next_up, first_of}
 use Rattle.cluster_runs.specs.Mirrors.{Mirrors, accepted_of}
-use Rattle.cluster_runs.specs.Sent.{Connection, Lane}
+use Rattle.cluster_runs.specs.Sent.{Connection}
 use Rattle.cluster_runs.specs.Machine.{Machine, Site, DataConnection}
 use Rattle.cluster_runs.specs.Connections.{link_of, link_in, dial_of}
 use Rattle.cluster_invariant.specs.Dials.{NodeDials, RoleIs, BoundIs}
 use Rattle.cluster_invariant.specs.Link.{NodeWindows, UpWay, UpWayOn, UpWayBy, is_joined_on}
-use Rattle.cluster_invariant.specs.Words.{IsFront, ups_left, numbered_ups, numbered_behind}
+use Rattle.cluster_invariant.specs.Words.{IsFront, ups_left, numbered_ups}
 use Rattle.cluster_invariant.proofs.Small.{of_some}
-use Rattle.cluster_invariant.proofs.PieceMay.{Coming, OnBound, AcknowledgesMay, TakesMay, begins}
+use Rattle.cluster_invariant.proofs.PieceMay.{Coming, AcknowledgesMay, TakesMay, begins}
 use Rattle.link_kept.proofs.WindowPieces.{ComesWell, TakesWell}
 
 -- the next frame

@@ -1,9 +1,7 @@
 -- After each step of a data server the requests that wait are of live sessions, also where a Hello closed one.
-use Rattle.std.proofs.Common.{◌≡◌, ◌⊎◌, inl, inr, ℕ, ◌+◌, Bool, true, false, List, [], ◌∷◌, ◌++◌, length, Option, Some, None, is_some, refl, sym, ◌∙◌, ap, subst}
-use Rattle.std.specs.List.{AllByRecursion}
+use Rattle.std.proofs.Common.{◌≡◌, inl, inr, ℕ, ◌+◌, Bool, true, false, List, [], ◌∷◌, ◌++◌, length, Option, Some, None, is_some, sym, ap, subst}
 use Rattle.plain_orders.specs.declared.causes.ShutCause.TheVariants.{Replaced}
 use Rattle.plain_orders.specs.declared.act.Act.TheVariants as act
-use Rattle.plain_orders.specs.declared.entry.Entry.{Entry}
 use Rattle.plain_orders.specs.declared.entry.Entry.TheVariants.{Opened}
 use Rattle.plain_orders.specs.Entries.{live, live_session}
 use Rattle.plain_orders.specs.Sessions.{app_in}
@@ -17,15 +15,14 @@ use Rattle.end_words.specs.Windows.{owes_bare}
 use Rattle.data_rules.specs.DataState.{DataState}
 use Rattle.data_rules.specs.declared.rows.Caller.{Caller}
 use Rattle.data_rules.specs.declared.rows.Kind.{Kind}
-use Rattle.data_rules.specs.declared.rows.Kind.TheVariants.{Opening}
 use Rattle.data_rules.specs.declared.rows.LiveEnd.{LiveEnd}
 use Rattle.data_rules.specs.declared.rows.Role.{Role}
 use Rattle.data_rules.specs.declared.rows.Role.TheVariants.{New, Waiting, Bound, Closing}
-use Rattle.data_rules.specs.Puts.{Sofar, becomes, writes, begun, puts, conn_of, window_of, head_of}
+use Rattle.data_rules.specs.Puts.{Sofar, becomes, writes, puts, conn_of, window_of, head_of}
 use Rattle.data_rules.specs.Leaving.{flushed, bare_to, bare_on}
-use Rattle.data_rules.specs.Conns.{role_of, link_of, is_normal, with_event, without_conn, breaks_if, end_breaks, loses_conn, leaves_conn, ends_conn, drops_conn}
-use Rattle.data_rules.specs.Opening.{opens, opens_all, breaks_unless, comes_back, come_back, live_ends, without_round, round_ends, is_round_over, round_ends_if, rounds}
-use Rattle.data_rules.specs.Callers.{with_dial, replaces, waiting_conn, is_let_in, calls}
+use Rattle.data_rules.specs.Conns.{role_of, link_of, is_normal, with_event, without_conn, breaks_if, end_breaks, loses_conn, drops_conn}
+use Rattle.data_rules.specs.Opening.{opens, opens_all, breaks_unless, comes_back, come_back, live_ends, without_round, is_round_over, round_ends_if, rounds}
+use Rattle.data_rules.specs.Callers.{with_dial, replaces, waiting_conn, is_let_in}
 use Rattle.data_rules.specs.Frames.{Ends, TakesFirst, TakesBound, TakesClosing, TakesFrame, kind_of, bares_role, settled}
 use Rattle.data_rules.specs.Step.{FrameStep}
 use Rattle.cluster_invariant.proofs.AllLists.{all_follow}

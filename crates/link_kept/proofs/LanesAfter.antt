@@ -1,9 +1,9 @@
 -- The windows and the lanes after a whole step of a data server.
-use Rattle.std.proofs.Common.{◌≡◌, ◌≢◌, ◌≤◌, ⊎_elim, inl, inr, ℕ, ◌+◌, ◌-◌, Bool, true, false, max, not, if◌then◌else◌, cond, List, [], ◌∷◌, ◌++◌, length, drop, map, filter, Option, Some, None, is_some, refl, sym, ◌∙◌, ap, subst, arith}
+use Rattle.std.proofs.Common.{◌≡◌, ◌≢◌, ◌≤◌, ℕ, ◌+◌, ◌-◌, Bool, true, false, not, if◌then◌else◌, cond, List, [], ◌∷◌, ◌++◌, length, drop, map, filter, None, is_some, refl, sym, ◌∙◌, ap, subst, arith}
 use Rattle.std.specs.Prelude.{⊤, ◌==◌, ◌&&◌}
-use Rattle.std.specs.List.{AllByRecursion, list_any, list_all}
-use Rattle.std.proofs.lemmas.Bool.{eqb-true, eq-eqb, true≢false, false≢true}
-use Rattle.std.proofs.lemmas.List.{append-nil, drop-append-le, length-append, length-drop, drop-drop}
+use Rattle.std.specs.List.{list_any, list_all}
+use Rattle.std.proofs.lemmas.Bool.{eqb-true, true≢false, false≢true}
+use Rattle.std.proofs.lemmas.List.{append-nil, length-append, length-drop, drop-drop}
 use Rattle.std.proofs.Math.Seq.{drop-append_seam}
 use Rattle.subscript_keys.specs.declared.span.Span.{Span}
 use Rattle.plain_orders.specs.declared.entry.Entry.{Entry}
@@ -11,14 +11,13 @@ use Rattle.plain_orders.specs.Entries.{live, closes}
 use Rattle.plain_orders.specs.Fold.{fold}
 use Rattle.plain_orders.specs.Spans.{entry_spans}
 use Rattle.ecp_messages.specs.declared.down.Down.{Down}
-use Rattle.ecp_messages.specs.declared.down.Down.TheVariants as down
 use Rattle.end_words.specs.Windows.{Window, fresh, sent}
 use Rattle.block_holders.specs.declared.noted.Noted.{Noted}
-use Rattle.data_rules.specs.DataState.{DataState, SessionWindow}
+use Rattle.data_rules.specs.DataState.{DataState}
 use Rattle.data_rules.specs.declared.down_frames.DownOut.{DownOut}
 use Rattle.data_rules.specs.declared.data_in.DataIn.{DataIn}
 use Rattle.data_rules.specs.declared.data_in.DataIn.TheVariants as data_in
-use Rattle.data_rules.specs.Puts.{Sofar, begun, window_in, window_of}
+use Rattle.data_rules.specs.Puts.{begun, window_of}
 use Rattle.cluster_runs.specs.Sent.{Lane}
 use Rattle.cluster_runs.specs.Lanes.{notes_of, drops_until, downs_given, is_closed_by, given_since, with_data_step, is_noted_of, span_of}
 use Rattle.cluster_runs.specs.WireDrops.{Notes, with_entry, drops_of, is_met}
@@ -28,7 +27,7 @@ use Rattle.cluster_invariant.proofs.PieceMay.{Coming, begins}
 use Rattle.cluster_invariant.proofs.PiecesOfSteps.{synced_state}
 use Rattle.link_kept.proofs.AppLater.{LaneLater}
 use Rattle.link_kept.proofs.WindowLists.{none_there}
-use Rattle.link_kept.proofs.WindowsGo.{Grown, WindowsGo, WindowsGoOn, Served, AllServed}
+use Rattle.link_kept.proofs.WindowsGo.{Grown, WindowsGo, WindowsGoOn, AllServed}
 
 -- what was put to a session that the step closed
 

@@ -1,18 +1,13 @@
 -- Of which sessions a table of locks has holds, requests and tickets, after each of its calls.
-use Rattle.std.proofs.Common.{◌≡◌, ◌≢◌, ◌≤◌, ◌<◌, ◌⊎◌, inl, inr, ℕ, ◌+◌, ◌-◌, Bool, true, false, not, cond, List, [], ◌∷◌, ◌++◌, length, filter, drop, Option, Some, None, refl, sym, ◌∙◌, ap, subst, arith}
+use Rattle.std.proofs.Common.{ℕ, ◌+◌, ◌-◌, Bool, true, false, cond, List, [], ◌∷◌, ◌++◌, filter}
 use Rattle.std.specs.Prelude.{⊤, ◌==◌}
-use Rattle.std.specs.List.{AllByRecursion, list_any}
-use Rattle.plain_orders.specs.declared.entry.Entry.{Entry}
-use Rattle.plain_orders.specs.Entries.{live}
+use Rattle.std.specs.List.{AllByRecursion}
 use Rattle.lock_table.specs.declared.rows.Hold.{Hold}
 use Rattle.lock_table.specs.declared.rows.Request.{Request}
 use Rattle.lock_table.specs.declared.rows.Who.{Who}
 use Rattle.plain_orders.specs.declared.mode.Mode.{Mode}
 use Rattle.lock_table.specs.LockWords.{Locks, Freed, is_lane, waits, raised, lowered, with_grant, pass, passed, asked, freed, without_request, without_ticket, without_grant, without_session, claimed, is_other_ticket, is_request_elsewhere, is_hold_elsewhere}
-use Rattle.cluster_runs.specs.Sent.{Lane}
-use Rattle.cluster_invariant.specs.Words.{is_begun}
-use Rattle.cluster_invariant.proofs.AllLists.{all_joined, all_filtered, all_follow}
-use Rattle.link_kept.proofs.LockWaits.{TableWaits, passed_waits}
+use Rattle.cluster_invariant.proofs.AllLists.{all_joined, all_filtered}
 
 -- holds
 

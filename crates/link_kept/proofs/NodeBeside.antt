@@ -1,34 +1,29 @@
 -- The half of a running node that a move leaves as it is, with the lanes and the data connections, where the orders go on.
-use Rattle.std.proofs.Common.{◌≡◌, ◌≤◌, ◌<◌, ◌⊎◌, inl, inr, ℕ, Bool, true, false, ◌&&◌, List, [], ◌∷◌, Option, Some, None, refl, sym, ◌∙◌, ap, subst, arith, drop}
+use Rattle.std.proofs.Common.{◌≡◌, ◌≤◌, inr, ℕ, Bool, true, false, List, [], Option, Some, None, refl, sym, ◌∙◌, ap, subst, arith, drop}
 use Rattle.std.specs.Prelude.{⊤, IfSome, IsSomeAnd}
-use Rattle.std.specs.List.{AllByRecursion, list_any}
+use Rattle.std.specs.List.{list_any}
 use Rattle.std.proofs.lemmas.Bool.{false≢true}
-use Rattle.plain_orders.specs.Entries.{last_epoch}
 use Rattle.plain_orders.specs.Sessions.{place_of_epoch}
-use Rattle.plain_runs.specs.Plain.{Server, current, order_at}
+use Rattle.plain_runs.specs.Plain.{Server, current}
 use Rattle.ecp_messages.specs.declared.up.UpFrame.{UpFrame}
 use Rattle.ecp_messages.specs.declared.down.DownFrame.{DownFrame}
 use Rattle.app_rules.specs.declared.line.Line.{Line}
 use Rattle.app_rules.specs.declared.line.Line.TheVariants.{Apart, Trying, Greeting, Asking, Joined}
 use Rattle.app_rules.specs.AppState.{AppEnd}
-use Rattle.app_rules.specs.Works.{is_joined}
 use Rattle.data_rules.specs.DataState.{DataState}
 use Rattle.data_rules.specs.declared.rows.Reply.{Reply}
 use Rattle.data_rules.specs.declared.rows.Says.{Says}
 use Rattle.data_rules.specs.declared.rows.Says.TheVariants.{NewWelcome, EpochWelcome, ResetOf, GrantOf, AnswerOf}
-use Rattle.data_rules.specs.declared.rows.Role.TheVariants.{Bound, Closing}
-use Rattle.data_rules.specs.Conns.{role_of}
 use Rattle.block_holders.specs.declared.noted.Noted.{Noted}
 use Rattle.lock_table.specs.declared.rows.Request.{Request}
-use Rattle.lock_table.specs.declared.rows.Hold.{Hold}
 use Rattle.cluster_runs.specs.CoresState.{Linked}
 use Rattle.cluster_runs.specs.Sent.{Connection, Knew, Lane, Mark, Place}
 use Rattle.cluster_runs.specs.Machine.{Site, End}
 use Rattle.cluster_runs.specs.Connections.{link_of}
-use Rattle.cluster_invariant.specs.Link.{NodeLink, NodeWindows, UpWay, UpWayOn, UpWayBy, Unmet, GreetsOn, GreetsBy, is_joined_on, WholeIf}
-use Rattle.cluster_invariant.specs.Served.{IsServed, NodeServes, HasLearnt}
-use Rattle.cluster_invariant.specs.Waiting.{OnLinked, IsUntold, WaitsNewOn, WaitsEpoch, WaitsEpochOn, IsUnended, WaitsResetOn, NewWaits, EpochWaits, ResetWaits, WaitsFor, ReplyWaits}
-use Rattle.cluster_invariant.specs.Words.{ups_left, downs_left, numbered_ups, numbered_behind, is_wire, is_number, is_reset_frame, stays_at}
+use Rattle.cluster_invariant.specs.Link.{NodeLink, UpWay, UpWayOn, UpWayBy, Unmet, GreetsOn, GreetsBy, is_joined_on}
+use Rattle.cluster_invariant.specs.Served.{IsServed, NodeServes}
+use Rattle.cluster_invariant.specs.Waiting.{OnLinked, IsUntold, WaitsNewOn, WaitsEpoch, WaitsEpochOn, IsUnended, WaitsResetOn, WaitsFor, ReplyWaits}
+use Rattle.cluster_invariant.specs.Words.{ups_left, is_reset_frame}
 use Rattle.cluster_invariant.proofs.AllLists.{all_follow}
 use Rattle.cluster_invariant.proofs.Small.{some_kept}
 use Rattle.link_kept.proofs.Later.{Later}

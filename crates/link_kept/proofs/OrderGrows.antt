@@ -1,5 +1,5 @@
 -- Each small change of a data server's step lets its order go on.
-use Rattle.std.proofs.Common.{◌≡◌, ℕ, ◌+◌, Bool, List, [], ◌∷◌, ◌++◌, length, Option, Some, None, refl, sym, ◌∙◌, ap}
+use Rattle.std.proofs.Common.{◌≡◌, ℕ, ◌+◌, List, [], ◌∷◌, ◌++◌, length, Some, refl, sym, ◌∙◌, ap}
 use Rattle.std.proofs.lemmas.List.{append-nil}
 use Rattle.plain_orders.specs.declared.act.Act.TheVariants as act
 use Rattle.plain_orders.specs.declared.entry.Entry.{Entry}
@@ -9,7 +9,6 @@ use Rattle.ecp_messages.specs.declared.down.Down.TheVariants as down
 use Rattle.end_words.specs.Windows.{resent}
 use Rattle.data_rules.specs.DataState.{DataState}
 use Rattle.data_rules.specs.Puts.{Sofar, becomes, writes, tells, puts, conn_of, head_of, window_of}
-use Rattle.data_rules.specs.Leaving.{leaves}
 use Rattle.data_rules.specs.Conns.{link_of, is_normal, without_conn, end_breaks}
 use Rattle.data_rules.specs.Opening.{live_ends}
 use Rattle.data_rules.specs.Callers.{waiting_conn, sends_again, old_welcome}

@@ -1,7 +1,7 @@
 -- The windows and lanes of a data server, and what it has of its sessions, after each move of it.
-use Rattle.std.proofs.Common.{◌≡◌, ◌≢◌, ◌≤◌, ◌<◌, ℕ, ◌+◌, Bool, true, false, if◌then◌else◌, List, [], ◌∷◌, ◌++◌, length, Option, Some, None, refl, sym, ◌∙◌, ap, subst, arith}
-use Rattle.std.specs.Prelude.{IfSome, get_or, ◌==◌}
-use Rattle.std.proofs.lemmas.Bool.{eqb-true, ne_eqb}
+use Rattle.std.proofs.Common.{◌≡◌, ◌≤◌, ◌<◌, ℕ, ◌+◌, Bool, if◌then◌else◌, List, [], ◌∷◌, ◌++◌, length, Option, Some, None, refl, sym, ◌∙◌, ap, subst, arith}
+use Rattle.std.specs.Prelude.{get_or}
+use Rattle.std.proofs.lemmas.Bool.{ne_eqb}
 use Rattle.std.proofs.lemmas.List.{length-append, get_or-append-add}
 use Rattle.plain_orders.specs.declared.act.Act.{Act}
 use Rattle.plain_orders.specs.declared.entry.Entry.{Entry}
@@ -10,7 +10,7 @@ use Rattle.plain_orders.specs.declared.layout.Layout.{Layout}
 use Rattle.plain_orders.specs.Ordered.{IsOrdered, MayFollow}
 use Rattle.plain_orders.specs.Sessions.{app_in, app_from, app_after}
 use Rattle.plain_orders.proofs.OrderLemmas.{ordered_induction}
-use Rattle.plain_runs.specs.Plain.{Plain, Server, current, order_at}
+use Rattle.plain_runs.specs.Plain.{Server, current, order_at}
 use Rattle.plain_runs.specs.Run.{IsRun, state_after}
 use Rattle.plain_runs.proofs.OrderLaws.{orders_kept}
 use Rattle.data_rules.specs.DataState.{DataState}
@@ -26,8 +26,8 @@ use Rattle.cluster_runs.specs.Mirrors.{Mirrors}
 use Rattle.cluster_runs.specs.Machine.{Machine, Site}
 use Rattle.cluster_runs.specs.Goes.{ServerGoes, server_site}
 use Rattle.cluster_invariant.specs.Orders.{NodeOrder}
-use Rattle.cluster_invariant.specs.Dials.{DialsAre, NodeDials, LearntBy}
-use Rattle.cluster_invariant.specs.Link.{LinkHolds, NodeLink}
+use Rattle.cluster_invariant.specs.Dials.{NodeDials, LearntBy}
+use Rattle.cluster_invariant.specs.Link.{NodeLink}
 use Rattle.cluster_invariant.specs.Words.{IsFront}
 use Rattle.cluster_invariant.specs.Holds.{SiteHolds, Holds}
 use Rattle.cluster_invariant.proofs.Small.{of_some, put_same}
@@ -36,8 +36,6 @@ use Rattle.cluster_invariant.proofs.PieceKinds.{Piece, makes}
 use Rattle.cluster_invariant.proofs.PieceMay.{Coming, begins}
 use Rattle.cluster_invariant.proofs.Pieces.{MayMake}
 use Rattle.cluster_invariant.proofs.PiecesOfSteps.{StepFrom, synced_state}
-use Rattle.link_kept.proofs.WindowsServer.{WindowsAfter}
-use Rattle.link_kept.proofs.ServesGo.{ServesGo}
 use Rattle.link_kept.proofs.FitsWell.{may_close}
 use Rattle.link_kept.proofs.ServesServer.{ServesAfter, serves_begin, serves_kept_by_step}
 use Rattle.link_kept.proofs.FramesFit.{FrameAt, frame_next}

@@ -1,12 +1,12 @@
 -- What a running node has of its sessions while a step goes on: of those alone whose application servers learnt of the order.
-use Rattle.std.proofs.Common.{◌≡◌, ◌≢◌, ◌≤◌, ◌⊎◌, inl, inr, ℕ, ◌+◌, Bool, true, false, not, List, [], ◌∷◌, ◌++◌, length, filter, drop, Option, Some, None, refl, sym, ◌∙◌, ap, subst, arith}
+use Rattle.std.proofs.Common.{◌≡◌, ◌≢◌, ◌≤◌, ℕ, ◌+◌, Bool, true, false, not, List, [], ◌∷◌, ◌++◌, length, filter, drop, None, refl, sym, ◌∙◌, ap, subst, arith}
 use Rattle.std.specs.Prelude.{⊤, ◌==◌, ◌||◌}
 use Rattle.std.specs.List.{AllByRecursion, list_any}
-use Rattle.std.proofs.lemmas.Bool.{eq-eqb, true≢false, false≢true, or_parts}
+use Rattle.std.proofs.lemmas.Bool.{eq-eqb, true≢false, or_parts}
 use Rattle.std.proofs.lemmas.List.{drop-append-le, length-append}
 use Rattle.subscript_keys.specs.declared.span.Span.{Span}
 use Rattle.plain_orders.specs.declared.entry.Entry.{Entry}
-use Rattle.plain_orders.specs.declared.entry.Entry.TheVariants.{Opened, Closed}
+use Rattle.plain_orders.specs.declared.entry.Entry.TheVariants.{Closed}
 use Rattle.plain_orders.specs.Entries.{live}
 use Rattle.plain_orders.specs.ItemEntries.{is_item_of}
 use Rattle.lock_table.specs.declared.rows.Request.{Request}
@@ -17,7 +17,7 @@ use Rattle.data_rules.specs.DataState.{DataState, SessionWindow}
 use Rattle.data_rules.specs.declared.rows.Reply.{Reply}
 use Rattle.data_rules.specs.declared.rows.Says.{Says}
 use Rattle.data_rules.specs.declared.rows.Says.TheVariants.{NewWelcome, EpochWelcome, ResetOf, GrantOf, AnswerOf}
-use Rattle.data_rules.specs.Puts.{Sofar, becomes, writes, replies, says_to, is_reply_elsewhere}
+use Rattle.data_rules.specs.Puts.{Sofar, becomes, replies, says_to, is_reply_elsewhere}
 use Rattle.data_rules.specs.Entering.{with_entry}
 use Rattle.data_rules.specs.Granting.{grants, grants_one, locks_become, with_locks}
 use Rattle.data_rules.specs.Saving.{has_item_of}
@@ -27,7 +27,7 @@ use Rattle.cluster_invariant.proofs.AllLists.{all_joined, all_filtered, all_foll
 use Rattle.cluster_invariant.proofs.PutLaws.{with_windows}
 use Rattle.link_kept.proofs.LockWaits.{TableWaits}
 use Rattle.link_kept.proofs.LockSessions.{RequestsOf, TableOf, FreedOf}
-use Rattle.link_kept.proofs.WindowsGo.{Served, AllServed, open_live, open_or, opened_live, close_live, other_live}
+use Rattle.link_kept.proofs.WindowsGo.{Served, AllServed, close_live, other_live}
 use Rattle.link_kept.proofs.WindowPieces.{SaysServed}
 
 -- its application server learnt of the order

@@ -1,5 +1,5 @@
 -- The windows and lanes of a data server, and all that it has of its sessions, after each move of it.
-use Rattle.std.proofs.Common.{◌≡◌, ℕ, ◌+◌, Bool, true, false, List, [], Option, Some, None, refl, sym, ◌∙◌, ap, subst}
+use Rattle.std.proofs.Common.{◌≡◌, ℕ, Bool, true, false, List, [], refl}
 use Rattle.std.proofs.lemmas.Bool.{false≢true}
 use Rattle.plain_orders.specs.declared.act.Act.{Act}
 use Rattle.plain_orders.specs.declared.layout.Layout.{Layout}
@@ -27,7 +27,7 @@ use Rattle.cluster_invariant.specs.Holds.{Holds}
 use Rattle.cluster_invariant.proofs.AllLists.{all_follow}
 use Rattle.cluster_invariant.proofs.Small.{of_some}
 use Rattle.cluster_invariant.proofs.PieceKinds.{Piece, makes}
-use Rattle.cluster_invariant.proofs.PieceMay.{Coming, begins}
+use Rattle.cluster_invariant.proofs.PieceMay.{begins}
 use Rattle.cluster_invariant.proofs.Pieces.{MayMake}
 use Rattle.link_kept.proofs.AppLater.{LaneLater}
 use Rattle.link_kept.proofs.WindowsServer.{WindowsAfter}

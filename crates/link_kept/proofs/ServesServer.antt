@@ -1,6 +1,5 @@
 -- What a running node has of its sessions, after each of its steps.
-use Rattle.std.proofs.Common.{◌≡◌, ◌≢◌, ◌≤◌, ◌⊎◌, inl, inr, ℕ, zero, suc, ◌+◌, ◌-◌, Bool, true, false, List, [], ◌∷◌, ◌++◌, length, drop, take, Option, Some, None, is_some, refl, sym, ◌∙◌, ap, subst, arith}
-use Rattle.std.specs.Prelude.{IfSome}
+use Rattle.std.proofs.Common.{◌≡◌, ◌≢◌, ◌≤◌, ◌⊎◌, inl, inr, ℕ, zero, suc, ◌+◌, ◌-◌, Bool, true, false, List, [], ◌∷◌, ◌++◌, length, drop, Some, refl, sym, ◌∙◌, ap, subst, arith}
 use Rattle.std.specs.List.{AllByRecursion, list_any}
 use Rattle.std.proofs.lemmas.Bool.{false≢true, or_parts}
 use Rattle.std.proofs.lemmas.List.{length-append, drop-drop}
@@ -28,9 +27,8 @@ use Rattle.data_rules.specs.Saving.{has_item_of}
 use Rattle.data_rules.specs.Step.{DataMay, DataStep, made}
 use Rattle.cluster_runs.specs.Sent.{Lane}
 use Rattle.cluster_runs.specs.Machine.{Site}
-use Rattle.cluster_runs.specs.Lanes.{with_data_step}
 use Rattle.cluster_runs.specs.Goes.{server_site}
-use Rattle.cluster_invariant.specs.Dials.{BoundIs, NodeDials, RoleIs}
+use Rattle.cluster_invariant.specs.Dials.{NodeDials, RoleIs}
 use Rattle.cluster_invariant.specs.Served.{IsServed, NodeServes, HasLearnt}
 use Rattle.cluster_invariant.specs.Waiting.{ReplyWaits, WaitsFor}
 use Rattle.cluster_invariant.specs.Words.{is_begun}
@@ -41,12 +39,11 @@ use Rattle.cluster_invariant.proofs.PieceMay.{Coming, begins}
 use Rattle.cluster_invariant.proofs.Pieces.{MayMake}
 use Rattle.cluster_invariant.proofs.PiecesOfSteps.{StepFrom, synced_state}
 use Rattle.link_kept.proofs.AppLater.{LaneLater}
-use Rattle.link_kept.proofs.LockWaits.{TableWaits}
 use Rattle.link_kept.proofs.LockSessions.{RequestsOf}
 use Rattle.link_kept.proofs.WindowsGo.{WindowsGoOn, Served, open_or, close_live, still_live}
 use Rattle.link_kept.proofs.WindowPieces.{SaysServed}
 use Rattle.link_kept.proofs.WindowsServer.{LanesGrow, WindowsAfter, StepKept, server_lanes, windows_kept_by_step}
-use Rattle.link_kept.proofs.ServesGo.{MayAsk, RepliesServed, ServesGo}
+use Rattle.link_kept.proofs.ServesGo.{MayAsk, ServesGo}
 use Rattle.link_kept.proofs.FitsWell.{FitsWell, may_close}
 use Rattle.link_kept.proofs.ServesPieces.{puts_well, serves_piece}
 

@@ -1,5 +1,5 @@
 -- The part on what is on its way, for the moves that put and take nothing: a tick, a look, and a node or an application server that goes.
-use Rattle.std.proofs.Common.{◌≡◌, ◌≢◌, ◌≤◌, ◌<◌, inl, inr, ℕ, ◌+◌, Bool, true, false, List, [], ◌∷◌, length, ◌++◌, ◌-◌, Option, Some, None, option_map, if◌then◌else◌, refl, sym, ◌∙◌, ap, subst, arith, ◌==◌}
+use Rattle.std.proofs.Common.{◌≡◌, ◌≢◌, ◌≤◌, ◌<◌, ℕ, ◌+◌, Bool, true, false, List, [], ◌∷◌, length, ◌++◌, ◌-◌, Option, Some, None, option_map, if◌then◌else◌, refl, sym, ◌∙◌, ap, subst, arith, ◌==◌}
 use Rattle.std.specs.Prelude.{⊤, IfSome, IsSomeAnd, get_or}
 use Rattle.std.proofs.lemmas.List.{get_or-append-add}
 use Rattle.std.proofs.lemmas.Bool.{eqb-true, eq-eqb, false≢true}
@@ -25,17 +25,17 @@ use Rattle.cluster_runs.specs.declared.move_outs.MoveOuts.{MoveOuts}
 use Rattle.cluster_runs.specs.Sent.{Connection, FirstTaken, Lane, Place}
 use Rattle.cluster_runs.specs.Machine.{Machine, Site, End, with_acts}
 use Rattle.cluster_runs.specs.Connections.{app_leaves, leaves_linked}
-use Rattle.cluster_runs.specs.Goes.{TickGoes, LookGoes, DieGoes, HaltGoes, dies, at_site, halted_site}
+use Rattle.cluster_runs.specs.Goes.{TickGoes, LookGoes, DieGoes, HaltGoes, dies, halted_site}
 use Rattle.cluster_invariant.specs.Orders.{OrdersAgree}
 use Rattle.cluster_invariant.specs.Ends.{EndsAre, AppTold, ToldPlace}
 use Rattle.cluster_invariant.specs.Dials.{DialsAre, ConnectionIs, FirstIs}
 use Rattle.cluster_invariant.specs.Link.{LinkHolds, NodeLink, AppWay, DownBy, DownWhole}
 use Rattle.cluster_invariant.specs.Words.{stays_at}
-use Rattle.cluster_invariant.specs.Holds.{SiteHolds, Holds}
+use Rattle.cluster_invariant.specs.Holds.{Holds}
 use Rattle.cluster_invariant.proofs.Small.{some_kept, at_places}
 use Rattle.cluster_invariant.proofs.Frame.{kept_by_tick, others_left}
 use Rattle.link_kept.proofs.Later.{Later, front_same}
-use Rattle.link_kept.proofs.AppLater.{Untold, WholeStays, CountStays, LaneLater, same_lane, down_later, app_later}
+use Rattle.link_kept.proofs.AppLater.{WholeStays, CountStays, LaneLater, same_lane, down_later, app_later}
 use Rattle.link_kept.proofs.NodeBeside.{Quiet, Quietly, quiet_untold, some_quiet, with_ends, node_beside}
 
 -- what is on its way at each data server

@@ -1,7 +1,7 @@
 -- What a data server puts to and takes from sessions fits, by what is known of its connections, and by what is left to other parts.
-use Rattle.std.proofs.Common.{◌≡◌, ◌≢◌, ◌≤◌, ◌<◌, ℕ, zero, suc, ◌+◌, Bool, true, false, List, [], ◌∷◌, ◌++◌, length, drop, take, Option, Some, None, is_some, refl, sym, ◌∙◌, ap, subst, arith}
-use Rattle.std.specs.Prelude.{⊤, ◌==◌, ◌||◌}
-use Rattle.std.specs.List.{AllByRecursion, list_any}
+use Rattle.std.proofs.Common.{◌≡◌, ◌≢◌, ◌≤◌, ◌<◌, ℕ, zero, suc, ◌+◌, Bool, true, false, List, [], ◌∷◌, length, drop, take, Option, Some, None, is_some, refl, sym, ◌∙◌, ap, arith}
+use Rattle.std.specs.Prelude.{⊤, ◌==◌}
+use Rattle.std.specs.List.{list_any}
 use Rattle.std.proofs.lemmas.Bool.{eqb-true, false≢true, true≢false}
 use Rattle.plain_orders.specs.declared.entry.Entry.{Entry}
 use Rattle.plain_orders.specs.declared.entry.Entry.TheVariants.{Update as UpdateEntry, Commit as CommitEntry, Rollback as RollbackEntry}
@@ -16,8 +16,6 @@ use Rattle.lock_table.specs.LockWords.{without_request}
 use Rattle.ecp_messages.specs.declared.up.Up.{Up}
 use Rattle.ecp_messages.specs.declared.up.Up.TheVariants as up
 use Rattle.ecp_messages.specs.declared.up.UpFrame.{UpFrame}
-use Rattle.data_rules.specs.DataState.{DataState}
-use Rattle.data_rules.specs.declared.data_in.DataIn.{DataIn}
 use Rattle.data_rules.specs.declared.data_in.DataIn.TheVariants as data_in
 use Rattle.data_rules.specs.declared.rows.Kind.TheVariants.{Numbered}
 use Rattle.data_rules.specs.declared.rows.Role.TheVariants.{Bound}
@@ -26,12 +24,12 @@ use Rattle.data_rules.specs.declared.rows.Says.TheVariants.{NewWelcome, EpochWel
 use Rattle.data_rules.specs.Conns.{role_of}
 use Rattle.data_rules.specs.Puts.{Sofar, conn_of}
 use Rattle.data_rules.specs.Frames.{kind_of}
-use Rattle.data_rules.specs.Saving.{has_item_of, part_saved}
+use Rattle.data_rules.specs.Saving.{has_item_of}
 use Rattle.cluster_runs.specs.Sent.{Lane}
 use Rattle.cluster_runs.specs.Machine.{Site}
 use Rattle.cluster_invariant.specs.Words.{is_begun}
 use Rattle.cluster_invariant.proofs.PieceKinds.{LockCall, Asks, Unlocks, Withdraws, GivesBack, ForgetsTicket, Claims, Cancels, Releases, Piece, Accepts, Forgets, Breaks, Dials, Waits, Opens, OpensNext, Resumes, GoesOn, ComesAgain, AwaitsReset, Closes, Acknowledges, Takes, TakesDone, Enters, Fetches, PutsNormal, PutsAck, Replies, Leaves, Bares, Locks, RoundEnds, Ticks}
-use Rattle.cluster_invariant.proofs.PieceMay.{Coming, Message, Asked, AnswersBy, RepliesMay, ComesAgainMay, PutsNormalMay, PutsAckMay, CallsMay, ClaimsMay, item_of}
+use Rattle.cluster_invariant.proofs.PieceMay.{Coming, Message, Asked, AnswersBy, RepliesMay, ComesAgainMay, PutsNormalMay, CallsMay, ClaimsMay, item_of}
 use Rattle.cluster_invariant.proofs.Pieces.{MayMake}
 use Rattle.link_kept.proofs.LockWaits.{IsAlone}
 use Rattle.link_kept.proofs.LockSessions.{RequestsOf}

@@ -1,7 +1,6 @@
 -- Each small change of a data server's step keeps its windows, if the sessions that it puts to are served.
-use Rattle.std.proofs.Common.{◌≡◌, ◌≢◌, ◌≤◌, ℕ, ◌+◌, Bool, true, false, List, [], ◌∷◌, ◌++◌, length, filter, Option, Some, None, is_some, refl, sym, ◌∙◌, ap, subst, arith}
+use Rattle.std.proofs.Common.{◌≡◌, ◌≢◌, ◌≤◌, ℕ, ◌+◌, Bool, true, false, List, [], ◌∷◌, ◌++◌, length, Option, Some, None, refl, sym, ◌∙◌, ap, subst}
 use Rattle.std.specs.Prelude.{⊤, ◌==◌, not}
-use Rattle.std.specs.List.{AllByRecursion, list_any}
 use Rattle.std.proofs.lemmas.Bool.{eq-eqb, true≢false}
 use Rattle.plain_orders.specs.declared.causes.ShutCause.{ShutCause}
 use Rattle.plain_orders.specs.declared.causes.ShutCause.TheVariants.{Trouble, Replaced, Round}
@@ -14,35 +13,31 @@ use Rattle.ecp_messages.specs.declared.down.Down.{Down}
 use Rattle.ecp_messages.specs.declared.down.Down.TheVariants as down
 use Rattle.ecp_messages.specs.declared.up.Up.{Up}
 use Rattle.ecp_messages.specs.declared.up.Up.TheVariants.{Hello, Recover, Update, Add, Fetch, Ask, Unlock, Cancel, Commit, Rollback, Sync, Done, Claim, Bare}
-use Rattle.ecp_messages.specs.declared.up.UpFrame.{UpFrame}
-use Rattle.end_words.specs.Windows.{Window, fresh, resent, with_ack, with_taken}
+use Rattle.end_words.specs.Windows.{fresh, resent, with_ack, with_taken}
 use Rattle.lock_table.specs.LockWords.{Freed, asked, freed, without_request, without_grant, without_session}
 use Rattle.block_holders.specs.declared.noted.Noted.{Noted}
 use Rattle.block_holders.specs.HolderWords.{is_noted_elsewhere, forgotten}
 use Rattle.data_rules.specs.DataState.{DataState, SessionWindow}
 use Rattle.data_rules.specs.declared.rows.LiveEnd.{LiveEnd}
-use Rattle.data_rules.specs.declared.rows.Reply.{Reply}
 use Rattle.data_rules.specs.declared.rows.Says.{Says}
 use Rattle.data_rules.specs.declared.rows.Says.TheVariants.{NewWelcome, EpochWelcome, ResetOf, GrantOf, AnswerOf}
-use Rattle.data_rules.specs.Puts.{Sofar, head_of, set_window, becomes, writes, tells, puts, conn_of, window_in, window_of, is_window_elsewhere}
+use Rattle.data_rules.specs.Puts.{Sofar, head_of, set_window, becomes, writes, tells, puts, conn_of, window_in, window_of}
 use Rattle.data_rules.specs.Leaving.{leaves, new_welcome, epoch_welcome}
-use Rattle.data_rules.specs.Entering.{appends, enters}
+use Rattle.data_rules.specs.Entering.{enters}
 use Rattle.data_rules.specs.Granting.{frees, locks_become}
 use Rattle.data_rules.specs.Conns.{link_of, is_normal, without_conn, breaks_if, end_breaks, drops_conn}
 use Rattle.data_rules.specs.Closing.{silenced}
 use Rattle.data_rules.specs.Opening.{opens, live_ends}
-use Rattle.data_rules.specs.Callers.{is_let_in, waiting_conn, sends_again, goes_on, old_welcome}
+use Rattle.data_rules.specs.Callers.{is_let_in, waiting_conn, sends_again, old_welcome}
 use Rattle.cluster_runs.specs.Sent.{Lane}
 use Rattle.cluster_invariant.specs.Link.{LaneCounts}
-use Rattle.cluster_invariant.specs.Words.{is_begun}
 use Rattle.cluster_invariant.proofs.AllLists.{all_filtered, all_follow, all_both, all_passed}
-use Rattle.cluster_invariant.proofs.ConnRoles.{dropped_order}
-use Rattle.cluster_invariant.proofs.PutLaws.{OnlyLocks, only_locks, appends_state}
+use Rattle.cluster_invariant.proofs.PutLaws.{only_locks, appends_state}
 use Rattle.cluster_invariant.proofs.PiecesOfRounds.{ends_aside}
 use Rattle.cluster_invariant.proofs.PieceKinds.{Ending, There, Here, LockCall, Asks, Unlocks, Withdraws, GivesBack, ForgetsTicket, Claims, Cancels, Releases, Piece, Accepts, Forgets, Breaks, Dials, Waits, Opens, OpensNext, Resumes, GoesOn, ComesAgain, AwaitsReset, Closes, Acknowledges, Takes, TakesDone, Enters, Fetches, PutsNormal, PutsAck, Replies, Leaves, Bares, Locks, RoundEnds, Ticks, cuts_if, calls, parts_from, with_close, shuts, next_caller, ends_back, round_over, with_replies, makes}
 use Rattle.cluster_invariant.proofs.PieceMay.{Coming, item_of}
 use Rattle.cluster_invariant.proofs.Pieces.{MayMake}
-use Rattle.link_kept.proofs.WindowsGo.{Grown, WindowsGo, WindowsGoOn, Served, AllServed, IsStill, grown_fresh, grown_ack, grown_taken, set_go, tells_go, puts_go, appends_go, still_live, open_live, opened_live, other_live, still_windows, open_windows, close_windows}
+use Rattle.link_kept.proofs.WindowsGo.{WindowsGo, WindowsGoOn, Served, AllServed, IsStill, grown_fresh, grown_ack, grown_taken, set_go, tells_go, puts_go, appends_go, still_live, open_live, opened_live, other_live, still_windows, open_windows, close_windows}
 
 -- What is known of the sessions of a reply that leaves.
 abbrev pub SaysServed : (ℕ → Lane) → List Entry → Says → Type 0

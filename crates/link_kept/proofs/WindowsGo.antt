@@ -6,21 +6,20 @@ use Rattle.std.proofs.lemmas.Bool.{eqb-true, eq-eqb, ne_eqb, true≢false, false
 use Rattle.std.proofs.lemmas.List.{drop-append-le, append_assoc, length-append, drop-drop}
 use Rattle.plain_orders.specs.declared.entry.Entry.{Entry}
 use Rattle.plain_orders.specs.declared.entry.Entry.TheVariants.{Epoch, Opened, Closed, Update, Commit, Rollback}
-use Rattle.plain_orders.specs.Entries.{live, live_session}
+use Rattle.plain_orders.specs.Entries.{live}
 use Rattle.plain_orders.proofs.EntryLemmas.{live-push}
 use Rattle.ecp_messages.specs.declared.down.Down.{Down}
 use Rattle.ecp_messages.specs.declared.up.Up.{Up}
-use Rattle.ecp_messages.specs.declared.down.Down.TheVariants as down
 use Rattle.end_words.specs.Windows.{Window, fresh, with_sent, with_ack, with_taken, with_ack_put}
 use Rattle.block_holders.specs.declared.noted.Noted.{Noted}
 use Rattle.block_holders.specs.HolderWords.{touched, is_touched}
 use Rattle.data_rules.specs.DataState.{DataState, SessionWindow}
-use Rattle.data_rules.specs.Puts.{Sofar, becomes, tells, puts, window_in, set_window, window_of, is_window_elsewhere, conn_of}
+use Rattle.data_rules.specs.Puts.{Sofar, becomes, tells, puts, window_in, set_window, is_window_elsewhere, conn_of}
 use Rattle.data_rules.specs.Entering.{appends, drops, drops_one, with_entry, spans_of}
 use Rattle.cluster_runs.specs.Sent.{Lane}
 use Rattle.cluster_invariant.specs.Link.{LaneCounts, is_numbered_down, is_window_of, whose}
 use Rattle.cluster_invariant.specs.Words.{all_differ, is_begun}
-use Rattle.cluster_invariant.proofs.AllLists.{all_filtered, all_follow}
+use Rattle.cluster_invariant.proofs.AllLists.{all_filtered}
 use Rattle.cluster_invariant.proofs.PutLaws.{windows_put, puts_state, only_puts}
 use Rattle.link_kept.proofs.WindowLists.{set_here, set_elsewhere, set_others, set_differ, gone_elsewhere, gone_there, gone_differ, none_there}
 

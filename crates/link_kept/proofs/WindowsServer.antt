@@ -1,8 +1,6 @@
 -- The windows of a data server and the lanes of its sessions, after each of its steps.
-use Rattle.std.proofs.Common.{◌≡◌, ◌≢◌, ◌⊎◌, inl, inr, ℕ, ◌+◌, Bool, true, false, if◌then◌else◌, List, [], ◌∷◌, Option, Some, None, refl, sym, ◌∙◌, ap, subst}
-use Rattle.std.specs.Prelude.{◌==◌}
-use Rattle.std.proofs.lemmas.Bool.{eqb-true, eq-eqb, ne_eqb, false≢true}
-use Rattle.plain_orders.specs.declared.entry.Entry.{Entry}
+use Rattle.std.proofs.Common.{◌≡◌, ◌≢◌, ◌⊎◌, inl, inr, ℕ, Bool, if◌then◌else◌, List, [], ◌∷◌, refl, sym, ◌∙◌, ap, subst}
+use Rattle.std.proofs.lemmas.Bool.{eq-eqb, ne_eqb}
 use Rattle.plain_orders.specs.Entries.{live}
 use Rattle.data_rules.specs.DataState.{DataState}
 use Rattle.data_rules.specs.declared.data_in.DataIn.{DataIn}
@@ -14,11 +12,11 @@ use Rattle.cluster_runs.specs.Sent.{Lane}
 use Rattle.cluster_runs.specs.Machine.{Site}
 use Rattle.cluster_runs.specs.Lanes.{with_data_step}
 use Rattle.cluster_runs.specs.Connections.{leaves_conn, leaves_conns, hears_downs}
-use Rattle.cluster_runs.specs.Goes.{server_takes, server_site, with_node, with_hellos}
+use Rattle.cluster_runs.specs.Goes.{server_takes, server_site, with_node}
 use Rattle.cluster_invariant.specs.Link.{LaneCounts, NodeWindows, WindowIs}
 use Rattle.cluster_invariant.proofs.PieceKinds.{Piece, makes}
 use Rattle.cluster_invariant.proofs.PieceMay.{Coming, begins}
-use Rattle.cluster_invariant.proofs.Pieces.{MayMake, Pieced, kept_by_pieces}
+use Rattle.cluster_invariant.proofs.Pieces.{MayMake, kept_by_pieces}
 use Rattle.cluster_invariant.proofs.PiecesOfSteps.{StepFrom, step_pieces}
 use Rattle.link_kept.proofs.WindowsGo.{WindowsGo, WindowsGoOn, AllServed, same_or}
 use Rattle.link_kept.proofs.WindowPieces.{PutsWell, windows_piece}
