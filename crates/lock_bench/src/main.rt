@@ -10,12 +10,7 @@ use std::env;
 use subscript_keys::KeyBytes;
 
 /// A session's request with a ticket, for a name in exclusive mode.
-fn request_of(
-    alloc: Global,
-    session: u64,
-    ticket: u32,
-    name: &str,
-) -> Result<Request, AllocError> {
+fn request_of(alloc: Global, session: u64, ticket: u32, name: &str) -> Result<Request, AllocError> {
     Ok(Request {
         who: Who { session, job: 0 },
         ticket,
@@ -76,7 +71,10 @@ fn main(rt: HostRuntime) -> Result<()> {
     let [holds, rounds] = words.as_slice() else {
         bail!("usage: lock_bench HOLDS ROUNDS");
     };
-    let (Ok(holds), Ok(rounds)) = (holds.as_str().parse::<u32>(), rounds.as_str().parse::<u32>()) else {
+    let (Ok(holds), Ok(rounds)) = (
+        holds.as_str().parse::<u32>(),
+        rounds.as_str().parse::<u32>(),
+    ) else {
         bail!("usage: lock_bench HOLDS ROUNDS");
     };
     let mut table = LockTable::new(alloc);
