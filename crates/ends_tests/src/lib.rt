@@ -11,3 +11,5 @@ mod locks;
 mod rounds;
 #[cfg(test)]
 mod texts;
+#[cfg(test)]
+mod tickets;

@@ -54,6 +54,13 @@ conflict 2 0 exclusive a 3 0 shared ab = true
 conflict 2 0 shared a 3 0 shared ab = false
 conflict 2 0 exclusive a 2 0 shared ab = false
 conflict 2 0 exclusive ab 3 0 exclusive ac = false
+# Of the holds that bar a claim the first by its grant is told, whatever its name. A name beside it bars nothing.
+claim 20 0 exclusive xyz 1 2 = claimed
+claim 21 0 exclusive xa 1 2 = claimed
+claim 22 0 exclusive x 1 2 = conflict 20 0
+ask 22 0 1 exclusive xb 20 = granted
+ask 22 1 2 exclusive xyzw 20 = waits
+free 20 0 exclusive xyz 21 = 22.2
 ";
 
 #[test]

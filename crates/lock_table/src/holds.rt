@@ -2,7 +2,7 @@ ghost use Rattle.std.specs.Prelude.{◌≡◌, ℕ, ◌+◌, ◌<◌, ◌^◌, [
 ghost use Rattle.std.specs.List.{find, list_any};
 ghost use Rattle.lock_index.specs.IndexWords.{passes_at};
 ghost use Rattle.lock_table.specs.LockWords.{is_barred, holds_it, is_lane, raised, lowered, is_hold_elsewhere};
-ghost use Rattle.lock_table.specs.Counts.{held_count, is_of_holder, count_in};
+ghost use Rattle.lock_table.specs.Counts.{held_count, count_in};
 ghost use Rattle.lock_table.specs.HoldIndex.{weight_at};
 
 use crate::barring::Barring;
@@ -83,16 +83,6 @@ impl Holds {
             }
         }
         Ok(None)
-    }
-
-    /// Whether the holder has this very name, in either mode.
-    #[tactic(auto, using(crate::proofs::HoldLemmas::in_either_mode))]
-    pub fn have_name(&self, who: Who, name: &KeyBytes) -> bool
-        ensures { result ≡ list_any (is_of_holder who name.now) self.now }
-    {
-        let exclusive = self.have(who, name, Mode::Exclusive);
-        let shared = self.have(who, name, Mode::Shared);
-        exclusive || shared
     }
 
     /// Whether the holder has this name in this mode.

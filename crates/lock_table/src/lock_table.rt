@@ -285,7 +285,9 @@ fn waits(holds: &Holds, earlier: &[Request], request: &Request) -> Result<bool, 
     if bars {
         return Ok(true);
     }
-    if holds.have_name(request.who, &request.name) {
+    let exclusive = holds.have(request.who, &request.name, Mode::Exclusive);
+    let shared = holds.have(request.who, &request.name, Mode::Shared);
+    if exclusive || shared {
         return Ok(false);
     }
     Ok(is_behind(request, earlier))
