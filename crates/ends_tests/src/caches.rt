@@ -27,6 +27,16 @@ cover a = none
 cover c = four
 clear =
 cover c = none
+# A run within another one, and one that holds others: the first of those that cover counts.
+block a z wide =
+block f g within =
+block m n other =
+peek f = within
+cover b = wide
+peek f = wide
+drop m n =
+peek f = within
+peek b = none
 ";
 
 #[test]

@@ -28,6 +28,17 @@ forget 7 =
 touched c d =
 touched a a =
 touched b c = 8:a
+# A span within another one is found, and so is one that holds others; what is empty meets nothing.
+note 1 a z =
+note 2 f g =
+note 3 m m =
+note 4 c d =
+note 5 c k =
+touched m n = 1:a
+touched f g = 2:f 5:c
+touched l n =
+touched a z = 4:c
+forget 3 =
 ";
 
 #[test]
