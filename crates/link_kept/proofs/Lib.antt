@@ -23,3 +23,5 @@ pub mod CancelWaits
 pub mod CloseRequests
 pub mod HelloRequests
 pub mod ServesKept
+pub mod EpochsLast
+pub mod StartsKept

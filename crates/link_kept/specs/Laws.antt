@@ -1,12 +1,17 @@
 -- Moves that keep what is on its way, where the invariant holds before them.
 use Rattle.std.specs.Prelude.{ℕ, List}
 use Rattle.plain_orders.specs.declared.act.Act.{Act}
+use Rattle.plain_orders.specs.declared.entry.Entry.{Entry}
 use Rattle.plain_orders.specs.declared.layout.Layout.{Layout}
 use Rattle.plain_runs.specs.Run.{IsRun, state_after}
 use Rattle.app_job.specs.Sites.{Site as Target}
 use Rattle.cluster_runs.specs.declared.move_outs.MoveOuts.{MoveOuts}
 use Rattle.cluster_runs.specs.Machine.{Machine}
-use Rattle.cluster_runs.specs.Goes.{LookGoes, DieGoes, HaltGoes, TickGoes}
+use Rattle.cluster_runs.specs.declared.moves.Move.TheVariants.{Begin}
+use Rattle.cluster_runs.specs.CoresState.{CoresState}
+use Rattle.cluster_runs.specs.Mirrors.{Mirrors}
+use Rattle.cluster_runs.specs.Moves.{Allowed}
+use Rattle.cluster_runs.specs.Goes.{BeginGoes, LookGoes, DieGoes, HaltGoes, TickGoes}
 use Rattle.cluster_invariant.specs.Holds.{Holds}
 use Rattle.cluster_invariant.specs.Link.{LinkHolds}
 
@@ -30,3 +35,8 @@ DeathsKeepLinks = (l : Layout) (m : Machine) (app : ℕ) (outs : MoveOuts) (writ
 -- And a halt of a data server.
 abbrev pub HaltsKeepLinks : Type 0
 HaltsKeepLinks = (l : Layout) (m : Machine) (server : ℕ) (outs : MoveOuts) (written : List Act) (new : Machine) → Holds l m → IsRun l m.trail → HaltGoes m server outs written new → EachLinkHolds l new
+
+-- And each start of one.
+abbrev pub StartsKeepLinks : Type 0
+StartsKeepLinks = (l : Layout) (c : CoresState) (m : Machine) (server now : ℕ) (entries : List Entry) (outs : MoveOuts) (written : List Act) (new : Machine)
+    → Holds l m → IsRun l m.trail → Mirrors c m → Allowed c (Begin server now entries) → BeginGoes m server now entries outs written new → EachLinkHolds l new
