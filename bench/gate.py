@@ -108,10 +108,12 @@ def table(crates, found, took):
 def times_line(took):
     if not took:
         return "Which crate takes how many minutes wasn't measured for this page (`bench/gate.py watch`)."
-    clock = f" It took {minutes(took['clock'])} minutes by the clock." if "clock" in took else ""
+    what = "of a crate its proofs, its must-fail edits and the proofs of its tests"
+    if "clock" not in took:
+        return f"The processor minutes are those of several runs, each of what was new: {what}."
     return (
-        "The processor minutes are those of one run: of a crate its proofs, its must-fail edits and the proofs of its tests, "
-        f"and in the last row also what belongs to no crate.{clock}"
+        f"The processor minutes are those of one run: {what}, and in the last row also what belongs to no crate. "
+        f"It took {minutes(took['clock'])} minutes by the clock."
     )
 
 
