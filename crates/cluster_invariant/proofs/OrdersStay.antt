@@ -1,7 +1,7 @@
 -- In each run each order goes on from the one before it, and what stays of one order stands at its place in each later one.
-use Rattle.std.proofs.Common.{◌≡◌, ◌≢◌, ◌<◌, ◌≤◌, ◌+◌, ◌-◌, ◌⊎◌, ℕ, zero, suc, Bool, true, false, List, [], ◌∷◌, ◌++◌, length, take, get_or, Option, Some, None, refl, sym, ◌∙◌, ap, subst, inl, inr, eqb, arith, if◌then◌else◌, ◌==◌, append-nil, min}
-use Rattle.std.proofs.lemmas.Bool.{cases_lt, eq-eqb, ne_eqb, false≢true}
-use Rattle.std.proofs.lemmas.List.{get_or_append_left, get_or-append-add, take-append-le, take-take, length-take-le, length-append, append_assoc}
+use Rattle.std.proofs.Common.{◌≡◌, ◌<◌, ◌≤◌, ◌+◌, ◌-◌, ◌⊎◌, ℕ, zero, suc, Bool, true, false, List, [], ◌∷◌, ◌++◌, length, take, get_or, Some, refl, sym, ◌∙◌, ap, subst, inl, inr, arith, if◌then◌else◌, ◌==◌, append-nil}
+use Rattle.std.proofs.lemmas.Bool.{cases_lt, eq-eqb, ne_eqb}
+use Rattle.std.proofs.lemmas.List.{get_or_append_left, get_or-append-add, take-append-le, take-take, length-take-le, length-append}
 use Rattle.plain_orders.specs.declared.act.Act.{Act}
 use Rattle.plain_orders.specs.declared.act.Act.TheVariants as act
 use Rattle.plain_orders.specs.declared.entry.Entry.{Entry}
@@ -18,9 +18,8 @@ use Rattle.plain_runs.proofs.OrderLaws.{orders_kept}
 use Rattle.plain_runs.proofs.Ordered.{each_is_ordered}
 use Rattle.plain_runs.proofs.RunLemmas.{at_put, run_more, after_all-more}
 use Rattle.data_rules.specs.Places.{epoch_place}
-use Rattle.cluster_invariant.specs.Orders.{KeptAlike, OrdersAgree}
+use Rattle.cluster_invariant.specs.Orders.{OrdersAgree}
 use Rattle.cluster_invariant.specs.Words.{stays_at}
-use Rattle.cluster_invariant.proofs.Deeds.{IsEntered}
 use Rattle.cluster_invariant.proofs.OrderBeside.{SameOrders, leaves_orders, row_same}
 use Rattle.cluster_invariant.proofs.Written.{next_place, entered_place, closed_place}
 

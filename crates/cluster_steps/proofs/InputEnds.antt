@@ -23,7 +23,7 @@ use Rattle.app_rules.specs.Losing.{broken, without_session, tries_when, ticks_tr
 use Rattle.cluster_steps.proofs.EndSteps.{Here, here_same, then_becomes, then_writes, then_connects, then_frames, then_tells, then_happens}
 use Rattle.cluster_steps.proofs.FrameEnds.{ended_from, ended_acts, then_broken}
 use Rattle.std.proofs.lemmas.List.{get_or_past}
-use Rattle.std.proofs.lemmas.Bool.{false≢true, ltb-true, ltb-false}
+use Rattle.std.proofs.lemmas.Bool.{ltb-true, ltb-false}
 
 -- a connection is there
 

@@ -5,7 +5,7 @@ use Rattle.std.proofs.lemmas.List.{append-nil, append_assoc}
 use Rattle.plain_orders.specs.declared.act.Act.{Act}
 use Rattle.ecp_messages.specs.declared.up.Up.{Up}
 use Rattle.end_words.specs.Windows.{with_sent}
-use Rattle.app_rules.specs.Works.{Sofar, writes, tells_if, tries_if, sets, end_at, with_window, is_joined, is_apart}
+use Rattle.app_rules.specs.Works.{Sofar, tells_if, tries_if, sets, end_at, with_window, is_joined, is_apart}
 use Rattle.cluster_steps.proofs.JobPieces.{JobPiece, GoesOn, MayMake, AllMay, IsOfJob, made_by, all_made}
 use Rattle.cluster_steps.proofs.JobPieces.JobPiece.{Writes, Tries, Notes, Tickets, Puts}
 

@@ -1,5 +1,5 @@
 -- What an input tells an application server's ends: nothing new, a new session, or a new epoch of the one that it has.
-use Rattle.std.proofs.Common.{◌≡◌, ◌≢◌, ◌⊎◌, ◌<◌, ℕ, Bool, true, false, List, [], ◌∷◌, length, Option, Some, None, option_map, refl, sym, ◌∙◌, ap, subst, inl, inr, eqb, ℤ}
+use Rattle.std.proofs.Common.{◌≡◌, ◌⊎◌, ◌<◌, ℕ, Bool, true, false, List, [], ◌∷◌, length, Option, Some, None, option_map, refl, sym, ◌∙◌, ap, subst, inl, inr, eqb, ℤ}
 use Rattle.std.specs.List.{range_with_len}
 use Rattle.std.specs.Prelude.{IfSome, nat_le}
 use Rattle.std.proofs.lemmas.Bool.{eqb-true, eq-eqb, false≢true}
@@ -19,7 +19,7 @@ use Rattle.app_rules.specs.declared.app_in.AppIn.{AppIn}
 use Rattle.app_rules.specs.declared.app_in.AppIn.TheVariants as app_in
 use Rattle.app_rules.specs.declared.line.Line.{Line}
 use Rattle.app_rules.specs.declared.line.Line.TheVariants.{Apart, Trying, Greeting, Asking, Joined}
-use Rattle.app_rules.specs.AppState.{AppState, AppEnd, Session}
+use Rattle.app_rules.specs.AppState.{AppEnd, Session}
 use Rattle.app_rules.specs.AppStep.{AppMay, Makes}
 use Rattle.app_rules.specs.Delivering.{with_answer}
 use Rattle.app_rules.specs.Downs.{took}
@@ -27,12 +27,11 @@ use Rattle.app_rules.specs.Laws.{KeepsOthers, named_by}
 use Rattle.app_rules.specs.Losing.{ticks, ticks_from}
 use Rattle.app_rules.specs.Works.{Sofar, end_at, with_window, is_apart}
 use Rattle.app_rules.proofs.OneEnd.{one_ticks_from}
-use Rattle.cluster_steps.proofs.AppPlaces.{at_end}
-use Rattle.cluster_steps.proofs.EndSteps.{Here, session_put}
+use Rattle.cluster_steps.proofs.EndSteps.{session_put}
 use Rattle.cluster_steps.proofs.FrameCases.{LineHas, frame_came}
 use Rattle.cluster_steps.proofs.FrameEnds.{FrameCame, NumberedCame, MetNew, Learnt, Delivered, ended_from}
-use Rattle.cluster_steps.proofs.InputEnds.{ConnectedCame, connected_came, failed_end, failed_came, broken_came, rejoined, joined_came, ticked_from, ticked_here, tried, tried_if, troubled, trouble_here}
-use Rattle.cluster_steps.proofs.JobEnds.{Grew, EndGrows, SessionsGrow}
+use Rattle.cluster_steps.proofs.InputEnds.{ConnectedCame, connected_came, failed_end, failed_came, broken_came, rejoined, joined_came, ticked_from, ticked_here, tried_if, troubled, trouble_here}
+use Rattle.cluster_steps.proofs.JobEnds.{Grew, SessionsGrow}
 
 -- a session goes on, or is lost
 abbrev pub SessionKept : Option Session → Option Session → Type 0

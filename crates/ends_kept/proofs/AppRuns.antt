@@ -1,21 +1,19 @@
 -- The acts that an application server's step writes may come in the plain machine, one after the other.
 use Rattle.std.proofs.Common.{◌≡◌, ◌⊎◌, ◌<◌, ◌≤◌, ℕ, Bool, true, false, List, [], ◌∷◌, ◌++◌, length, Option, Some, None, option_map, is_some, refl, sym, ◌∙◌, ap, subst, inl, inr}
-use Rattle.std.specs.Prelude.{nat_le, IfSome, unwrap_or}
-use Rattle.std.specs.List.{AllByRecursion, range_with_len}
+use Rattle.std.specs.Prelude.{nat_le, unwrap_or}
+use Rattle.std.specs.List.{range_with_len}
 use Rattle.std.proofs.lemmas.Bool.{false≢true, leb-true}
-use Rattle.std.proofs.lemmas.List.{append-nil}
 use Rattle.plain_orders.specs.declared.act.Act.{Act}
 use Rattle.plain_orders.specs.declared.act.Act.TheVariants as act
-use Rattle.plain_orders.specs.declared.causes.Loss.{Loss}
 use Rattle.plain_orders.specs.declared.causes.Loss.TheVariants as losses
 use Rattle.plain_orders.specs.declared.causes.PairEnd.TheVariants as ends
 use Rattle.plain_orders.specs.declared.layout.Layout.{Layout}
 use Rattle.plain_orders.specs.declared.layout.Times.{Times}
 use Rattle.plain_orders.specs.Times.{until}
-use Rattle.plain_runs.specs.Plain.{Plain, Server, Pair, start}
+use Rattle.plain_runs.specs.Plain.{Plain, Pair, start}
 use Rattle.plain_runs.specs.EndRows.{MetMay, ToldMay, LoseResetMay}
 use Rattle.plain_runs.specs.Run.{IsRun, RunFrom, after_all, state_after}
-use Rattle.plain_runs.specs.Step.{after, MayCome}
+use Rattle.plain_runs.specs.Step.{MayCome}
 use Rattle.plain_runs.proofs.RunLemmas.{run_joined, after_all-append}
 use Rattle.link_states.specs.declared.app_link.AppLink.{AppLink}
 use Rattle.link_states.specs.declared.app_link.AppLink.TheVariants.{NotConnected, Normal as NormalLink, Trouble, Recovery}
@@ -29,10 +27,8 @@ use Rattle.app_rules.specs.declared.line.Line.{Line}
 use Rattle.app_rules.specs.declared.line.Line.TheVariants.{Apart, Trying, Greeting, Asking, Joined}
 use Rattle.app_rules.specs.AppState.{AppState, AppEnd, Session}
 use Rattle.app_rules.specs.AppStep.{AppMay, Makes, made}
-use Rattle.app_rules.specs.Laws.{named_by, KeepsOthers}
 use Rattle.app_rules.specs.Losing.{ticks, ticks_from}
 use Rattle.app_rules.specs.Works.{Sofar, end_at, begun}
-use Rattle.app_rules.proofs.StepLaws.{steps_at_one_end}
 use Rattle.cluster_runs.specs.CoresState.{CoresState}
 use Rattle.cluster_runs.specs.declared.move_outs.MoveOuts.{MoveOuts}
 use Rattle.cluster_runs.specs.declared.moves.Move.TheVariants.{App}
@@ -44,7 +40,7 @@ use Rattle.cluster_invariant.specs.Ends.{AppTables, stands, has_session, broke_i
 use Rattle.cluster_invariant.specs.Holds.{Holds}
 use Rattle.cluster_steps.proofs.AppSites.{app_ends}
 use Rattle.cluster_steps.proofs.EndSteps.{Here}
-use Rattle.cluster_steps.proofs.FrameEnds.{FrameCame, NumberedCame, EndsIt, ended_acts}
+use Rattle.cluster_steps.proofs.FrameEnds.{FrameCame, NumberedCame, ended_acts}
 use Rattle.cluster_steps.proofs.FrameCases.{frame_came}
 use Rattle.cluster_steps.proofs.InputEnds.{ConnectedCame, connected_came, failed_acts, failed_came, broken_came, joined_came, lost_if, ticked_from, ticked_acts, ticked_here, trouble_here}
 use Rattle.ends_kept.proofs.PairTables.{line_has}

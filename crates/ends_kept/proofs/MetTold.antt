@@ -1,22 +1,21 @@
 -- The acts of Welcomes and Resets may come: what they say stands in the plain machine.
-use Rattle.std.proofs.Common.{◌≡◌, ◌⊎◌, ◌<◌, ◌≤◌, ℕ, Bool, true, false, List, [], ◌∷◌, ◌++◌, length, Option, Some, None, option_map, is_some, refl, sym, ◌∙◌, ap, subst, inl, inr, arith}
-use Rattle.std.specs.Prelude.{IfSome, IsSomeAnd, unwrap_or, take, get_or}
+use Rattle.std.proofs.Common.{◌≡◌, ◌⊎◌, ◌<◌, ◌≤◌, ℕ, true, false, List, [], ◌∷◌, ◌++◌, Option, Some, None, option_map, is_some, refl, sym, ◌∙◌, ap, subst, inl, inr, arith}
+use Rattle.std.specs.Prelude.{IfSome, IsSomeAnd, unwrap_or, get_or}
 use Rattle.std.specs.List.{list_all}
 use Rattle.std.proofs.lemmas.Bool.{false≢true, and_parts}
 use Rattle.std.proofs.lemmas.List.{get_or-append-add}
 use Rattle.plain_orders.specs.declared.entry.Entry.{Entry}
 use Rattle.plain_orders.specs.declared.entry.Entry.TheVariants.{Opened, Closed}
 use Rattle.plain_orders.specs.declared.layout.Layout.{Layout}
-use Rattle.plain_orders.specs.declared.act.Act.{Act}
 use Rattle.plain_orders.specs.Entries.{entry_at, last_epoch}
 use Rattle.plain_orders.specs.Sessions.{place_of_epoch}
-use Rattle.plain_runs.specs.Plain.{Plain, Server, Pair, Session as PlainSession, Entered, current, order_at, orders, session_in, pair_session}
-use Rattle.plain_runs.specs.EndRows.{MetMay, ToldMay, LoseResetMay, begun_by, entered_in}
+use Rattle.plain_runs.specs.Plain.{Server, Pair, Session as PlainSession, Entered, current, order_at, orders, session_in}
+use Rattle.plain_runs.specs.EndRows.{MetMay, ToldMay, LoseResetMay, begun_by}
 use Rattle.plain_runs.specs.Run.{IsRun, state_after}
 use Rattle.link_states.specs.declared.app_link.AppLink.{AppLink}
 use Rattle.link_states.specs.declared.app_link.AppLink.TheVariants.{NotConnected, Normal as NormalLink, Trouble, Recovery}
 use Rattle.ecp_messages.specs.declared.down.Down.{Down}
-use Rattle.ecp_messages.specs.declared.down.Down.TheVariants.{Welcome, Reset, Block, Drop, Ack, Grant, Answer, Normal, Bare}
+use Rattle.ecp_messages.specs.declared.down.Down.TheVariants.{Welcome, Reset}
 use Rattle.ecp_messages.specs.declared.down.DownFrame.{DownFrame}
 use Rattle.ecp_messages.specs.declared.front.Front.{Front}
 use Rattle.app_rules.specs.declared.line.Line.{Line}
@@ -25,9 +24,9 @@ use Rattle.app_rules.specs.AppState.{AppEnd, Session}
 use Rattle.cluster_runs.specs.Machine.{Machine, Site, End}
 use Rattle.cluster_runs.specs.Sent.{Connection, Place, FirstTaken}
 use Rattle.cluster_invariant.specs.Dials.{ConnectionIs, FirstIs}
-use Rattle.cluster_invariant.specs.Ends.{AppTables, AppTold, ToldPlace, number_of, has_session, stands}
+use Rattle.cluster_invariant.specs.Ends.{AppTables, ToldPlace, number_of, has_session, stands}
 use Rattle.cluster_invariant.specs.Holds.{Holds}
-use Rattle.cluster_invariant.specs.Link.{AppWay, DownBy, GreetedWay, GreetedFirst, NewWelcomeOn, AskedWay, AskedFirst, SameWelcome, EpochWelcomeOn, ResetOn, ResetIs, JoinedWay, DownWay, EndsWith, WithSession, is_of_session, fits_down, is_in_recovery}
+use Rattle.cluster_invariant.specs.Link.{AppWay, DownBy, GreetedWay, GreetedFirst, NewWelcomeOn, AskedWay, AskedFirst, SameWelcome, EpochWelcomeOn, ResetOn, ResetIs, JoinedWay, EndsWith, WithSession, is_of_session, fits_down, is_in_recovery}
 use Rattle.cluster_invariant.specs.Words.{stays_at, downs_left}
 use Rattle.cluster_invariant.proofs.OrdersStay.{stays_synced, entry_stays}
 use Rattle.cluster_invariant.proofs.Small.{of_some}

@@ -1,5 +1,5 @@
 -- The order of each data server stays the plain one as application servers and their jobs step.
-use Rattle.std.proofs.Common.{◌≡◌, ◌≢◌, ◌⊎◌, ◌<◌, ◌≤◌, ◌+◌, ◌&&◌, ◌==◌, ℕ, Bool, true, false, not, List, [], ◌∷◌, ◌++◌, length, Option, Some, None, is_some, option_map, refl, sym, ◌∙◌, ap, subst, inl, inr, arith, eqb, if◌then◌else◌}
+use Rattle.std.proofs.Common.{◌≡◌, ◌≢◌, ◌<◌, ◌≤◌, ◌+◌, ◌&&◌, ◌==◌, ℕ, Bool, true, false, not, List, ◌++◌, Option, Some, None, is_some, option_map, refl, sym, ◌∙◌, ap, subst, inl, inr, arith, eqb, if◌then◌else◌}
 use Rattle.std.specs.Prelude.{IfSome, IsSomeAnd}
 use Rattle.std.specs.List.{AllByRecursion}
 use Rattle.std.proofs.lemmas.Bool.{eq-eqb, ne_eqb, false≢true}
@@ -13,34 +13,32 @@ use Rattle.plain_runs.proofs.RunLemmas.{after_all-append}
 use Rattle.ecp_messages.specs.declared.down.Down.{Down}
 use Rattle.ecp_messages.specs.declared.down.Down.TheVariants.{Welcome, Reset, Block, Drop, Ack, Grant, Answer, Normal, Bare}
 use Rattle.ecp_messages.specs.declared.down.DownFrame.{DownFrame}
-use Rattle.ecp_messages.specs.declared.front.Front.{Front}
 use Rattle.app_rules.specs.declared.app_in.AppIn.{AppIn}
 use Rattle.app_rules.specs.declared.app_in.AppIn.TheVariants as app_in
 use Rattle.app_rules.specs.declared.app_outs.AppOuts.{AppOuts}
 use Rattle.app_rules.specs.AppState.{AppState, AppEnd, Session}
 use Rattle.app_rules.specs.AppStep.{made}
 use Rattle.app_rules.specs.Looks.{Shown}
-use Rattle.app_rules.specs.Works.{Sofar, end_at, begun}
+use Rattle.app_rules.specs.Works.{end_at, begun}
 use Rattle.app_rules.proofs.StepLaws.{steps_at_one_end}
 use Rattle.cluster_runs.specs.CoresState.{CoresState}
 use Rattle.cluster_runs.specs.declared.move_outs.MoveOuts.{MoveOuts}
 use Rattle.cluster_runs.specs.declared.moves.Move.TheVariants.{App}
 use Rattle.cluster_runs.specs.Lanes.{its_of, told_by, is_told_new, with_app_step, sent_before}
 use Rattle.cluster_runs.specs.Connections.{ups_to, down_taken, at_number, with_connection, app_leaves}
-use Rattle.cluster_runs.specs.Goes.{AppGoes, app_site, app_end, app_takes, input_site, at_told, with_state, message_from, past_with}
+use Rattle.cluster_runs.specs.Goes.{AppGoes, app_end, app_takes, input_site, at_told, with_state, message_from, past_with}
 use Rattle.cluster_runs.specs.Machine.{Machine, Site, End, app_state, end_state, DataConnection}
 use Rattle.cluster_runs.specs.Mirrors.{Mirrors}
 use Rattle.cluster_runs.specs.Moves.{Allowed, AppTakes}
-use Rattle.cluster_runs.specs.Sent.{Connection, Lane, Place, no_lane}
-use Rattle.cluster_invariant.specs.Ends.{AppTold, ToldPlace}
+use Rattle.cluster_runs.specs.Sent.{Connection, Lane, Place}
+use Rattle.cluster_invariant.specs.Ends.{ToldPlace}
 use Rattle.cluster_invariant.specs.Holds.{Holds}
-use Rattle.cluster_invariant.specs.Orders.{OrderIs, disk_order, NodeOrder}
+use Rattle.cluster_invariant.specs.Orders.{OrderIs, NodeOrder}
 use Rattle.cluster_invariant.proofs.AppActs.{Leaves, app_step_leaves}
 use Rattle.cluster_invariant.proofs.OrderBeside.{SameOrders, rows_same, leaves_orders}
 use Rattle.cluster_invariant.proofs.OrderKept.{order_kept_beside}
 use Rattle.cluster_invariant.proofs.OrderMoves.{OrdersHold}
 use Rattle.cluster_steps.proofs.AppSites.{SameBeside, site_beside, app_ends}
-use Rattle.cluster_steps.proofs.FrameEnds.{MetNew, Learnt}
 use Rattle.cluster_steps.proofs.Outcomes.{EndKept, SessionKept, WelcomeTold, InputTold, input_told}
 use Rattle.ends_kept.proofs.MetTold.{new_on, epoch_on, EpochOn}
 use Rattle.ends_kept.proofs.PairTables.{line_has}

@@ -1,56 +1,30 @@
 -- The order of each data server stays the plain one over each command of a job.
-use Rattle.std.proofs.Common.{◌≡◌, ◌≢◌, ◌⊎◌, ◌<◌, ◌≤◌, ◌+◌, ◌&&◌, ◌==◌, ℕ, Bool, true, false, not, List, [], ◌∷◌, ◌++◌, length, Option, Some, None, is_some, option_map, refl, sym, ◌∙◌, ap, subst, inl, inr, arith, eqb, if◌then◌else◌}
-use Rattle.std.specs.Prelude.{IfSome, IsSomeAnd}
+use Rattle.std.proofs.Common.{◌≡◌, ◌<◌, ℕ, true, false, List, [], ◌∷◌, ◌++◌, None, is_some, refl, sym, ◌∙◌, ap, subst}
 use Rattle.std.specs.List.{AllByRecursion}
-use Rattle.std.proofs.lemmas.Bool.{eq-eqb, ne_eqb, false≢true}
+use Rattle.std.proofs.lemmas.Bool.{false≢true}
 use Rattle.plain_orders.specs.declared.act.Act.{Act}
 use Rattle.plain_orders.specs.declared.layout.Layout.{Layout}
-use Rattle.plain_orders.specs.declared.entry.Entry.{Entry}
-use Rattle.plain_runs.specs.Plain.{Plain, Server, Session as PlainSession, current, start, put}
+use Rattle.plain_runs.specs.Plain.{Plain, start, put}
 use Rattle.plain_runs.specs.Run.{IsRun, after_all, state_after}
-use Rattle.plain_runs.proofs.Issued.{issued_kept}
 use Rattle.plain_runs.proofs.RunLemmas.{after_all-append}
-use Rattle.ecp_messages.specs.declared.down.Down.{Down}
-use Rattle.ecp_messages.specs.declared.down.DownFrame.{DownFrame}
-use Rattle.ecp_messages.specs.declared.front.Front.{Front}
-use Rattle.app_rules.specs.declared.app_in.AppIn.{AppIn}
-use Rattle.app_rules.specs.declared.app_in.AppIn.TheVariants as app_in
-use Rattle.app_rules.specs.declared.app_outs.AppOuts.{AppOuts}
-use Rattle.app_rules.specs.AppState.{AppState, AppEnd, Session}
+use Rattle.app_rules.specs.AppState.{AppState, AppEnd}
 use Rattle.app_rules.specs.AppStep.{made}
-use Rattle.app_rules.specs.Looks.{Shown}
-use Rattle.app_rules.specs.Works.{Sofar, end_at, begun, is_normal}
-use Rattle.app_rules.proofs.StepLaws.{steps_at_one_end}
+use Rattle.app_rules.specs.Works.{end_at, begun, is_normal}
 use Rattle.cluster_runs.specs.CoresState.{CoresState}
 use Rattle.cluster_runs.specs.declared.move_outs.MoveOuts.{MoveOuts}
-use Rattle.cluster_runs.specs.declared.moves.Move.TheVariants.{App}
-use Rattle.cluster_runs.specs.Lanes.{its_of, told_by, is_told_new, with_app_step, sent_before}
-use Rattle.cluster_runs.specs.Connections.{ups_to, down_taken, at_number, with_connection, app_leaves}
-use Rattle.cluster_runs.specs.Goes.{AppGoes, app_site, app_end, app_takes, input_site, at_told, with_state, message_from, past_with}
-use Rattle.cluster_runs.specs.Machine.{Machine, Site, End, app_state, end_state, DataConnection}
+use Rattle.cluster_runs.specs.Lanes.{is_told_new, sent_before}
+use Rattle.cluster_runs.specs.Connections.{ups_to}
+use Rattle.cluster_runs.specs.Goes.{app_end, with_state}
+use Rattle.cluster_runs.specs.Machine.{Machine, Site, End, app_state, end_state}
 use Rattle.cluster_runs.specs.Mirrors.{Mirrors}
-use Rattle.cluster_runs.specs.Moves.{Allowed, AppTakes}
-use Rattle.cluster_runs.specs.Sent.{Connection, Lane, Place, no_lane}
-use Rattle.cluster_invariant.specs.Ends.{AppTold, ToldPlace}
+use Rattle.cluster_runs.specs.Moves.{Allowed}
 use Rattle.cluster_invariant.specs.Holds.{Holds}
-use Rattle.cluster_invariant.specs.Orders.{OrderIs, disk_order, NodeOrder}
-use Rattle.cluster_invariant.proofs.AppActs.{Leaves, app_step_leaves}
+use Rattle.cluster_invariant.specs.Orders.{OrderIs}
 use Rattle.cluster_invariant.proofs.OrderBeside.{SameOrders, rows_same, leaves_orders}
 use Rattle.cluster_invariant.proofs.OrderKept.{order_kept_beside}
 use Rattle.cluster_invariant.proofs.OrderMoves.{OrdersHold}
-use Rattle.cluster_steps.proofs.AppSites.{SameBeside, site_beside, app_ends}
-use Rattle.cluster_steps.proofs.FrameEnds.{MetNew, Learnt}
-use Rattle.cluster_steps.proofs.Outcomes.{EndKept, SessionKept, WelcomeTold, InputTold, input_told}
-use Rattle.ends_kept.proofs.MetTold.{new_on, epoch_on, EpochOn}
-use Rattle.ends_kept.proofs.PairTables.{line_has}
-use Rattle.ends_kept.proofs.TablesMoves.{app_may}
-use Rattle.ends_kept.proofs.TakenDown.{Taken, taken_down}
-use Rattle.app_rules.specs.declared.app_in.AppIn.TheVariants.{Frame}
-use Rattle.cluster_invariant.specs.Link.{NewWelcomeOn}
-use Rattle.ecp_messages.specs.declared.up.UpFrame.{UpFrame}
-use Rattle.data_rules.specs.DataState.{DataState}
-use Rattle.cluster_steps.proofs.FrameCases.{LineHas}
-use Rattle.cluster_invariant.proofs.Small.{of_some}
+use Rattle.cluster_steps.proofs.AppSites.{site_beside, app_ends}
+use Rattle.cluster_steps.proofs.Outcomes.{EndKept}
 use Rattle.plain_orders.specs.declared.act.Act.TheVariants.{Opened, Enter, Synced, Shut, Release, Met, Told, Back, Crash, Issue, Read, Grant as GrantAct, Granted, GiveUp, Quit, Free, Counted, NotWhole, Range, Committed, RolledBack, Reached, Level, Done, Refused, Broke, Mended, Tick, Lose, Died}
 use Rattle.app_job.specs.declared.command.Command.{Command}
 use Rattle.cluster_runs.specs.CoresState.{app_of_job, is_dead}
@@ -61,7 +35,7 @@ use Rattle.cluster_steps.proofs.JobEnds.{grows_by}
 use Rattle.cluster_steps.proofs.JobPieces.{IsOfJob, GoesOn}
 use Rattle.cluster_steps.proofs.JobPiecesOf.{job_goes}
 use Rattle.cluster_steps.proofs.Outcomes.{command_told}
-use Rattle.ends_kept.proofs.OrderApps.{PlaceThere, place_there, place_after, no_news, lane_same, order_at_site}
+use Rattle.ends_kept.proofs.OrderApps.{place_there, place_after, no_news, lane_same, order_at_site}
 use Rattle.ends_kept.proofs.TablesKept.{normal_has}
 
 job_leaves : (a : Act) → IsOfJob a → leaves_orders a ≡ true

@@ -1,5 +1,5 @@
 -- An application end's tables stay those of its plain pair, input by input.
-use Rattle.std.proofs.Common.{◌≡◌, ℤ, ◌⊎◌, ℕ, Bool, true, false, not, List, [], ◌∷◌, Option, Some, None, option_map, refl, sym, ◌∙◌, ap, subst, inl, inr}
+use Rattle.std.proofs.Common.{◌≡◌, ℤ, ℕ, Bool, true, false, not, List, [], Option, Some, None, option_map, refl, sym, ◌∙◌, ap, subst, inl, inr}
 use Rattle.std.specs.Prelude.{is_some, IfSome, nat_le}
 use Rattle.std.proofs.lemmas.Bool.{false≢true}
 use Rattle.plain_orders.specs.declared.layout.Times.{Times}
@@ -26,15 +26,14 @@ use Rattle.app_rules.specs.declared.line.Line.TheVariants.{Apart, Trying, Greeti
 use Rattle.app_rules.specs.AppState.{AppEnd, Session}
 use Rattle.app_rules.specs.Works.{with_line, with_window, is_apart, synced_up}
 use Rattle.app_rules.specs.Losing.{without_session, line_after_loss}
-use Rattle.app_rules.specs.Issuing.{is_free}
 use Rattle.app_rules.specs.Welcoming.{new_session, in_epoch}
 use Rattle.app_rules.specs.Downs.{took}
 use Rattle.cluster_invariant.specs.Ends.{AppTables, stands, due_stands, has_session, broke_in, number_of}
-use Rattle.cluster_steps.proofs.JobEnds.{EndGrows, SessionsGrow, SessionGrows, LineGrows}
+use Rattle.cluster_steps.proofs.JobEnds.{EndGrows, SessionsGrow, LineGrows}
 use Rattle.cluster_steps.proofs.EndSteps.{session_put}
 use Rattle.cluster_steps.proofs.FrameEnds.{ended_from, Delivered, settled_link}
 use Rattle.cluster_steps.proofs.FrameCases.{LineHas}
-use Rattle.cluster_steps.proofs.InputEnds.{greeting_end, asking_end, failed_end, tried, tried_if, rejoined, troubled, ticked_from}
+use Rattle.cluster_steps.proofs.InputEnds.{greeting_end, asking_end, failed_end, tried_if, rejoined, troubled, ticked_from}
 
 -- what follows of the tables
 

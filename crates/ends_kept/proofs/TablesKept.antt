@@ -1,14 +1,12 @@
 -- The tables of application ends stay those of the plain pairs over each step of an application server and each command of a job.
-use Rattle.std.proofs.Common.{◌≡◌, ◌≢◌, ◌⊎◌, ◌<◌, ℕ, Bool, true, false, List, [], ◌∷◌, ◌++◌, length, Some, None, refl, sym, ◌∙◌, ap, subst, inl, inr, eqb, nat_le, IfSome}
-use Rattle.std.specs.Prelude.{nat_lt, is_some}
+use Rattle.std.proofs.Common.{◌≡◌, ℕ, Bool, true, false, List, [], ◌∷◌, ◌++◌, length, refl, sym, ◌∙◌, subst, inl, inr, eqb, nat_le, IfSome}
+use Rattle.std.specs.Prelude.{is_some}
 use Rattle.std.specs.List.{AllByRecursion, range_with_len}
-use Rattle.std.proofs.lemmas.Bool.{eqb-true, eq-eqb, false≢true, ltb-true, ltb-false}
-use Rattle.std.proofs.lemmas.List.{get_or_past}
+use Rattle.std.proofs.lemmas.Bool.{eqb-true, eq-eqb, false≢true}
 use Rattle.plain_orders.specs.declared.act.Act.{Act}
 use Rattle.plain_orders.specs.declared.act.Act.TheVariants as act
 use Rattle.plain_orders.specs.declared.causes.Loss.TheVariants as losses
 use Rattle.plain_orders.specs.declared.layout.Layout.{Layout}
-use Rattle.plain_orders.specs.declared.layout.Times.{Times}
 use Rattle.plain_orders.specs.Times.{until}
 use Rattle.plain_orders.specs.declared.refused.LinkName.TheVariants as names
 use Rattle.app_job.specs.declared.reason.Reason.TheVariants as reasons
@@ -27,10 +25,10 @@ use Rattle.app_rules.specs.declared.app_in.AppIn.{AppIn}
 use Rattle.app_rules.specs.declared.app_in.AppIn.TheVariants as app_in
 use Rattle.app_rules.specs.declared.line.Line.{Line}
 use Rattle.app_rules.specs.declared.line.Line.TheVariants.{Apart, Trying, Greeting, Asking, Joined}
-use Rattle.app_rules.specs.AppState.{AppState, AppEnd, no_end}
+use Rattle.app_rules.specs.AppState.{AppEnd}
 use Rattle.app_rules.specs.AppStep.{AppMay, Makes}
 use Rattle.app_rules.specs.Laws.{KeepsOthers, named_by}
-use Rattle.app_rules.specs.Losing.{connected, failed, broken, joins_from, ticks, ticks_from}
+use Rattle.app_rules.specs.Losing.{ticks, ticks_from}
 use Rattle.app_rules.specs.Works.{Sofar, end_at, is_normal}
 use Rattle.app_rules.proofs.OneEnd.{one_ticks_from}
 use Rattle.cluster_invariant.specs.Ends.{AppTables, has_session}
@@ -38,11 +36,11 @@ use Rattle.cluster_steps.proofs.JobEnds.{Grew, grows_by}
 use Rattle.cluster_steps.proofs.JobActs.{Wrote, wrote_by}
 use Rattle.cluster_steps.proofs.JobPieces.{GoesOn, IsOfJob}
 use Rattle.cluster_steps.proofs.EndSteps.{Here}
-use Rattle.cluster_steps.proofs.FrameEnds.{EndsIt, FrameCame, NumberedCame, ended_from, ended_acts}
+use Rattle.cluster_steps.proofs.FrameEnds.{FrameCame, NumberedCame, ended_from, ended_acts}
 use Rattle.cluster_steps.proofs.FrameCases.{frame_came}
 use Rattle.cluster_steps.proofs.InputEnds.{ConnectedCame, connected_came, failed_acts, failed_end, failed_came, broken_came, rejoined, joined_came, ticked_from, ticked_acts, ticked_here, lost_if, trouble_here}
-use Rattle.ends_kept.proofs.PairActs.{IsAt, IsOfApp, pair_by, pair_with, acts_pair, acts_elsewhere, job_pairs}
-use Rattle.ends_kept.proofs.PairTables.{line_has, tables_by_job, tables_by_fresh, tables_by_ack, broke_by, tables_by_end, tables_by_meeting, tables_by_going_on, tables_by_learning, tables_by_loss, mended_by, connected_end, tables_by_connection, tables_by_failure, tables_by_join, lost_by, ticked_by, tables_by_tick}
+use Rattle.ends_kept.proofs.PairActs.{IsAt, IsOfApp, pair_by, acts_pair, acts_elsewhere, job_pairs}
+use Rattle.ends_kept.proofs.PairTables.{line_has, tables_by_job, tables_by_fresh, tables_by_ack, broke_by, tables_by_end, tables_by_meeting, tables_by_going_on, tables_by_learning, tables_by_loss, tables_by_connection, tables_by_failure, tables_by_join, lost_by, tables_by_tick}
 
 -- What a step has come to: its application server's ends with the plain pairs after the acts so far, which are its own.
 pub record TablesAre (l : Layout) (p : Plain) (app : ℕ) (b : Sofar) : Type 0 where

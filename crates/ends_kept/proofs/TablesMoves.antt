@@ -15,7 +15,6 @@ use Rattle.app_rules.specs.declared.app_in.AppIn.TheVariants as app_in
 use Rattle.app_rules.specs.declared.app_outs.AppOuts.{AppOuts}
 use Rattle.app_rules.specs.AppState.{AppState, AppEnd}
 use Rattle.app_rules.specs.AppStep.{AppMay, made}
-use Rattle.app_rules.specs.Laws.{named_by}
 use Rattle.app_rules.specs.Looks.{Shown}
 use Rattle.app_rules.specs.Works.{end_at, begun}
 use Rattle.app_rules.proofs.StepLaws.{steps_at_one_end}
@@ -25,14 +24,14 @@ use Rattle.cluster_runs.specs.declared.move_outs.MoveOuts.{MoveOuts}
 use Rattle.cluster_runs.specs.declared.moves.Move.TheVariants.{App, Step}
 use Rattle.cluster_runs.specs.Moves.{Allowed}
 use Rattle.cluster_runs.specs.Mirrors.{Mirrors}
-use Rattle.cluster_runs.specs.Machine.{Machine, Site, End, app_state, end_state}
+use Rattle.cluster_runs.specs.Machine.{Machine, End, app_state, end_state}
 use Rattle.cluster_runs.specs.Goes.{AppGoes, JobGoes, app_site, app_end, input_site, job_site, app_takes, message_from}
 use Rattle.cluster_invariant.specs.Ends.{AppTables}
 use Rattle.cluster_invariant.specs.Holds.{Holds}
 use Rattle.cluster_invariant.proofs.Small.{put_same, put_other}
 use Rattle.cluster_steps.proofs.AppSites.{site_ends, end_has_state, app_ends}
 use Rattle.cluster_steps.proofs.JobPiecesOf.{job_goes}
-use Rattle.ends_kept.proofs.PairActs.{IsOfApp, acts_beside}
+use Rattle.ends_kept.proofs.PairActs.{acts_beside}
 use Rattle.ends_kept.proofs.TablesKept.{TablesAre, tables_by_input, tables_by_command}
 
 -- what may come at the ends as the lists have them, at the ends of the machine

@@ -1,14 +1,13 @@
 -- The frame that an application server takes is the first on its way on the connection that its end has.
-use Rattle.std.proofs.Common.{◌≡◌, ℕ, Bool, true, false, List, [], ◌∷◌, drop, Option, Some, None, option_map, refl, sym, ◌∙◌, ap, subst, if◌then◌else◌}
-use Rattle.ecp_messages.specs.declared.down.Down.{Down}
+use Rattle.std.proofs.Common.{◌≡◌, ℕ, Bool, true, false, List, [], ◌∷◌, drop, Option, Some, None, option_map, refl, sym, ◌∙◌, ap, if◌then◌else◌}
 use Rattle.ecp_messages.specs.declared.down.DownFrame.{DownFrame}
 use Rattle.app_rules.specs.declared.app_in.AppIn.TheVariants as app_in
 use Rattle.app_rules.specs.AppState.{AppEnd}
-use Rattle.cluster_runs.specs.CoresState.{CoresState, Dial, app_at, dial_at}
+use Rattle.cluster_runs.specs.CoresState.{CoresState, dial_at}
 use Rattle.cluster_runs.specs.Connections.{dial_of}
 use Rattle.cluster_runs.specs.Mirrors.{Mirrors}
 use Rattle.cluster_runs.specs.Moves.{AppTakes, next_down, first_of}
-use Rattle.cluster_runs.specs.Machine.{Machine, End, Site, end_state}
+use Rattle.cluster_runs.specs.Machine.{Machine, End}
 use Rattle.cluster_runs.specs.Sent.{Connection}
 use Rattle.cluster_runs.specs.Wires.{last_dial}
 use Rattle.cluster_invariant.specs.Words.{downs_left}

@@ -1,6 +1,6 @@
 -- The part on what is on its way, for a start of a data server: its node has nothing yet, and its order is a new one.
 use Rattle.std.proofs.Common.{◌≡◌, ◌≢◌, ◌≤◌, ◌<◌, ℕ, ◌+◌, ◌-◌, Bool, true, false, if◌then◌else◌, List, [], ◌∷◌, ◌++◌, length, drop, take, map, Option, Some, None, is_some, option_map, refl, sym, ◌∙◌, ap, subst, arith}
-use Rattle.std.specs.Prelude.{⊤, IfSome, IsSomeAnd, ◌==◌}
+use Rattle.std.specs.Prelude.{IfSome, IsSomeAnd, ◌==◌}
 use Rattle.std.specs.List.{AllByRecursion, list_any, flat_map, find}
 use Rattle.std.proofs.lemmas.Bool.{eqb-true, eq-eqb, ne_eqb, false≢true, ltb-false}
 use Rattle.std.proofs.lemmas.List.{length-append, get_or_append_left, length-take-le}

@@ -6,14 +6,13 @@ use Rattle.plain_orders.specs.declared.act.Act.{Act}
 use Rattle.plain_orders.specs.declared.entry.Entry.{Entry}
 use Rattle.plain_orders.specs.declared.entry.Entry.TheVariants.{Epoch, Opened, Closed, Update, Commit, Rollback}
 use Rattle.plain_orders.specs.declared.layout.Layout.{Layout}
-use Rattle.plain_orders.specs.Entries.{last_epoch, epoch_from, epoch_after}
+use Rattle.plain_orders.specs.Entries.{last_epoch, epoch_from}
 use Rattle.plain_orders.specs.Ordered.{IsOrdered, MayFollow}
 use Rattle.plain_orders.proofs.EntryLemmas.{last_epoch-push}
 use Rattle.plain_orders.proofs.OrderLemmas.{ordered_induction, ordered-front}
 use Rattle.plain_runs.specs.Plain.{Server, current, order_at}
 use Rattle.plain_runs.specs.Run.{IsRun, state_after}
-use Rattle.data_rules.specs.Places.{epoch_place, epoch_place_from}
-use Rattle.cluster_invariant.specs.Orders.{OrdersAgree}
+use Rattle.data_rules.specs.Places.{epoch_place_from}
 use Rattle.cluster_invariant.specs.Words.{stays_at}
 use Rattle.cluster_invariant.proofs.OrdersStay.{orders_agree, stays_synced, front_stays}
 use Rattle.link_kept.proofs.BeginMoves.{EpochsStay}

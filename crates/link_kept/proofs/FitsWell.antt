@@ -1,5 +1,5 @@
 -- What has to be known of the sessions that a small change of a data server's step puts to and takes from, beside what its node has.
-use Rattle.std.proofs.Common.{◌≡◌, ℕ, ◌+◌, Bool, true, false, [], length, None, ◌∙◌, ap}
+use Rattle.std.proofs.Common.{◌≡◌, ℕ, ◌+◌, Bool, true, false, length, None, ◌∙◌, ap}
 use Rattle.std.specs.Prelude.{⊤}
 use Rattle.plain_orders.specs.declared.causes.ShutCause.{ShutCause}
 use Rattle.plain_orders.specs.declared.causes.ShutCause.TheVariants.{Trouble, Replaced, Round}
@@ -10,7 +10,7 @@ use Rattle.ecp_messages.specs.declared.up.Up.TheVariants as up
 use Rattle.lock_table.specs.LockWords.{without_request}
 use Rattle.data_rules.specs.declared.data_in.DataIn.{DataIn}
 use Rattle.data_rules.specs.declared.data_in.DataIn.TheVariants as data_in
-use Rattle.data_rules.specs.Puts.{Sofar, puts}
+use Rattle.data_rules.specs.Puts.{Sofar}
 use Rattle.cluster_runs.specs.Sent.{Lane}
 use Rattle.cluster_invariant.proofs.PieceKinds.{LockCall, Asks, Unlocks, Withdraws, GivesBack, ForgetsTicket, Claims, Cancels, Releases, Piece, Accepts, Forgets, Breaks, Dials, Waits, Opens, OpensNext, Resumes, GoesOn, ComesAgain, AwaitsReset, Closes, Acknowledges, Takes, TakesDone, Enters, Fetches, PutsNormal, PutsAck, Replies, Leaves, Bares, Locks, RoundEnds, Ticks}
 use Rattle.cluster_invariant.proofs.PieceMay.{Coming, Asked, ClosesBy}

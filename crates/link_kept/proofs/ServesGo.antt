@@ -1,6 +1,6 @@
 -- What a running node has of its sessions while a step goes on: of those alone whose application servers learnt of the order.
 use Rattle.std.proofs.Common.{◌≡◌, ◌≢◌, ◌≤◌, ℕ, ◌+◌, Bool, true, false, not, List, [], ◌∷◌, ◌++◌, length, filter, drop, None, refl, sym, ◌∙◌, ap, subst, arith}
-use Rattle.std.specs.Prelude.{⊤, ◌==◌, ◌||◌}
+use Rattle.std.specs.Prelude.{◌==◌, ◌||◌}
 use Rattle.std.specs.List.{AllByRecursion, list_any}
 use Rattle.std.proofs.lemmas.Bool.{eq-eqb, true≢false, or_parts}
 use Rattle.std.proofs.lemmas.List.{drop-append-le, length-append}
@@ -17,7 +17,7 @@ use Rattle.data_rules.specs.DataState.{DataState, SessionWindow}
 use Rattle.data_rules.specs.declared.rows.Reply.{Reply}
 use Rattle.data_rules.specs.declared.rows.Says.{Says}
 use Rattle.data_rules.specs.declared.rows.Says.TheVariants.{NewWelcome, EpochWelcome, ResetOf, GrantOf, AnswerOf}
-use Rattle.data_rules.specs.Puts.{Sofar, becomes, replies, says_to, is_reply_elsewhere}
+use Rattle.data_rules.specs.Puts.{Sofar, becomes, says_to, is_reply_elsewhere}
 use Rattle.data_rules.specs.Entering.{with_entry}
 use Rattle.data_rules.specs.Granting.{grants, grants_one, locks_become, with_locks}
 use Rattle.data_rules.specs.Saving.{has_item_of}

@@ -1,6 +1,6 @@
 -- The part on what is on its way, for the moves that put and take nothing: a tick, a look, and a node or an application server that goes.
 use Rattle.std.proofs.Common.{◌≡◌, ◌≢◌, ◌≤◌, ◌<◌, ℕ, ◌+◌, Bool, true, false, List, [], ◌∷◌, length, ◌++◌, ◌-◌, Option, Some, None, option_map, if◌then◌else◌, refl, sym, ◌∙◌, ap, subst, arith, ◌==◌}
-use Rattle.std.specs.Prelude.{⊤, IfSome, IsSomeAnd, get_or}
+use Rattle.std.specs.Prelude.{IfSome, IsSomeAnd, get_or}
 use Rattle.std.proofs.lemmas.List.{get_or-append-add}
 use Rattle.std.proofs.lemmas.Bool.{eqb-true, eq-eqb, false≢true}
 use Rattle.plain_orders.specs.declared.act.Act.{Act}
@@ -15,7 +15,7 @@ use Rattle.data_rules.specs.Places.{epoch_place}
 use Rattle.app_rules.specs.declared.line.Line.{Line}
 use Rattle.app_rules.specs.declared.line.Line.TheVariants.{Apart, Trying, Greeting, Asking, Joined}
 use Rattle.app_rules.specs.AppState.{Session}
-use Rattle.plain_runs.specs.Run.{after_all, state_after}
+use Rattle.plain_runs.specs.Run.{state_after}
 use Rattle.plain_runs.specs.Step.{after}
 use Rattle.plain_runs.proofs.RunLemmas.{after_all-more}
 use Rattle.app_job.specs.Sites.{Site as Target}

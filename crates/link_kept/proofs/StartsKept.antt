@@ -1,5 +1,5 @@
 -- Each start of a data server keeps what is on its way.
-use Rattle.std.proofs.Common.{◌≡◌, ◌≤◌, ℕ, Bool, true, false, List, [], length, Option, Some, None, refl, sym, ◌∙◌, ap, subst, arith, if◌then◌else◌}
+use Rattle.std.proofs.Common.{◌≡◌, ◌≤◌, ℕ, Bool, true, false, List, length, Option, Some, None, refl, ◌∙◌, ap, subst, arith, if◌then◌else◌}
 use Rattle.plain_orders.specs.declared.act.Act.{Act}
 use Rattle.plain_orders.specs.declared.entry.Entry.{Entry}
 use Rattle.plain_orders.specs.declared.layout.Layout.{Layout}
@@ -14,7 +14,6 @@ use Rattle.cluster_runs.specs.Machine.{Machine}
 use Rattle.cluster_runs.specs.Mirrors.{Mirrors}
 use Rattle.cluster_runs.specs.Moves.{Allowed, EntriesMay}
 use Rattle.cluster_invariant.specs.Holds.{Holds}
-use Rattle.cluster_invariant.specs.Orders.{disk_order}
 use Rattle.cluster_invariant.proofs.OrdersStay.{orders_agree}
 use Rattle.link_kept.proofs.EpochsLast.{epochs_stay}
 use Rattle.link_kept.proofs.LinkBegins.{link_kept_by_begin}

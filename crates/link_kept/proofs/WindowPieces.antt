@@ -1,5 +1,5 @@
 -- Each small change of a data server's step keeps its windows, if the sessions that it puts to are served.
-use Rattle.std.proofs.Common.{◌≡◌, ◌≢◌, ◌≤◌, ℕ, ◌+◌, Bool, true, false, List, [], ◌∷◌, ◌++◌, length, Option, Some, None, refl, sym, ◌∙◌, ap, subst}
+use Rattle.std.proofs.Common.{◌≡◌, ◌≤◌, ℕ, ◌+◌, Bool, true, false, List, [], ◌∷◌, ◌++◌, length, Option, Some, None, refl, sym, ◌∙◌, ap, subst}
 use Rattle.std.specs.Prelude.{⊤, ◌==◌, not}
 use Rattle.std.proofs.lemmas.Bool.{eq-eqb, true≢false}
 use Rattle.plain_orders.specs.declared.causes.ShutCause.{ShutCause}
@@ -21,7 +21,7 @@ use Rattle.data_rules.specs.DataState.{DataState, SessionWindow}
 use Rattle.data_rules.specs.declared.rows.LiveEnd.{LiveEnd}
 use Rattle.data_rules.specs.declared.rows.Says.{Says}
 use Rattle.data_rules.specs.declared.rows.Says.TheVariants.{NewWelcome, EpochWelcome, ResetOf, GrantOf, AnswerOf}
-use Rattle.data_rules.specs.Puts.{Sofar, head_of, set_window, becomes, writes, tells, puts, conn_of, window_in, window_of}
+use Rattle.data_rules.specs.Puts.{Sofar, head_of, set_window, becomes, writes, tells, conn_of, window_in, window_of}
 use Rattle.data_rules.specs.Leaving.{leaves, new_welcome, epoch_welcome}
 use Rattle.data_rules.specs.Entering.{enters}
 use Rattle.data_rules.specs.Granting.{frees, locks_become}
