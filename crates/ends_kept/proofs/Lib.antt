@@ -9,3 +9,4 @@ pub mod AppRuns
 pub mod OrderApps
 pub mod OrderJobs
 pub mod OrdersKept
+pub mod RunMoves

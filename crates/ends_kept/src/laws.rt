@@ -1,9 +1,14 @@
-ghost use Rattle.ends_kept.specs.Laws.{CommandsKeepTables, InputsKeepRuns, InputsKeepTables, MovesKeepOrders};
+ghost use Rattle.ends_kept.specs.Laws.{CommandsKeepTables, DeathsKeepRuns, HaltsKeepRuns, InputsKeepRuns, InputsKeepTables, MovesKeepOrders, StartsKeepRuns, TicksKeepRuns};
 
-/// Where the invariant holds, the acts that an application server writes as it takes an input may come in the plain
-/// machine, one after the other: breaks, mendings, losses, and what Welcomes tell.
-pub fn an_input_keeps_the_trail_a_run()
-    ensures { InputsKeepRuns }
+/// Where the invariant holds, the trail stays a run as an application server takes an input, that is breaks, mendings,
+/// losses, and what Welcomes tell, and as a data server starts; and in any case as one halts, as an application server
+/// goes, and at a tick.
+pub fn the_trail_stays_a_run()
+    ensures inputs { InputsKeepRuns }
+    ensures starts { StartsKeepRuns }
+    ensures halts { HaltsKeepRuns }
+    ensures deaths { DeathsKeepRuns }
+    ensures ticks { TicksKeepRuns }
 {}
 
 /// Where the invariant holds, the tables of the application ends stay those of the plain pairs: session, break, and how
