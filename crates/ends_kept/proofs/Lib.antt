@@ -1,3 +1,4 @@
+pub mod LiveSessions
 pub mod PairTables
 pub mod PairActs
 pub mod TablesKept

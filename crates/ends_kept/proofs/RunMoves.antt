@@ -1,6 +1,5 @@
 -- The trail stays a run as data servers start and halt, as application servers go, and at ticks.
-use Rattle.std.proofs.Common.{◌≡◌, ◌≤◌, ℕ, Bool, true, false, List, [], ◌∷◌, ◌++◌, length, take, Option, Some, None, refl, sym, ◌∙◌, ap, subst, arith, if◌then◌else◌}
-use Rattle.std.proofs.lemmas.Bool.{false≢true}
+use Rattle.std.proofs.Common.{◌≡◌, ◌≤◌, ℕ, Bool, true, false, List, [], ◌∷◌, ◌++◌, length, Option, Some, None, refl, sym, ◌∙◌, ap, subst, arith, if◌then◌else◌}
 use Rattle.std.proofs.lemmas.List.{length-take}
 use Rattle.plain_orders.specs.declared.act.Act.{Act}
 use Rattle.plain_orders.specs.declared.act.Act.TheVariants as act
@@ -8,11 +7,11 @@ use Rattle.plain_orders.specs.declared.entry.Entry.{Entry}
 use Rattle.plain_orders.specs.declared.layout.Layout.{Layout}
 use Rattle.plain_orders.specs.declared.limits.TheConstants.{START_EPOCH_LIMIT}
 use Rattle.plain_orders.specs.Entries.{last_epoch}
-use Rattle.plain_runs.specs.Plain.{Plain, Server, start}
+use Rattle.plain_runs.specs.Plain.{Server, start}
 use Rattle.plain_runs.specs.OrderRows.{OpenedMay, CrashMay}
-use Rattle.plain_runs.specs.Run.{IsRun, RunFrom, state_after}
+use Rattle.plain_runs.specs.Run.{IsRun, state_after}
 use Rattle.plain_runs.specs.Step.{MayCome}
-use Rattle.plain_runs.proofs.RunLemmas.{run_joined, run_more}
+use Rattle.plain_runs.proofs.RunLemmas.{run_more}
 use Rattle.cluster_runs.specs.CoresState.{CoresState, plain_server, order_at}
 use Rattle.cluster_runs.specs.declared.move_outs.MoveOuts.{MoveOuts}
 use Rattle.cluster_runs.specs.declared.moves.Move.TheVariants.{Begin}
