@@ -3,3 +3,4 @@ pub mod FrontsLater
 pub mod CoherenceLater
 pub mod ShortMoves
 pub mod BeginMoves
+pub mod FrontsServer
