@@ -1,0 +1,196 @@
+-- Fronts over a step of a data server: orders and lanes go on, and it leaves the states of the application ends.
+use Rattle.std.proofs.Common.{◌≡◌, ◌≢◌, ◌≤◌, ◌<◌, ◌⊎◌, inl, inr, ℕ, ◌+◌, ◌-◌, Bool, true, false, if◌then◌else◌, List, [], ◌∷◌, ◌++◌, length, get_or, max, refl, sym, ◌∙◌, ap, subst, arith, ◌==◌}
+use Rattle.std.specs.List.{AllByRecursion}
+use Rattle.std.proofs.lemmas.Bool.{eqb-true, eq-eqb, ne_eqb, false≢true}
+use Rattle.std.proofs.lemmas.List.{get_or_append_left, append_assoc}
+use Rattle.plain_orders.specs.declared.act.Act.{Act}
+use Rattle.plain_orders.specs.declared.entry.Entry.{Entry}
+use Rattle.plain_orders.specs.declared.entry.Entry.TheVariants.{Closed}
+use Rattle.plain_orders.specs.declared.layout.Layout.{Layout}
+use Rattle.plain_runs.specs.Plain.{Plain, Server, start, current, order_at}
+use Rattle.plain_runs.specs.Run.{IsRun, after_all, state_after}
+use Rattle.plain_runs.proofs.RunLemmas.{after_all-append}
+use Rattle.data_rules.specs.DataState.{DataState}
+use Rattle.data_rules.specs.declared.data_in.DataIn.{DataIn}
+use Rattle.data_rules.specs.declared.data_in.DataIn.TheVariants as data_in
+use Rattle.data_rules.specs.declared.data_outs.DataOuts.{DataOuts}
+use Rattle.data_rules.specs.Places.{epoch_place}
+use Rattle.cluster_runs.specs.declared.move_outs.MoveOuts.{MoveOuts}
+use Rattle.cluster_runs.specs.declared.moves.Move.TheVariants.{Server as ServerMove}
+use Rattle.cluster_runs.specs.CoresState.{CoresState}
+use Rattle.cluster_runs.specs.Moves.{Allowed}
+use Rattle.cluster_runs.specs.Mirrors.{Mirrors}
+use Rattle.cluster_runs.specs.Lanes.{with_data_step}
+use Rattle.cluster_runs.specs.Connections.{hears_downs, leaves_conn, leaves_conns}
+use Rattle.cluster_runs.specs.Sent.{Lane}
+use Rattle.cluster_runs.specs.Machine.{Machine, Site, with_acts}
+use Rattle.cluster_runs.specs.Goes.{ServerGoes, at_site, server_site, server_takes, with_node}
+use Rattle.cluster_invariant.specs.Fronts.{FrontsHold}
+use Rattle.cluster_invariant.specs.Holds.{Holds}
+use Rattle.cluster_invariant.specs.Link.{LaneCounts}
+use Rattle.cluster_invariant.specs.Orders.{OrdersAgree}
+use Rattle.cluster_invariant.specs.Words.{IsFront, stays_at}
+use Rattle.cluster_invariant.proofs.Deeds.{Deed, DeedIs, Enters, Closes, Releases, ComesBack, Grants, Frees, Breaks, order_by, order_with}
+use Rattle.cluster_invariant.proofs.Frame.{others_left}
+use Rattle.cluster_invariant.proofs.OrderMoves.{server_wrote}
+use Rattle.cluster_invariant.proofs.OrderRows.{StepWrote}
+use Rattle.cluster_invariant.proofs.OrdersStay.{orders_agree}
+use Rattle.cluster_invariant.proofs.Written.{place_kept}
+use Rattle.link_kept.proofs.Later.{front_same, front_then}
+use Rattle.link_kept.proofs.ShortMoves.{order_now, stays_within}
+use Rattle.link_kept.proofs.WindowsGo.{same_or}
+use Rattle.link_kept.proofs.WindowsServer.{LanesGrow, server_lanes}
+use Rattle.coherence_kept.proofs.Grows.{OrdersOn}
+use Rattle.coherence_kept.proofs.FrontsLater.{SameTaken, SameEnds, same_taken, taken_same, fronts_later}
+
+-- the orders
+
+deed_grows : (x : Deed) (es : List Entry) → IsFront es (order_with x es)
+deed_grows (Enters e) es = (e ∷ [], refl)
+deed_grows (Closes s cause) es = (Closed s ∷ [], refl)
+deed_grows (Releases s) es = front_same es
+deed_grows ComesBack es = front_same es
+deed_grows (Grants s j m key at) es = front_same es
+deed_grows (Frees s j m key) es = front_same es
+deed_grows (Breaks app now) es = front_same es
+
+-- an order goes on by deeds
+pub deeds_grow : (xs : List Deed) (es : List Entry) → IsFront es (order_by xs es)
+deeds_grow [] es = front_same es
+deeds_grow (x ∷ xs) es = front_then es (order_with x es) (order_by xs (order_with x es)) (deed_grows x es) (deeds_grow xs (order_with x es))
+
+-- The orders of a plain server go on by the deeds of its data server.
+pub deeds_on : (v w : Server) (ds : List Deed) → OrdersAgree v → AllByRecursion DeedIs ds → w.past ≡ v.past → w.order ≡ order_by ds v.order → v.synced ≤ w.synced
+    → OrdersOn v w
+deeds_on v w ds agree may past order synced = record {
+  goes_on = λ k low. goes_on k (k == current v) refl low;
+  within = stays_within v agree;
+  stays = λ k low. stays k (k == current v) refl low;
+}
+  where
+    now : current w ≡ current v
+    now = ap (λ (xs : List (List Entry)). length xs) past
+
+    here : order_at w (current v) ≡ order_by ds v.order
+    here = ap (order_at w) (sym now) ∙ order_now w ∙ order
+
+    below : (k : ℕ) → k ≤ current v → (k == current v) ≡ false → k < current v
+    below k low other = go (λ same. false≢true (sym other ∙ eq-eqb k (current v) same))
+      where
+        go : k ≢ current v → k < current v
+        go apart = omega (arith, low, apart)
+
+    before : (k : ℕ) → k < current v → order_at w k ≡ order_at v k
+    before k low =
+        get_or_append_left w.past (w.order ∷ []) [] k (omega (arith, low, now)) ∙ ap (λ (xs : List (List Entry)). get_or xs k []) past
+        ∙ sym (get_or_append_left v.past (v.order ∷ []) [] k low)
+
+    goes_on : (k : ℕ) (b : Bool) → (k == current v) ≡ b → k ≤ current v → IsFront (order_at v k) (order_at w k)
+    goes_on k true same low =
+        subst (λ (n : ℕ). IsFront (order_at v n) (order_at w n)) (sym (eqb-true k (current v) same))
+        (subst (λ (es : List Entry). IsFront es (order_at w (current v))) (sym (order_now v))
+        (subst (λ (es : List Entry). IsFront v.order es) (sym here) (deeds_grow ds v.order)))
+    goes_on k false other low =
+        subst (λ (es : List Entry). IsFront (order_at v k) es) (sym (before k (below k low other))) (front_same (order_at v k))
+
+    places : (k : ℕ) (b : Bool) → (k == current v) ≡ b → k ≤ current v → epoch_place (order_at w k) ≡ epoch_place (order_at v k)
+    places k true same low =
+        subst (λ (n : ℕ). epoch_place (order_at w n) ≡ epoch_place (order_at v n)) (sym (eqb-true k (current v) same))
+        (ap epoch_place here ∙ place_kept ds v.order may ∙ ap epoch_place (sym (order_now v)))
+    places k false other low = ap epoch_place (before k (below k low other))
+
+    past_stays : (u : Server) (k : ℕ) → k ≢ current u → stays_at u k ≡ epoch_place (order_at u (k + 1)) - 1
+    past_stays u k other = ap (λ (b : Bool). if b then u.synced else epoch_place (order_at u (k + 1)) - 1) (ne_eqb k (current u) other)
+
+    now_stays : (u : Server) (k : ℕ) → k ≡ current u → stays_at u k ≡ u.synced
+    now_stays u k same = ap (λ (b : Bool). if b then u.synced else epoch_place (order_at u (k + 1)) - 1) (eq-eqb k (current u) same)
+
+    stays : (k : ℕ) (b : Bool) → (k == current v) ≡ b → k ≤ current v → stays_at v k ≤ stays_at w k
+    stays k true same low = omega (arith, now_stays v k (eqb-true k (current v) same), now_stays w k (eqb-true k (current v) same ∙ sym now), synced)
+    stays k false other low = go (below k low other)
+      where
+        go : k < current v → stays_at v k ≤ stays_at w k
+        go less =
+            omega (
+              arith,
+              past_stays v k (λ same. absurd (omega (arith, same, less))),
+              past_stays w k (λ same. absurd (omega (arith, same, less, now))),
+              places (k + 1) (k + 1 == current v) refl (omega (arith, less)),
+            )
+
+-- the site
+
+-- the ends' states are as they were
+leaves_ends : (conns : List ℕ) (x : Site) → SameEnds x (leaves_conns conns x)
+leaves_ends [] x = record { state = λ a. refl; told = λ a. refl; shown = λ a. refl }
+leaves_ends (conn ∷ conns) x = go (leaves_ends conns (leaves_conn conn x))
+  where
+    go : SameEnds (leaves_conn conn x) (leaves_conns conns (leaves_conn conn x)) → SameEnds x (leaves_conns conns (leaves_conn conn x))
+    go t = record { state = t.state; told = t.told; shown = t.shown }
+
+takes_ends : (input : DataIn) (x : Site) → SameEnds x (server_takes input x)
+takes_ends (data_in.Frame conn frame) x = record { state = λ a. refl; told = λ a. refl; shown = λ a. refl }
+takes_ends (data_in.Connected conn) x = record { state = λ a. refl; told = λ a. refl; shown = λ a. refl }
+takes_ends (data_in.Broken conn) x = go (leaves_ends (conn ∷ []) x)
+  where
+    go : SameEnds x (leaves_conns (conn ∷ []) x) → SameEnds x (server_takes (data_in.Broken conn) x)
+    go t = record { state = t.state; told = t.told; shown = t.shown }
+takes_ends data_in.Tick x = record { state = λ a. refl; told = λ a. refl; shown = λ a. refl }
+takes_ends (data_in.Saved upto) x = record { state = λ a. refl; told = λ a. refl; shown = λ a. refl }
+
+server_ends : (old : DataState) (now : ℕ) (input : DataIn) (outs : DataOuts) (new : DataState) (x : Site) → SameEnds x (server_site old now input outs new x)
+server_ends old now input outs new x = go (takes_ends input x) (leaves_ends outs.cuts (hears_downs outs.frames (with_node now new (server_takes input x))))
+  where
+    go : SameEnds x (server_takes input x)
+        → SameEnds (hears_downs outs.frames (with_node now new (server_takes input x))) (leaves_conns outs.cuts (hears_downs outs.frames (with_node now new (server_takes input x))))
+        → SameEnds x (server_site old now input outs new x)
+    go t u = record { state = λ a. u.state a ∙ t.state a; told = λ a. u.told a ∙ t.told a; shown = λ a. u.shown a ∙ t.shown a }
+
+-- what was taken of a lane is as it was
+server_taken : (old : DataState) (outs : DataOuts) (new : DataState) (x y : Site) → ((s k : ℕ) → LaneCounts (x.lane_at s k)) → LanesGrow old new outs x y
+    → (s k : ℕ) → SameTaken (x.lane_at s k) (y.lane_at s k)
+server_taken old outs new x y counts g s k = by (same_or k x.past)
+  where
+    by : (k ≡ x.past) ⊎ (k ≢ x.past) → SameTaken (x.lane_at s k) (y.lane_at s k)
+    by (inl same) =
+        subst (λ (n : ℕ). SameTaken (x.lane_at s n) (y.lane_at s n)) (sym same)
+        (subst (λ (z : Lane). SameTaken (x.lane_at s x.past) z) (sym (g.here s))
+        (taken_same (x.lane_at s x.past) (with_data_step old new outs.frames s (x.lane_at s x.past)) (counts s x.past).down_taken refl (_, refl) refl))
+    by (inr other) = subst (λ (z : Lane). SameTaken (x.lane_at s k) z) (sym (g.others s k other)) (same_taken (x.lane_at s k))
+
+-- the fronts of the application ends at each data server
+abbrev pub AllFronts : Layout → Machine → Type 0
+AllFronts l m = (d : ℕ) → FrontsHold ((state_after l m.trail).server_at d) (m.site_at d) m.is_dead_at
+
+-- Each step of a data server keeps the fronts.
+pub fronts_kept_by_server : (l : Layout) (c : CoresState) (m : Machine) (server now : ℕ) (input : DataIn) (outs : MoveOuts) (written : List Act) (new : Machine)
+    → Holds l m → IsRun l m.trail → Mirrors c m → Allowed c (ServerMove server now input) → ServerGoes m server now input outs written new → AllFronts l new
+fronts_kept_by_server l c m server now input outs written new h run shows allowed goes = go (server_wrote l c m server now input outs written new h run shows allowed goes)
+  where
+    v : Server
+    v = (state_after l m.trail).server_at server
+
+    q : Plain
+    q = after_all l (state_after l m.trail) written
+
+    x : Site
+    x = m.site_at server
+
+    y : Site
+    y = server_site goes.node now input goes.data_outs goes.state x
+
+    go : StepWrote server goes.node goes.state (state_after l m.trail) q → AllFronts l new
+    go w =
+        subst (λ (n : Machine). AllFronts l n) (sym goes.after)
+        (subst (λ (p : Plain). (d : ℕ) → FrontsHold (p.server_at d) ((with_acts written (at_site server (server_site goes.node now input goes.data_outs goes.state) m)).site_at d) m.is_dead_at)
+        (sym (after_all-append l start m.trail written))
+        (others_left l (state_after l m.trail) q m server y (λ d u z. FrontsHold u z m.is_dead_at) (λ d. (h.sites d).fronts) w.others here))
+      where
+        on : OrdersOn v (q.server_at server)
+        on = deeds_on v (q.server_at server) w.deeds (orders_agree l m.trail server run) w.may w.past w.order (omega (arith, w.synced))
+
+        here : FrontsHold (q.server_at server) y m.is_dead_at
+        here =
+            fronts_later v (q.server_at server) x y on.goes_on
+            (server_taken goes.node goes.data_outs goes.state x y (h.sites server).link.lanes (server_lanes goes.node now input goes.data_outs goes.state x))
+            m.is_dead_at m.is_dead_at (server_ends goes.node now input goes.data_outs goes.state x) (λ a is. is) (h.sites server).ends (h.sites server).fronts

@@ -1,0 +1,6 @@
+pub mod Grows
+pub mod FrontsLater
+pub mod CoherenceLater
+pub mod ShortMoves
+pub mod BeginMoves
+pub mod FrontsServer

@@ -1,0 +1,120 @@
+-- Coherence and fronts, for the moves that put and take nothing: a tick, a look, and a node or an application server that goes.
+use Rattle.std.proofs.Common.{◌≡◌, ℕ, Bool, true, false, if◌then◌else◌, List, [], ◌∷◌, ◌++◌, refl, sym, subst, ◌==◌}
+use Rattle.std.proofs.lemmas.Bool.{false≢true}
+use Rattle.plain_orders.specs.declared.act.Act.{Act}
+use Rattle.plain_orders.specs.declared.act.Act.TheVariants as act
+use Rattle.plain_orders.specs.declared.layout.Layout.{Layout}
+use Rattle.plain_orders.specs.declared.question.Question.TheVariants.{Get as GetQuestion}
+use Rattle.plain_orders.specs.declared.via.Via.TheVariants.{Cached}
+use Rattle.plain_orders.specs.PairMap.{value_at}
+use Rattle.plain_runs.specs.Plain.{Plain, Server, Known, put, start, order_at}
+use Rattle.plain_runs.specs.Run.{state_after}
+use Rattle.plain_runs.specs.Step.{after}
+use Rattle.plain_runs.proofs.RunLemmas.{after_all-more}
+use Rattle.app_job.specs.Sites.{Site as Target}
+use Rattle.end_words.specs.Runs.{pairs_of}
+use Rattle.cluster_runs.specs.declared.move_outs.MoveOuts.{MoveOuts}
+use Rattle.cluster_runs.specs.Machine.{Machine, Site, with_acts}
+use Rattle.cluster_runs.specs.Goes.{TickGoes, LookGoes, DieGoes, HaltGoes, dies, halted_site}
+use Rattle.cluster_invariant.specs.Coherence.{CoherenceHolds, NodeHeld}
+use Rattle.cluster_invariant.specs.Fronts.{FrontsHold}
+use Rattle.cluster_invariant.specs.Holds.{SiteHolds, Holds}
+use Rattle.cluster_invariant.proofs.Small.{at_places, some_kept}
+use Rattle.cluster_invariant.proofs.Frame.{kept_by_tick, others_left}
+use Rattle.link_kept.proofs.Later.{front_same}
+use Rattle.coherence_kept.proofs.CoherenceLater.{held_same}
+use Rattle.coherence_kept.proofs.FrontsLater.{same_taken, fronts_later}
+
+-- what is coherent at each data server, and the fronts of the application ends
+abbrev pub BothHold : Server → Site → (ℕ → Bool) → Type 0
+BothHold v x dead = CoherenceHolds v x × FrontsHold v x dead
+
+abbrev pub AllCoherent : Layout → Plain → Machine → Type 0
+AllCoherent l p m = (d : ℕ) → BothHold (p.server_at d) (m.site_at d) m.is_dead_at
+
+-- as the invariant has it
+pub both_of : (l : Layout) (d : ℕ) (dead : ℕ → Bool) (v : Server) (x : Site) → SiteHolds l d dead v x → BothHold v x dead
+both_of l d dead v x is = (is.coherence, is.fronts)
+
+-- A tick keeps both.
+pub coherence_kept_by_tick : (l : Layout) (m new : Machine) (now : ℕ) (outs : MoveOuts) (written : List Act) → Holds l m → TickGoes m now outs written new
+    → AllCoherent l (state_after l new.trail) new
+coherence_kept_by_tick l m new now outs written h goes d =
+    both_of l d new.is_dead_at ((state_after l new.trail).server_at d) (new.site_at d) ((kept_by_tick l m new now outs written h goes).sites d)
+
+-- what jobs know is of neither
+known_both : (v : Server) (x : Site) (dead : ℕ → Bool) (known : ℕ → Known) → BothHold v x dead → BothHold (record v { known_at = known }) x dead
+known_both v x dead known is = (record { lanes = is.0.lanes; node = is.0.node }, record { apps = is.1.apps; shown = is.1.shown })
+
+-- A look keeps both.
+pub coherence_kept_by_look : (l : Layout) (m : Machine) (app job line : ℕ) (at : Target) (outs : MoveOuts) (written : List Act) (new : Machine)
+    → Holds l m → LookGoes m app job line at outs written new → AllCoherent l (state_after l new.trail) new
+coherence_kept_by_look l m app job line at outs written new h goes =
+    subst (λ (n : Machine). AllCoherent l (state_after l n.trail) n) (sym goes.after)
+    (subst (λ (ws : List Act). (d : ℕ) → BothHold ((state_after l (m.trail ++ ws)).server_at d) (m.site_at d) m.is_dead_at) (sym goes.acts)
+    (subst (λ (q : Plain). (d : ℕ) → BothHold (q.server_at d) (m.site_at d) m.is_dead_at) (sym (after_all-more l start m.trail look)) each))
+  where
+    p : Plain
+    p = state_after l m.trail
+
+    look : Act
+    look = act.Read job line at.server goes.front.n Cached (GetQuestion at.key (value_at (pairs_of goes.run) at.key))
+
+    before : (d : ℕ) → BothHold (p.server_at d) (m.site_at d) m.is_dead_at
+    before d = both_of l d m.is_dead_at (p.server_at d) (m.site_at d) (h.sites d)
+
+    each : (d : ℕ) → BothHold ((after l p look).server_at d) (m.site_at d) m.is_dead_at
+    each d =
+        at_places (λ (e : ℕ) (v : Server). BothHold v (m.site_at e) m.is_dead_at) p.server_at at.server _
+        (known_both (p.server_at at.server) (m.site_at at.server) m.is_dead_at _ (before at.server)) (λ e other. before e) d
+
+-- An application server that goes keeps both.
+pub coherence_kept_by_die : (l : Layout) (m : Machine) (app : ℕ) (outs : MoveOuts) (written : List Act) (new : Machine)
+    → Holds l m → DieGoes m app outs written new → AllCoherent l (state_after l new.trail) new
+coherence_kept_by_die l m app outs written new h goes =
+    subst (λ (n : Machine). AllCoherent l (state_after l n.trail) n) (sym goes.after)
+    (subst (λ (ws : List Act). AllCoherent l (state_after l (m.trail ++ ws)) (with_acts ws (dies app m))) (sym goes.acts)
+    (subst (λ (q : Plain). AllCoherent l q (with_acts (act.Died app ∷ []) (dies app m))) (sym (after_all-more l start m.trail (act.Died app))) each))
+  where
+    alive : (a : ℕ) → put m.is_dead_at app true a ≡ false → m.is_dead_at a ≡ false
+    alive a = go (a == app)
+      where
+        go : (b : Bool) → (if b then true else m.is_dead_at a) ≡ false → m.is_dead_at a ≡ false
+        go true is = absurd (false≢true (sym is))
+        go false is = is
+
+    each : AllCoherent l (state_after l m.trail) (dies app m)
+    each d = (
+      record {
+        lanes = (h.sites d).coherence.lanes;
+        node =
+            some_kept (NodeHeld (m.site_at d)) (NodeHeld ((dies app m).site_at d)) (λ n is. held_same (m.site_at d) ((dies app m).site_at d) n (λ s. refl) is)
+            (m.site_at d).node (h.sites d).coherence.node;
+      },
+      fronts_later v v (m.site_at d) ((dies app m).site_at d) (λ k low. front_same (order_at v k)) (λ s k. same_taken ((m.site_at d).lane_at s k)) m.is_dead_at
+          (put m.is_dead_at app true) (record { state = λ a. refl; told = λ a. refl; shown = λ a. refl }) alive (h.sites d).ends (h.sites d).fronts,
+    )
+      where
+        v : Server
+        v = (state_after l m.trail).server_at d
+
+-- A halt keeps both.
+pub coherence_kept_by_halt : (l : Layout) (m : Machine) (server : ℕ) (outs : MoveOuts) (written : List Act) (new : Machine)
+    → Holds l m → HaltGoes m server outs written new → AllCoherent l (state_after l new.trail) new
+coherence_kept_by_halt l m server outs written new h goes =
+    subst (λ (n : Machine). AllCoherent l (state_after l n.trail) n) (sym goes.after)
+    (others_left l (state_after l m.trail) (state_after l m.trail) m server (halted_site x) (λ d v z. BothHold v z m.is_dead_at)
+    (λ d. both_of l d m.is_dead_at ((state_after l m.trail).server_at d) (m.site_at d) (h.sites d)) (λ e other. refl) here)
+  where
+    x : Site
+    x = m.site_at server
+
+    v : Server
+    v = (state_after l m.trail).server_at server
+
+    here : BothHold v (halted_site x) m.is_dead_at
+    here = (
+      record { lanes = (h.sites server).coherence.lanes; node = tt },
+      fronts_later v v x (halted_site x) (λ k low. front_same (order_at v k)) (λ s k. same_taken (x.lane_at s k)) m.is_dead_at m.is_dead_at
+          (record { state = λ a. refl; told = λ a. refl; shown = λ a. refl }) (λ a is. is) (h.sites server).ends (h.sites server).fronts,
+    )
