@@ -56,12 +56,12 @@ started_noted d times es now = recovering_noted (live_ends es) (until now times.
 
 -- the orders before a start, after it
 
-crashed_order : (v : Server) (clock round kept k : ℕ) → k ≤ current v → order_at (crashed clock round v kept) k ≡ order_at v k
+pub crashed_order : (v : Server) (clock round kept k : ℕ) → k ≤ current v → order_at (crashed clock round v kept) k ≡ order_at v k
 crashed_order v clock round kept k low =
     get_or_append_left (v.past ++ v.order ∷ []) ((take kept v.order ++ Epoch (last_epoch (take kept v.order) + 1) ∷ []) ∷ []) [] k
     (omega (arith, low, length-append v.past (v.order ∷ [])))
 
-crashed_current : (v : Server) (clock round kept : ℕ) → current (crashed clock round v kept) ≡ current v + 1
+pub crashed_current : (v : Server) (clock round kept : ℕ) → current (crashed clock round v kept) ≡ current v + 1
 crashed_current v clock round kept = omega (arith, length-append v.past (v.order ∷ []))
 
 past_stays : (v : Server) (k : ℕ) → k ≢ current v → stays_at v k ≡ epoch_place (order_at v (k + 1)) - 1
@@ -182,7 +182,7 @@ both_at l m new server f written h after others here =
     (others_left l (state_after l m.trail) (after_all l (state_after l m.trail) written) m server (f (m.site_at server)) (λ d v x. BothHold v x m.is_dead_at)
     (λ d. both_of l d m.is_dead_at ((state_after l m.trail).server_at d) (m.site_at d) (h.sites d)) others here))
 
-begins_act : (l : Layout) (v : Server) (x : Site) (d : ℕ) (es : List Entry) → OrderIs l d v x → (b : Bool) → v.opened ≡ b
+pub begins_act : (l : Layout) (v : Server) (x : Site) (d : ℕ) (es : List Entry) → OrderIs l d v x → (b : Bool) → v.opened ≡ b
     → begin_act x.order d es ≡ begin_act (if b then Some v.order else None) d es
 begins_act l v x d es order b opened =
     ap (λ (o : Option (List Entry)). begin_act o d es) (order.disk ∙ ap (λ (t : Bool). if t then Some v.order else None) opened)

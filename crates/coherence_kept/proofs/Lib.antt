@@ -4,3 +4,4 @@ pub mod CoherenceLater
 pub mod ShortMoves
 pub mod BeginMoves
 pub mod FrontsServer
+pub mod RoundMoves

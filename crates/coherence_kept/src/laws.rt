@@ -1,3 +1,4 @@
+ghost use Rattle.coherence_kept.specs.RoundLaws.{DeathsKeepRounds, HaltsKeepRounds, LooksKeepRounds, StartsKeepRounds, TicksKeepRounds};
 ghost use Rattle.coherence_kept.specs.Laws.{DeathsKeepCoherence, HaltsKeepCoherence, LooksKeepCoherence, StartsKeepCoherence, TicksKeepCoherence};
 
 /// Where the invariant holds, ticks, looks, deaths, halts and starts keep what was put to each session coherent, and each
@@ -8,4 +9,13 @@ pub fn coherence_is_kept()
     ensures deaths { DeathsKeepCoherence }
     ensures halts { HaltsKeepCoherence }
     ensures starts { StartsKeepCoherence }
+{}
+
+/// So they keep what rounds put: to each session Normal once and as it awaits it, and from each what it sends again.
+pub fn rounds_are_kept()
+    ensures ticks { TicksKeepRounds }
+    ensures looks { LooksKeepRounds }
+    ensures deaths { DeathsKeepRounds }
+    ensures halts { HaltsKeepRounds }
+    ensures starts { StartsKeepRounds }
 {}
