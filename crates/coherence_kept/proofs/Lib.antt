@@ -4,3 +4,5 @@ pub mod CoherenceLater
 pub mod ShortMoves
 pub mod BeginMoves
 pub mod FrontsServer
+pub mod Joined
+pub mod EntryDrops
