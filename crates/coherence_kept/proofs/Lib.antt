@@ -6,3 +6,4 @@ pub mod BeginMoves
 pub mod FrontsServer
 pub mod Joined
 pub mod EntryDrops
+pub mod StepHeld
