@@ -5,3 +5,6 @@ pub mod ShortMoves
 pub mod BeginMoves
 pub mod FrontsServer
 pub mod RoundMoves
+pub mod Joined
+pub mod EntryDrops
+pub mod StepHeld
