@@ -1,0 +1,3 @@
+pub mod ConnectionsGrow
+pub mod NodesGrow
+pub mod ShortDials
