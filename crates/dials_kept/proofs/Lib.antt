@@ -1,3 +1,4 @@
 pub mod ConnectionsGrow
 pub mod NodesGrow
 pub mod ShortDials
+pub mod BeginDials
