@@ -2,3 +2,4 @@ pub mod ConnectionsGrow
 pub mod NodesGrow
 pub mod ShortDials
 pub mod BeginDials
+pub mod ToldStays
