@@ -1,0 +1,5 @@
+pub mod ConnectionsGrow
+pub mod NodesGrow
+pub mod ShortDials
+pub mod BeginDials
+pub mod ToldStays
