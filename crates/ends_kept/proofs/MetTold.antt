@@ -43,7 +43,7 @@ down_by v x app e frame line t way same =
     subst (λ (l : Line). DownBy l v x app e t.connection) same (of_some (DownBy e.state.line v x app e) (e.connection_at e.state.dial) t.connection t.its way.down)
 
 -- an end without a session
-no_session_of : (pair : Pair) (e : AppEnd) → AppTables pair e → e.line ≡ Greeting → is_some pair.session ≡ false
+pub no_session_of : (pair : Pair) (e : AppEnd) → AppTables pair e → e.line ≡ Greeting → is_some pair.session ≡ false
 no_session_of pair e t line = ap is_some t.session ∙ some e.session (sym t.connected ∙ go e.link (ap (stands e.link) (sym line) ∙ t.stands))
   where
     go : (link : AppLink) → stands link Greeting ≡ true → has_session link ≡ false

@@ -88,7 +88,7 @@ no_news None (Some t) k = absurd k
 no_news (Some s) None k = refl
 no_news (Some s) (Some t) k = ap not (eq-eqb s.epoch t.epoch (sym k.1))
 
-takes_told : (d : ℕ) (input : AppIn) (n : ℕ) (e : End) → (app_takes d input n e).told ≡ e.told
+pub takes_told : (d : ℕ) (input : AppIn) (n : ℕ) (e : End) → (app_takes d input n e).told ≡ e.told
 takes_told d (app_in.Frame k frame) n e = go (k == d)
   where
     go : (b : Bool) → (if b then at_number n down_taken e else e).told ≡ e.told
@@ -109,7 +109,7 @@ takes_told d (app_in.Join k) n e = refl
 takes_told d app_in.Tick n e = refl
 
 -- a frame that was taken changes not whose messages the connection carries
-takes_its : (d : ℕ) (frame : DownFrame) (e : End) (y : Connection) → e.connection_at e.state.dial ≡ Some y → its_of ((app_takes d (app_in.Frame d frame) e.state.dial e).connection_at e.state.dial) ≡ y.its
+pub takes_its : (d : ℕ) (frame : DownFrame) (e : End) (y : Connection) → e.connection_at e.state.dial ≡ Some y → its_of ((app_takes d (app_in.Frame d frame) e.state.dial e).connection_at e.state.dial) ≡ y.its
 takes_its d frame e y is = ap (λ (b : Bool). its_of ((if b then at_number e.state.dial down_taken e else e).connection_at e.state.dial)) (eq-eqb d d refl) ∙ go (eqb e.state.dial e.state.dial) (eq-eqb e.state.dial e.state.dial refl)
   where
     go : (b : Bool) → b ≡ true → its_of (if b then option_map down_taken (e.connection_at e.state.dial) else e.connection_at e.state.dial) ≡ y.its

@@ -1,0 +1,11 @@
+pub mod ToldStays
+pub mod SameSessions
+pub mod ToldBeside
+pub mod ToldJobs
+pub mod OrdersLater
+pub mod ToldServer
+pub mod ToldBegins
+pub mod ToldActs
+pub mod ToldMet
+pub mod ToldApps
+pub mod ToldMoves

@@ -1,0 +1,20 @@
+-- What a move keeps, where the invariant holds before it.
+use Rattle.std.specs.Prelude.{◌≡◌, ℕ, false, List}
+use Rattle.plain_orders.specs.declared.act.Act.{Act}
+use Rattle.plain_orders.specs.declared.layout.Layout.{Layout}
+use Rattle.plain_runs.specs.Run.{IsRun, state_after}
+use Rattle.cluster_runs.specs.CoresState.{CoresState}
+use Rattle.cluster_runs.specs.declared.move_outs.MoveOuts.{MoveOuts}
+use Rattle.cluster_runs.specs.declared.moves.Move.{Move}
+use Rattle.cluster_runs.specs.Goes.{Goes}
+use Rattle.cluster_runs.specs.Machine.{Machine}
+use Rattle.cluster_runs.specs.Mirrors.{Mirrors}
+use Rattle.cluster_runs.specs.Moves.{Allowed}
+use Rattle.cluster_invariant.specs.Ends.{AppTold}
+use Rattle.cluster_invariant.specs.Holds.{Holds}
+
+-- Each move keeps what the living application ends were told.
+abbrev pub MovesKeepTold : Type 0
+MovesKeepTold = (l : Layout) (c : CoresState) (m : Machine) (move : Move) (outs : MoveOuts) (written : List Act) (new : Machine)
+    → Holds l m → IsRun l m.trail → Mirrors c m → Allowed c move → Goes m move outs written new
+    → (d app : ℕ) → new.is_dead_at app ≡ false → AppTold ((state_after l new.trail).server_at d) app ((new.site_at d).end_at app)
