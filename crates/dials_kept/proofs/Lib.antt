@@ -3,3 +3,5 @@ pub mod NodesGrow
 pub mod ShortDials
 pub mod BeginDials
 pub mod ToldStays
+pub mod QuietEnds
+pub mod JobDials
