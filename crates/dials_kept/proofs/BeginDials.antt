@@ -1,8 +1,8 @@
 -- The part on connections, for a start of a data server: its node has none yet, and its order is a new one.
 use Rattle.std.proofs.Common.{◌≡◌, ◌≢◌, ◌≤◌, ◌<◌, ℕ, ◌+◌, ◌-◌, Bool, true, false, if◌then◌else◌, List, [], ◌∷◌, ◌++◌, length, take, drop, map, Option, Some, None, is_some, option_map, refl, sym, ◌∙◌, ap, subst, arith, ◌==◌, get_or-append-add}
-use Rattle.std.specs.Prelude.{⊤, IfSome, IsSomeAnd, get_or, nat_lt, replicate}
+use Rattle.std.specs.Prelude.{IfSome, IsSomeAnd, get_or, replicate}
 use Rattle.std.specs.List.{find}
-use Rattle.std.proofs.lemmas.Bool.{eqb-true, eq-eqb, ne_eqb, eqb-false, false≢true}
+use Rattle.std.proofs.lemmas.Bool.{eqb-true, eq-eqb, ne_eqb, false≢true}
 use Rattle.std.proofs.lemmas.List.{length-append, length-take, length-take-le, get_or_append_left, length-replicate, get_or-replicate}
 use Rattle.plain_orders.specs.declared.act.Act.{Act}
 use Rattle.plain_orders.specs.declared.act.Act.TheVariants as act
@@ -24,7 +24,6 @@ use Rattle.data_rules.specs.DataState.{DataState}
 use Rattle.data_rules.specs.declared.limits.TheConstants.{APP_LIMIT}
 use Rattle.data_rules.specs.declared.rows.Conn.{Conn}
 use Rattle.data_rules.specs.declared.rows.LiveEnd.{LiveEnd}
-use Rattle.data_rules.specs.Callers.{dial_of}
 use Rattle.data_rules.specs.Conns.{with_link, role_of, role_in, is_conn}
 use Rattle.data_rules.specs.Opening.{live_ends}
 use Rattle.data_rules.specs.Places.{epoch_place}
@@ -36,18 +35,18 @@ use Rattle.cluster_runs.specs.CoresState.{CoresState, Linked, plain_server}
 use Rattle.cluster_runs.specs.Moves.{Allowed, EntriesMay, LaterMay}
 use Rattle.cluster_runs.specs.Mirrors.{Mirrors}
 use Rattle.cluster_runs.specs.Steps.{begin_act}
-use Rattle.cluster_runs.specs.Sent.{Connection, FirstTaken, Knew, Mark, Place, Lane, no_lane}
-use Rattle.cluster_runs.specs.Machine.{Machine, Site, End, DataConnection, with_acts}
-use Rattle.cluster_runs.specs.Connections.{link_of, link_in, knows}
+use Rattle.cluster_runs.specs.Sent.{Connection, FirstTaken, Mark, Place, Lane, no_lane}
+use Rattle.cluster_runs.specs.Machine.{Machine, Site, DataConnection, with_acts}
+use Rattle.cluster_runs.specs.Connections.{link_in, knows}
 use Rattle.cluster_runs.specs.Goes.{BeginGoes, at_site, begun_site, past_with}
 use Rattle.cluster_invariant.specs.Orders.{OrderIs}
-use Rattle.cluster_invariant.specs.Dials.{DialsAre, PairDials, ConnectionIs, FirstIs, CarriesOf, KnewIs, LearntBy, GreatestDial, NodeDials, IsLinkedBy, is_left_at, is_here, has_conn, is_connection_in, is_taken_in, first_frame, first_message, taken_in, RoleIs}
+use Rattle.cluster_invariant.specs.Dials.{DialsAre, ConnectionIs, FirstIs, CarriesOf, KnewIs, LearntBy, GreatestDial, NodeDials, IsLinkedBy, is_left_at, has_conn, is_connection_in, is_taken_in, first_frame, first_message, taken_in, RoleIs}
 use Rattle.cluster_invariant.specs.Words.{all_differ, is_begun, stays_at}
 use Rattle.cluster_invariant.specs.Holds.{SiteHolds, Holds}
-use Rattle.cluster_invariant.proofs.Small.{of_some, some_kept, put_same, put_other}
+use Rattle.cluster_invariant.proofs.Small.{some_kept, put_same, put_other}
 use Rattle.cluster_invariant.proofs.Frame.{others_left}
 use Rattle.cluster_invariant.proofs.Written.{next_place}
-use Rattle.dials_kept.proofs.ConnectionsGrow.{StaysKnown, SiteGrows, GrowTo, no_less_same, pair_later}
+use Rattle.dials_kept.proofs.ConnectionsGrow.{StaysKnown, no_less_same, pair_later}
 use Rattle.dials_kept.proofs.NodesGrow.{EndsGrow, learnt_later, links_later}
 use Rattle.dials_kept.proofs.ShortDials.{EachDials, grow_same}
 

@@ -1,10 +1,8 @@
 -- Connections that go on: what is said of them and of a node that has them stays, where a move lengthens them or leaves them as they were.
-use Rattle.std.proofs.Common.{◌≡◌, ◌≤◌, ◌<◌, ◌⊎◌, ℕ, ◌+◌, Bool, true, false, not, List, [], ◌∷◌, ◌++◌, ◌&&◌, length, drop, Option, Some, None, is_some, refl, sym, ◌∙◌, ap, subst, arith, inl, inr, length-append, nat_lt}
+use Rattle.std.proofs.Common.{◌≡◌, ◌≤◌, ◌<◌, ℕ, Bool, true, not, List, [], ◌∷◌, ◌++◌, ◌&&◌, length, drop, Option, Some, None, is_some, refl, sym, ◌∙◌, ap, subst, arith, inl, inr, length-append, nat_lt}
 use Rattle.std.specs.Prelude.{⊤, IfSome, IsSomeAnd}
 use Rattle.std.proofs.lemmas.List.Folds.{list_all-append}
-use Rattle.std.specs.List.{list_all, list_any}
-use Rattle.std.proofs.lemmas.Bool.{false≢true}
-use Rattle.plain_orders.specs.declared.entry.Entry.{Entry}
+use Rattle.std.specs.List.{list_all}
 use Rattle.plain_orders.specs.Entries.{last_epoch}
 use Rattle.plain_orders.specs.Sessions.{app_in}
 use Rattle.plain_runs.specs.Plain.{Server, current, order_at}
@@ -12,20 +10,14 @@ use Rattle.ecp_messages.specs.declared.up.Up.{Up}
 use Rattle.ecp_messages.specs.declared.up.Up.TheVariants.{Recover}
 use Rattle.ecp_messages.specs.declared.up.UpFrame.{UpFrame}
 use Rattle.ecp_messages.specs.declared.down.DownFrame.{DownFrame}
-use Rattle.data_rules.specs.DataState.{DataState}
-use Rattle.data_rules.specs.declared.limits.TheConstants.{APP_LIMIT}
-use Rattle.data_rules.specs.declared.rows.Role.{Role}
-use Rattle.data_rules.specs.declared.rows.Role.TheVariants.{New, Waiting, Bound, Closing}
-use Rattle.data_rules.specs.Callers.{dial_of}
-use Rattle.data_rules.specs.Conns.{role_of}
 use Rattle.data_rules.specs.Places.{epoch_place}
 use Rattle.cluster_runs.specs.CoresState.{Linked}
-use Rattle.cluster_runs.specs.Sent.{Connection, Knew, Mark, Place, FirstTaken, Lane}
+use Rattle.cluster_runs.specs.Sent.{Connection, Knew, Mark, Place, FirstTaken}
 use Rattle.cluster_runs.specs.Machine.{Site, End}
 use Rattle.cluster_runs.specs.Connections.{link_of, knows}
-use Rattle.cluster_invariant.specs.Dials.{ConnectionIs, PairDials, KnewIs, FirstIs, CarriesOf, WasTold, LearntOn, LearntBy, GreatestDial, LinkedTo, BoundTo, ClosedOn, BoundIs, ClosingIs, RoleIs, NodeDials, IsNewest, IsLinkedBy, KnowsStill, CarriesNoOther, CameFor, first_message, first_frame, is_left_at, is_following, is_connection_in, is_taken_in, is_made, as_it_learns, taken_in}
-use Rattle.cluster_invariant.specs.Words.{NoLess, MarkNoLess, stays_at, is_begun, is_wire, is_reset_frame}
-use Rattle.cluster_invariant.proofs.Small.{some_kept, of_some}
+use Rattle.cluster_invariant.specs.Dials.{ConnectionIs, PairDials, KnewIs, FirstIs, CarriesOf, WasTold, KnowsStill, first_message, first_frame, is_left_at, is_following, is_made, taken_in}
+use Rattle.cluster_invariant.specs.Words.{NoLess, MarkNoLess, stays_at, is_begun, is_wire}
+use Rattle.cluster_invariant.proofs.Small.{some_kept}
 
 -- what is known, compared
 

@@ -1,7 +1,7 @@
 -- The part on connections, for each command of a job: what it puts stands behind the first frame of the connection that its end has.
-use Rattle.std.proofs.Common.{◌≡◌, ◌≢◌, ◌≤◌, ◌<◌, ℕ, ◌+◌, Bool, true, false, not, ◌&&◌, ◌==◌, List, [], ◌∷◌, ◌++◌, length, map, drop, Option, Some, None, is_some, option_map, if◌then◌else◌, refl, sym, ◌∙◌, ap, subst, arith, inl, inr, append-nil}
-use Rattle.std.specs.Prelude.{⊤, IfSome, IsSomeAnd, nat_lt}
-use Rattle.std.specs.List.{AllByRecursion, list_all, list_any}
+use Rattle.std.proofs.Common.{◌≡◌, ◌≤◌, ◌<◌, ℕ, ◌+◌, Bool, true, false, not, ◌&&◌, ◌==◌, List, [], ◌∷◌, ◌++◌, map, drop, Option, Some, None, is_some, option_map, if◌then◌else◌, refl, sym, ◌∙◌, ap, subst, arith, inl, inr, append-nil}
+use Rattle.std.specs.Prelude.{IfSome, IsSomeAnd, nat_lt}
+use Rattle.std.specs.List.{AllByRecursion, list_all}
 use Rattle.std.proofs.lemmas.Bool.{false≢true, lt-ltb}
 use Rattle.plain_orders.specs.declared.act.Act.{Act}
 use Rattle.plain_orders.specs.declared.layout.Layout.{Layout}
@@ -16,37 +16,36 @@ use Rattle.end_words.specs.Windows.{Window, sent, numbered_from}
 use Rattle.link_states.specs.declared.app_link.AppLink.{AppLink}
 use Rattle.app_rules.specs.declared.line.Line.{Line}
 use Rattle.app_rules.specs.declared.line.Line.TheVariants.{Apart, Trying, Greeting, Asking, Joined}
-use Rattle.app_rules.specs.AppState.{AppState, AppEnd, Session, no_session}
+use Rattle.app_rules.specs.AppState.{AppState, AppEnd, Session}
 use Rattle.app_rules.specs.AppStep.{made}
-use Rattle.app_rules.specs.Looks.{Shown}
-use Rattle.app_rules.specs.Works.{Sofar, begun, end_at, session_at, is_normal, is_joined}
+use Rattle.app_rules.specs.Works.{begun, end_at, session_at, is_normal, is_joined}
 use Rattle.cluster_runs.specs.declared.move_outs.MoveOuts.{MoveOuts}
 use Rattle.cluster_runs.specs.declared.moves.Move.TheVariants.{Step}
 use Rattle.cluster_runs.specs.CoresState.{CoresState, app_of_job, is_dead}
 use Rattle.cluster_runs.specs.Moves.{Allowed}
 use Rattle.cluster_runs.specs.Mirrors.{Mirrors}
-use Rattle.cluster_runs.specs.Sent.{Connection, FirstTaken, Knew, Place, Lane, Mark}
-use Rattle.cluster_runs.specs.Machine.{Machine, Site, End, app_state, end_state, with_acts}
-use Rattle.cluster_runs.specs.Connections.{knows, knows_of, ups_to, with_ups, leaves_if, at_number, is_index, carries_up}
+use Rattle.cluster_runs.specs.Sent.{Connection, FirstTaken, Knew, Place}
+use Rattle.cluster_runs.specs.Machine.{Machine, Site, End, app_state, end_state}
+use Rattle.cluster_runs.specs.Connections.{knows, knows_of, ups_to, with_ups, at_number, carries_up}
 use Rattle.cluster_runs.specs.Goes.{JobGoes, job_site, app_end, with_state}
 use Rattle.cluster_runs.specs.Lanes.{is_told_new, told_by}
-use Rattle.cluster_invariant.specs.Dials.{DialsAre, PairDials, ConnectionIs, FirstIs, CarriesOf, KnowsStill, is_following}
-use Rattle.cluster_invariant.specs.Ends.{AppTold, ToldPlace}
+use Rattle.cluster_invariant.specs.Dials.{DialsAre, PairDials, ConnectionIs, CarriesOf, KnowsStill, is_following}
+use Rattle.cluster_invariant.specs.Ends.{ToldPlace}
 use Rattle.cluster_invariant.specs.Holds.{Holds}
 use Rattle.cluster_invariant.specs.Link.{DownBy, JoinedWay, WithSession, WindowIs}
 use Rattle.cluster_invariant.specs.Words.{NoLess, is_wire, has_wire}
-use Rattle.cluster_invariant.proofs.Small.{of_some, some_kept}
+use Rattle.cluster_invariant.proofs.Small.{of_some}
 use Rattle.cluster_invariant.proofs.OrderBeside.{leaves_orders}
 use Rattle.cluster_steps.proofs.AppSites.{app_ends, site_ends}
 use Rattle.cluster_steps.proofs.JobActs.{Wrote, wrote_by}
-use Rattle.cluster_steps.proofs.JobEnds.{Grew, EndGrows, SessionsGrow, LineGrows, BeginsTo, grows_by, put_frames, up_frame}
+use Rattle.cluster_steps.proofs.JobEnds.{Grew, EndGrows, SessionsGrow, LineGrows, grows_by, put_frames, up_frame}
 use Rattle.cluster_steps.proofs.JobPieces.{GoesOn, IsPutByJob}
 use Rattle.cluster_steps.proofs.JobPiecesOf.{job_goes}
 use Rattle.cluster_steps.proofs.Outcomes.{EndKept, command_told}
 use Rattle.ends_kept.proofs.OrderApps.{no_news}
 use Rattle.ends_kept.proofs.OrderJobs.{all_leave}
 use Rattle.ends_kept.proofs.TablesKept.{normal_has}
-use Rattle.dials_kept.proofs.ConnectionsGrow.{StaysKnown, Grows, no_less_same, GrowTo}
+use Rattle.dials_kept.proofs.ConnectionsGrow.{StaysKnown, no_less_same, GrowTo}
 use Rattle.dials_kept.proofs.NodesGrow.{SameNode}
 use Rattle.dials_kept.proofs.ShortDials.{EachDials, left_same}
 use Rattle.dials_kept.proofs.ToldStays.{known_by_acts}

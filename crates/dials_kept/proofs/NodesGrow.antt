@@ -1,11 +1,10 @@
 -- What a running node has of its pairs' connections stays, where they go on; and so does the whole part.
-use Rattle.std.proofs.Common.{◌≡◌, ◌≢◌, ◌≤◌, ◌<◌, ◌⊎◌, ℕ, ◌+◌, Bool, true, false, not, List, [], ◌∷◌, ◌++◌, length, drop, Option, Some, None, is_some, refl, sym, ◌∙◌, ap, subst, arith, inl, inr}
-use Rattle.std.specs.Prelude.{⊤, IfSome, IsSomeAnd}
+use Rattle.std.proofs.Common.{◌≡◌, ◌≤◌, ℕ, Bool, true, List, Option, Some, None, is_some, refl, sym, ◌∙◌, ap, subst, arith}
+use Rattle.std.specs.Prelude.{IfSome, IsSomeAnd}
 use Rattle.std.specs.List.{list_any}
-use Rattle.std.proofs.lemmas.Bool.{false≢true}
 use Rattle.plain_orders.specs.declared.entry.Entry.{Entry}
 use Rattle.plain_orders.specs.Sessions.{app_in}
-use Rattle.plain_runs.specs.Plain.{Server, current, order_at}
+use Rattle.plain_runs.specs.Plain.{Server, order_at}
 use Rattle.ecp_messages.specs.declared.down.DownFrame.{DownFrame}
 use Rattle.data_rules.specs.DataState.{DataState}
 use Rattle.data_rules.specs.declared.rows.Role.{Role}
@@ -13,13 +12,13 @@ use Rattle.data_rules.specs.declared.rows.Role.TheVariants.{New, Waiting, Bound,
 use Rattle.data_rules.specs.Callers.{dial_of}
 use Rattle.data_rules.specs.Conns.{role_of}
 use Rattle.cluster_runs.specs.CoresState.{Linked}
-use Rattle.cluster_runs.specs.Sent.{Connection, Knew, Mark, Place, FirstTaken, Lane}
+use Rattle.cluster_runs.specs.Sent.{Connection, Knew, Place, FirstTaken}
 use Rattle.cluster_runs.specs.Machine.{Site, End, DataConnection}
 use Rattle.cluster_runs.specs.Connections.{link_of, link_in, knows}
-use Rattle.cluster_invariant.specs.Dials.{DialsAre, LearntOn, LearntBy, GreatestDial, LinkedTo, BoundTo, ClosedOn, BoundIs, ClosingIs, RoleIs, NodeDials, IsNewest, IsLinkedBy, CarriesNoOther, CameFor, is_here, has_conn, is_connection_in, is_taken_in, as_it_learns, PairDials}
+use Rattle.cluster_invariant.specs.Dials.{DialsAre, LearntOn, LearntBy, GreatestDial, LinkedTo, BoundTo, ClosedOn, RoleIs, NodeDials, IsNewest, IsLinkedBy, CarriesNoOther, CameFor, is_here, has_conn, is_connection_in, is_taken_in, as_it_learns, PairDials}
 use Rattle.cluster_invariant.specs.Words.{NoLess, is_begun, is_reset_frame}
-use Rattle.cluster_invariant.proofs.Small.{some_kept, of_some}
-use Rattle.dials_kept.proofs.ConnectionsGrow.{StaysKnown, SiteGrows, Grows, MadeNow, GrowTo, no_less_then, pair_later}
+use Rattle.cluster_invariant.proofs.Small.{some_kept}
+use Rattle.dials_kept.proofs.ConnectionsGrow.{StaysKnown, SiteGrows, Grows, MadeNow, GrowTo, no_less_then}
 
 -- options of connections
 

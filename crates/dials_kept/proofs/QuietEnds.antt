@@ -1,6 +1,6 @@
 -- An application server's end that is told nothing new: its connection goes on, and its site with it.
-use Rattle.std.proofs.Common.{◌≡◌, ◌≢◌, ◌≤◌, ◌<◌, ℕ, ◌+◌, Bool, true, false, not, ◌&&◌, List, [], ◌∷◌, ◌++◌, length, drop, Option, Some, None, is_some, option_map, if◌then◌else◌, refl, sym, ◌∙◌, ap, subst, arith, ◌==◌}
-use Rattle.std.specs.Prelude.{⊤, IfSome, IsSomeAnd}
+use Rattle.std.proofs.Common.{◌≡◌, ◌≢◌, ◌≤◌, ℕ, Bool, true, false, not, ◌&&◌, List, Option, Some, None, is_some, option_map, if◌then◌else◌, refl, sym, ◌∙◌, ap, subst, arith, ◌==◌}
+use Rattle.std.specs.Prelude.{⊤, IfSome}
 use Rattle.std.proofs.lemmas.Bool.{eqb-true, eq-eqb, ne_eqb, false≢true, and_parts}
 use Rattle.plain_runs.specs.Plain.{Server, put}
 use Rattle.ecp_messages.specs.declared.down.Down.{Down}
@@ -8,7 +8,7 @@ use Rattle.ecp_messages.specs.declared.up.UpFrame.{UpFrame}
 use Rattle.app_rules.specs.declared.app_outs.AppOuts.{AppOuts}
 use Rattle.app_rules.specs.AppState.{AppEnd, Session}
 use Rattle.app_rules.specs.Looks.{Shown}
-use Rattle.cluster_runs.specs.Sent.{Connection, Knew, Lane, Place}
+use Rattle.cluster_runs.specs.Sent.{Connection, Lane, Place}
 use Rattle.cluster_runs.specs.Machine.{Site, End}
 use Rattle.cluster_runs.specs.Connections.{knows, at_number, ups_to}
 use Rattle.cluster_runs.specs.Lanes.{with_app_step, is_told_new, sent_before}
@@ -16,10 +16,10 @@ use Rattle.cluster_runs.specs.Goes.{app_site, at_told, with_state}
 use Rattle.cluster_invariant.specs.Dials.{DialsAre, PairDials, KnowsStill, is_made}
 use Rattle.cluster_invariant.specs.Words.{NoLess, is_wire, has_wire}
 use Rattle.cluster_invariant.proofs.Small.{at_places}
-use Rattle.cluster_steps.proofs.AppSites.{SameBeside, site_beside, site_ends}
-use Rattle.dials_kept.proofs.ConnectionsGrow.{StaysKnown, SiteGrows, Grows, GrowTo, no_less_same, pair_later}
+use Rattle.cluster_steps.proofs.AppSites.{SameBeside, site_beside}
+use Rattle.dials_kept.proofs.ConnectionsGrow.{StaysKnown, Grows, GrowTo, no_less_same, pair_later}
 use Rattle.dials_kept.proofs.NodesGrow.{EndsGrow, SameNode, site_grows, dials_later}
-use Rattle.dials_kept.proofs.ShortDials.{grow_same, grows_same, pair_same, some_mapped}
+use Rattle.dials_kept.proofs.ShortDials.{grow_same, pair_same, some_mapped}
 
 -- lanes
 

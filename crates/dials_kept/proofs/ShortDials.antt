@@ -1,6 +1,6 @@
 -- The part on connections, for the moves that put and take nothing: a tick, a look, and an application server or a node that goes.
-use Rattle.std.proofs.Common.{◌≡◌, ◌≢◌, ◌≤◌, ℕ, ◌+◌, Bool, true, false, not, List, [], ◌∷◌, ◌++◌, drop, length, Option, Some, None, is_some, option_map, if◌then◌else◌, refl, sym, ◌∙◌, ap, subst, arith, ◌==◌}
-use Rattle.std.specs.Prelude.{⊤, IfSome, IsSomeAnd}
+use Rattle.std.proofs.Common.{◌≡◌, ℕ, Bool, true, false, not, List, [], ◌∷◌, ◌++◌, drop, Option, Some, None, is_some, option_map, if◌then◌else◌, refl, sym, ◌∙◌, ap, subst, arith, ◌==◌}
+use Rattle.std.specs.Prelude.{IfSome}
 use Rattle.std.proofs.lemmas.Bool.{false≢true}
 use Rattle.std.proofs.lemmas.List.{append-nil}
 use Rattle.plain_orders.specs.declared.act.Act.{Act}
@@ -9,8 +9,8 @@ use Rattle.plain_orders.specs.declared.layout.Layout.{Layout}
 use Rattle.plain_orders.specs.declared.question.Question.TheVariants.{Get as GetQuestion}
 use Rattle.plain_orders.specs.declared.via.Via.TheVariants.{Cached}
 use Rattle.plain_orders.specs.PairMap.{value_at}
-use Rattle.plain_runs.specs.Plain.{Plain, Server, Known, put, start, current, order_at}
-use Rattle.plain_runs.specs.Run.{after_all, state_after}
+use Rattle.plain_runs.specs.Plain.{Plain, Server, Known, start}
+use Rattle.plain_runs.specs.Run.{state_after}
 use Rattle.plain_runs.specs.Step.{after}
 use Rattle.plain_runs.proofs.RunLemmas.{after_all-more}
 use Rattle.app_job.specs.Sites.{Site as Target}
@@ -18,15 +18,14 @@ use Rattle.end_words.specs.Runs.{pairs_of}
 use Rattle.app_rules.specs.declared.line.Line.{Line}
 use Rattle.app_rules.specs.declared.line.Line.TheVariants.{Apart, Trying, Greeting, Asking, Joined}
 use Rattle.cluster_runs.specs.declared.move_outs.MoveOuts.{MoveOuts}
-use Rattle.cluster_runs.specs.CoresState.{Linked}
 use Rattle.cluster_runs.specs.Sent.{Connection, FirstTaken, Knew}
 use Rattle.cluster_runs.specs.Machine.{Machine, Site, End, DataConnection, with_acts}
-use Rattle.cluster_runs.specs.Connections.{app_leaves, leaves_linked, left, link_in, link_of, knows, at_each}
+use Rattle.cluster_runs.specs.Connections.{app_leaves, leaves_linked, left, link_in, link_of, knows}
 use Rattle.cluster_runs.specs.Goes.{TickGoes, LookGoes, DieGoes, HaltGoes, dies, halted_site}
-use Rattle.cluster_invariant.specs.Dials.{DialsAre, PairDials, ConnectionIs, KnowsStill, is_left_at, is_here, is_made}
+use Rattle.cluster_invariant.specs.Dials.{DialsAre, PairDials, KnowsStill, is_left_at, is_here}
 use Rattle.cluster_invariant.specs.Words.{is_wire}
 use Rattle.cluster_invariant.specs.Holds.{Holds}
-use Rattle.cluster_invariant.proofs.Small.{some_kept, at_places}
+use Rattle.cluster_invariant.proofs.Small.{at_places}
 use Rattle.cluster_invariant.proofs.Frame.{kept_by_tick, others_left}
 use Rattle.dials_kept.proofs.ConnectionsGrow.{StaysKnown, known_same, SiteGrows, Grows, GrowTo, no_less_same, pair_later}
 use Rattle.dials_kept.proofs.NodesGrow.{EndsGrow, SameNode, site_grows, dials_later, learnt_later, links_later}

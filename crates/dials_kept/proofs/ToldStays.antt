@@ -1,5 +1,5 @@
 -- What a session was told stays told in each run of the plain machine, and acts that leave the orders leave what connections need of them.
-use Rattle.std.proofs.Common.{◌≡◌, ◌≢◌, ◌≤◌, ◌<◌, ℕ, ◌+◌, ◌-◌, Bool, true, false, List, [], ◌∷◌, ◌++◌, length, Option, Some, None, is_some, option_map, if◌then◌else◌, refl, sym, ◌∙◌, ap, subst, arith, ◌==◌}
+use Rattle.std.proofs.Common.{◌≡◌, ◌≤◌, ℕ, ◌+◌, ◌-◌, Bool, true, false, List, [], ◌∷◌, ◌++◌, length, Option, Some, None, is_some, option_map, if◌then◌else◌, refl, sym, ◌∙◌, ap, subst, arith, ◌==◌}
 use Rattle.std.specs.Prelude.{IsSomeAnd, slice_index_or, unwrap_or}
 use Rattle.std.specs.List.{AllByRecursion}
 use Rattle.std.proofs.lemmas.Bool.{eqb-true, false≢true}
@@ -17,9 +17,9 @@ use Rattle.plain_orders.specs.declared.layout.Layout.{Layout}
 use Rattle.plain_orders.specs.Entries.{last_epoch}
 use Rattle.plain_orders.specs.Sessions.{app_in}
 use Rattle.data_rules.specs.Places.{epoch_place}
-use Rattle.plain_runs.specs.Plain.{Plain, Server, Session, put, current, order_at, session_in}
+use Rattle.plain_runs.specs.Plain.{Plain, Server, Session, put, order_at, session_in}
 use Rattle.plain_runs.specs.OrderRows.{entered}
-use Rattle.plain_runs.specs.EndRows.{broke, lost, MetMay, ToldMay, begun_by}
+use Rattle.plain_runs.specs.EndRows.{broke, lost, ToldMay, begun_by}
 use Rattle.plain_runs.specs.JobRows.{refused}
 use Rattle.plain_runs.specs.Step.{after, MayCome}
 use Rattle.plain_runs.specs.Run.{RunFrom, after_all}
