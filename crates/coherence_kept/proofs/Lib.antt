@@ -7,3 +7,4 @@ pub mod FrontsServer
 pub mod Joined
 pub mod EntryDrops
 pub mod StepHeld
+pub mod CoherenceJobs
