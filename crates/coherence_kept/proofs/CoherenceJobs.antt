@@ -51,11 +51,11 @@ pub record SameDown (a b : Lane) : Type 0 where
   pub down : b.down ≡ a.down
 
 -- where an application server learns of no order
-step_down : (m : Option Down) (n sent : ℕ) (q : Option Session) (frames : List UpFrame) (a : Lane) → SameDown a (with_app_step false m n sent q frames a)
+pub step_down : (m : Option Down) (n sent : ℕ) (q : Option Session) (frames : List UpFrame) (a : Lane) → SameDown a (with_app_step false m n sent q frames a)
 step_down m n sent None frames a = record { front = refl; down = refl }
 step_down m n sent (Some t) frames a = record { front = refl; down = refl }
 
-told_down : (o : Option Place) (f : Lane → Lane) → ((a : Lane) → SameDown a (f a)) → (z : Site) (s k : ℕ) → SameDown (z.lane_at s k) ((at_told o f z).lane_at s k)
+pub told_down : (o : Option Place) (f : Lane → Lane) → ((a : Lane) → SameDown a (f a)) → (z : Site) (s k : ℕ) → SameDown (z.lane_at s k) ((at_told o f z).lane_at s k)
 told_down None f same z s k = record { front = refl; down = refl }
 told_down (Some p) f same z s k = go (s == p.session && k == p.order)
   where

@@ -8,3 +8,4 @@ pub mod Joined
 pub mod EntryDrops
 pub mod StepHeld
 pub mod CoherenceJobs
+pub mod CoherenceApps

@@ -111,7 +111,7 @@ takes_told d (app_in.Join k) n e = refl
 takes_told d app_in.Tick n e = refl
 
 -- a frame that was taken changes not whose messages the connection carries
-takes_its : (d : ℕ) (frame : DownFrame) (e : End) (y : Connection) → e.connection_at e.state.dial ≡ Some y → its_of ((app_takes d (app_in.Frame d frame) e.state.dial e).connection_at e.state.dial) ≡ y.its
+pub takes_its : (d : ℕ) (frame : DownFrame) (e : End) (y : Connection) → e.connection_at e.state.dial ≡ Some y → its_of ((app_takes d (app_in.Frame d frame) e.state.dial e).connection_at e.state.dial) ≡ y.its
 takes_its d frame e y is = ap (λ (b : Bool). its_of ((if b then at_number e.state.dial down_taken e else e).connection_at e.state.dial)) (eq-eqb d d refl) ∙ go (eqb e.state.dial e.state.dial) (eq-eqb e.state.dial e.state.dial refl)
   where
     go : (b : Bool) → b ≡ true → its_of (if b then option_map down_taken (e.connection_at e.state.dial) else e.connection_at e.state.dial) ≡ y.its
