@@ -8,3 +8,5 @@ pub mod RoundMoves
 pub mod Joined
 pub mod EntryDrops
 pub mod StepHeld
+pub mod CoherenceJobs
+pub mod CoherenceApps
