@@ -5,3 +5,4 @@ pub mod BeginDials
 pub mod ToldStays
 pub mod QuietEnds
 pub mod JobDials
+pub mod QuietMoves
