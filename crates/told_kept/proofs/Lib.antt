@@ -9,3 +9,6 @@ pub mod ToldActs
 pub mod ToldMet
 pub mod ToldApps
 pub mod ToldMoves
+pub mod NodeEndsBeside
+pub mod SameBreaks
+pub mod NodeEndsMoves
