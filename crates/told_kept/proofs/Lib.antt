@@ -12,3 +12,6 @@ pub mod ToldMoves
 pub mod NodeEndsBeside
 pub mod SameBreaks
 pub mod NodeEndsMoves
+pub mod NodeEndsSites
+pub mod NodeEndsJobs
+pub mod Unopened
