@@ -9,3 +9,9 @@ pub mod ToldActs
 pub mod ToldMet
 pub mod ToldApps
 pub mod ToldMoves
+pub mod NodeEndsBeside
+pub mod SameBreaks
+pub mod NodeEndsMoves
+pub mod NodeEndsSites
+pub mod NodeEndsJobs
+pub mod Unopened

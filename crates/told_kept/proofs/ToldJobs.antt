@@ -70,7 +70,7 @@ job_leaves (Tick time) of_job = absurd of_job
 job_leaves (Lose a e loss) of_job = absurd of_job
 job_leaves (Died a) of_job = absurd of_job
 
-all_orders : (ws : List Act) → AllByRecursion IsOfJob ws → AllByRecursion (λ a. leaves_orders a ≡ true) ws
+pub all_orders : (ws : List Act) → AllByRecursion IsOfJob ws → AllByRecursion (λ a. leaves_orders a ≡ true) ws
 all_orders [] of_job = tt
 all_orders (a ∷ ws) of_job = ((job_leaves a of_job.0).0, all_orders ws of_job.1)
 
