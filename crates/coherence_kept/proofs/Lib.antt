@@ -10,3 +10,4 @@ pub mod EntryDrops
 pub mod StepHeld
 pub mod CoherenceJobs
 pub mod CoherenceApps
+pub mod CachedRuns

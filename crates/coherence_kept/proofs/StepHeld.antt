@@ -1,5 +1,5 @@
 -- What a step puts to one session: a numbered message, a Block, and the Drops up to its Close.
-use Rattle.std.proofs.Common.{◌≡◌, ◌≤◌, ℕ, Bool, true, false, if◌then◌else◌, List, [], ◌∷◌, ◌++◌, length, take, refl, sym, ◌∙◌, ap, subst, arith, le_refl}
+use Rattle.std.proofs.Common.{◌≡◌, ◌≤◌, ℕ, Bool, true, false, if◌then◌else◌, List, [], ◌∷◌, ◌++◌, length, refl, sym, ap, subst, arith, le_refl}
 use Rattle.std.specs.Prelude.{⊤}
 use Rattle.std.specs.List.{list_any}
 use Rattle.std.proofs.lemmas.List.{append-nil, append_assoc, length-append}
@@ -20,11 +20,11 @@ use Rattle.ecp_messages.specs.declared.down.Down.TheVariants.{Block}
 use Rattle.ecp_messages.specs.declared.front.Front.{Front}
 use Rattle.cluster_runs.specs.Lanes.{drops_until}
 use Rattle.cluster_runs.specs.WireDrops.{Notes, head, with_entry}
-use Rattle.cluster_invariant.specs.Coherence.{front_of, drops, IsHeader, BlocksHold, IsCoherent}
+use Rattle.cluster_invariant.specs.Coherence.{front_of, IsHeader, BlocksHold, IsCoherent}
 use Rattle.link_kept.proofs.Later.{front_same}
 use Rattle.coherence_kept.proofs.Grows.{coherent_later}
-use Rattle.coherence_kept.proofs.Joined.{Follows, Held, held_coherent, held_joined}
-use Rattle.coherence_kept.proofs.EntryDrops.{HeldBy, is_span, kept, quick, entry_held}
+use Rattle.coherence_kept.proofs.Joined.{Held, held_coherent, held_joined}
+use Rattle.coherence_kept.proofs.EntryDrops.{HeldBy, is_span, entry_held}
 
 -- a header at the whole length
 
@@ -66,14 +66,16 @@ pub fetch_held : (es : List Entry) (synced stays s : ℕ) → synced ≤ stays �
     → (key : List ℕ) (r : Run) (block : List ℕ) → list_any (is_span r.span) more ≡ true → covers key r ≡ true → TrueAt r es (length es) → IsBlockOf r block
     → Held es stays s (HeldBy es more) f (down ++ Block (head es es synced s) block ∷ [])
 fetch_held es synced stays s low within spans more f down h on key r block noted covered is_true in_bytes =
-    message_held es synced stays s low within more f down (more_noted es synced stays s low within spans f down h more on) (Block (head es es synced s) block) refl
-    (record {
-      run = r;
-      its = in_bytes;
-      at_once = is_true;
-      until = tt;
-      stands = λ off. record { noted = noted; is_wide = covers_wide key r covered; is_true = is_true };
-    }, tt)
+    message_held es synced stays s low within more f down (more_noted es synced stays s low within spans f down h more on) (Block (head es es synced s) block) refl (
+      record {
+        run = r;
+        its = in_bytes;
+        at_once = is_true;
+        until = tt;
+        stands = λ off. record { noted = noted; is_wide = covers_wide key r covered; is_true = is_true };
+      },
+      tt,
+    )
 
 -- up to the Close
 

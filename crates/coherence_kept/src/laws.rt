@@ -1,3 +1,4 @@
+ghost use Rattle.coherence_kept.specs.CacheLaws.{CachedRunsAreTrue};
 ghost use Rattle.coherence_kept.specs.RoundLaws.{DeathsKeepRounds, HaltsKeepRounds, LooksKeepRounds, StartsKeepRounds, TicksKeepRounds};
 ghost use Rattle.coherence_kept.specs.Laws.{DeathsKeepCoherence, HaltsKeepCoherence, LooksKeepCoherence, StartsKeepCoherence, TicksKeepCoherence};
 
@@ -18,4 +19,10 @@ pub fn rounds_are_kept()
     ensures deaths { DeathsKeepRounds }
     ensures halts { HaltsKeepRounds }
     ensures starts { StartsKeepRounds }
+{}
+
+/// Where the invariant holds, each run that a living application server has cached is true at its session's front: it
+/// has just the pairs that so much of the data server's order leaves in its span.
+pub fn cached_runs_are_true()
+    ensures { CachedRunsAreTrue }
 {}
