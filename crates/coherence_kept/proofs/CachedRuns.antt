@@ -1,5 +1,5 @@
 -- Each run that an application end has is true at its session's front: it came in a Block, and what came behind it met it nowhere.
-use Rattle.std.proofs.Common.{◌≡◌, ◌≤◌, inl, inr, ℕ, zero, suc, Bool, true, false, ◌||◌, List, [], ◌∷◌, take, Option, Some, None, refl, sym, subst}
+use Rattle.std.proofs.Common.{◌≡◌, ◌≢◌, ◌≤◌, inl, inr, ℕ, zero, suc, Bool, true, false, ◌||◌, List, [], ◌∷◌, take, Option, Some, None, refl, sym, subst}
 use Rattle.std.specs.Prelude.{IfSome}
 use Rattle.std.specs.List.{list_any, AllByRecursion}
 use Rattle.std.proofs.lemmas.Bool.{false≢true}
@@ -9,18 +9,20 @@ use Rattle.plain_orders.specs.declared.layout.Layout.{Layout}
 use Rattle.plain_runs.specs.Plain.{Server, current, order_at}
 use Rattle.plain_runs.specs.Run.{state_after}
 use Rattle.block_bytes.proofs.OneRun.{one_run}
+use Rattle.block_cache.specs.declared.front.Front.{Front as ShownFront}
 use Rattle.end_words.specs.Runs.{TrueAt}
 use Rattle.ecp_messages.specs.declared.down.Down.{Down}
 use Rattle.ecp_messages.specs.declared.down.Down.TheVariants.{Welcome, Reset, Block, Drop, Ack, Grant, Answer, Normal, Bare}
 use Rattle.ecp_messages.specs.declared.front.Front.{Front}
 use Rattle.app_rules.specs.AppState.{Session}
+use Rattle.app_rules.specs.Looks.{Shown, shown_front}
 use Rattle.cluster_runs.specs.Machine.{Machine, Site, End}
 use Rattle.cluster_runs.specs.Sent.{Lane, Place, downs_taken}
 use Rattle.cluster_invariant.specs.Coherence.{BlockHolds, BlocksHold, CoherenceHolds, IsRun, TrueUntilDrop, drops, front_of}
-use Rattle.cluster_invariant.specs.Fronts.{CameIn, FrontIs, FrontOf, Stands, last_front}
+use Rattle.cluster_invariant.specs.Fronts.{CameIn, FrontIs, FrontOf, ShownIs, ShownOf, Stands, last_front}
 use Rattle.cluster_invariant.specs.Holds.{Holds}
 use Rattle.link_kept.proofs.ShortMoves.{told_there}
-use Rattle.coherence_kept.specs.CacheLaws.{CacheIsTrue}
+use Rattle.coherence_kept.specs.CacheLaws.{CacheIsTrue, PublishedIsTrue}
 
 -- either of two that are both false
 neither : (a b : Bool) → (a || b) ≡ false → (a ≡ false) × (b ≡ false)
@@ -90,6 +92,22 @@ module _ (es : List Entry) where
       subst (λ (k : ℕ). AllByRecursion (λ run. TrueAt run es k) cache) (sym front.at)
       (all_true lane.front (downs_taken lane) cache (blocks_first lane.down_taken lane.down is) front.runs)
 
+  -- what is published of a session, at the front that is published, if any run is
+  published_true : (lane : Lane) (s : Session) (y : Shown) → BlocksHold es IsRun lane.down → FrontIs es lane s.number s.n s.w s.cache → ShownIs lane s y
+      → IfSome y.front (λ f. AllByRecursion (λ run. TrueAt run es f.n) y.runs)
+  published_true lane s y is front shown = by y.runs y.front shown.front each
+    where
+      each : AllByRecursion (λ run. TrueAt run es s.n) y.runs
+      each =
+          subst (λ (k : ℕ). AllByRecursion (λ run. TrueAt run es k) y.runs) (sym front.at)
+          (all_true lane.front (downs_taken lane) y.runs (blocks_first lane.down_taken lane.down is) shown.runs)
+
+      by : (runs : List Run) (o : Option ShownFront) → (runs ≢ [] → o ≡ Some (shown_front s)) → AllByRecursion (λ run. TrueAt run es s.n) runs
+          → IfSome o (λ f. AllByRecursion (λ run. TrueAt run es f.n) runs)
+      by [] None has all = tt
+      by [] (Some f) has all = tt
+      by (run ∷ runs) o has all = subst (λ (p : Option ShownFront). IfSome p (λ f. AllByRecursion (λ r. TrueAt r es f.n) (run ∷ runs))) (sym (has (λ same. absurd cc))) all
+
 -- the session of an end, in the order that it is told of
 session_true : (v : Server) (x : Site) (e : End) (o : Option Session) → CoherenceHolds v x → IfSome o (λ s. IfSome e.told (λ p. p.order ≤ current v))
     → IfSome o (FrontOf v x e) → IfSome o (CacheIsTrue v e)
@@ -108,6 +126,41 @@ pub cached_are_true : (l : Layout) (m : Machine) → Holds l m → (d app : ℕ)
     → IfSome ((m.site_at d).end_at app).state.session (CacheIsTrue ((state_after l m.trail).server_at d) ((m.site_at d).end_at app))
 cached_are_true l m h d app lives =
     session_true v (m.site_at d) e e.state.session (h.sites d).coherence (told_there v app e ((h.sites d).ends.told app lives)) ((h.sites d).fronts.apps app lives)
+  where
+    v : Server
+    v = (state_after l m.trail).server_at d
+
+    e : End
+    e = (m.site_at d).end_at app
+
+-- what is published of an end
+published_by : (v : Server) (x : Site) (e : End) (o : Option Session) → CoherenceHolds v x → IfSome o (λ s. IfSome e.told (λ p. p.order ≤ current v))
+    → IfSome o (FrontOf v x e) → ShownOf x e o → PublishedIsTrue v e
+published_by v x e None coherent low front shown = nothing e.told
+  where
+    none : (o : Option ShownFront) (order : List Entry) → IfSome o (λ f. AllByRecursion (λ run. TrueAt run order f.n) e.shown.runs)
+    none None order = tt
+    none (Some f) order = subst (λ (runs : List Run). AllByRecursion (λ run. TrueAt run order f.n) runs) (sym shown) tt
+
+    nothing : (told : Option Place) → IfSome told (λ p. IfSome e.shown.front (λ f. AllByRecursion (λ run. TrueAt run (order_at v p.order) f.n) e.shown.runs))
+    nothing None = tt
+    nothing (Some p) = none e.shown.front (order_at v p.order)
+published_by v x e (Some s) coherent low front shown = go e.told low front shown
+  where
+    go : (told : Option Place) → IfSome told (λ p. p.order ≤ current v)
+        → IfSome told (λ p. FrontIs (order_at v p.order) (x.lane_at s.number p.order) s.number s.n s.w s.cache)
+        → IfSome told (λ p. ShownIs (x.lane_at s.number p.order) s e.shown)
+        → IfSome told (λ p. IfSome e.shown.front (λ f. AllByRecursion (λ run. TrueAt run (order_at v p.order) f.n) e.shown.runs))
+    go None low front shown = tt
+    go (Some p) low front shown =
+        published_true (order_at v p.order) (x.lane_at s.number p.order) s e.shown (coherent.lanes s.number p.order low).blocks front shown
+
+-- So it is where the invariant holds.
+pub published_are_true : (l : Layout) (m : Machine) → Holds l m → (d app : ℕ) → m.is_dead_at app ≡ false
+    → PublishedIsTrue ((state_after l m.trail).server_at d) ((m.site_at d).end_at app)
+published_are_true l m h d app lives =
+    published_by v (m.site_at d) e e.state.session (h.sites d).coherence (told_there v app e ((h.sites d).ends.told app lives)) ((h.sites d).fronts.apps app lives)
+    ((h.sites d).fronts.shown app lives)
   where
     v : Server
     v = (state_after l m.trail).server_at d

@@ -17,3 +17,12 @@ CacheIsTrue v e s = IfSome e.told (λ p. AllByRecursion (λ run. TrueAt run (ord
 abbrev pub CachedRunsAreTrue : Type 0
 CachedRunsAreTrue = (l : Layout) (m : Machine) → Holds l m → (d app : ℕ) → m.is_dead_at app ≡ false
     → IfSome ((m.site_at d).end_at app).state.session (CacheIsTrue ((state_after l m.trail).server_at d) ((m.site_at d).end_at app))
+
+-- each run that is published of the end is true at the front that is published with it
+abbrev pub PublishedIsTrue : Server → End → Type 0
+PublishedIsTrue v e = IfSome e.told (λ p. IfSome e.shown.front (λ f. AllByRecursion (λ run. TrueAt run (order_at v p.order) f.n) e.shown.runs))
+
+-- Where the invariant holds, so are all that living application servers publish.
+abbrev pub PublishedRunsAreTrue : Type 0
+PublishedRunsAreTrue = (l : Layout) (m : Machine) → Holds l m → (d app : ℕ) → m.is_dead_at app ≡ false
+    → PublishedIsTrue ((state_after l m.trail).server_at d) ((m.site_at d).end_at app)

@@ -1,4 +1,4 @@
-ghost use Rattle.coherence_kept.specs.CacheLaws.{CachedRunsAreTrue};
+ghost use Rattle.coherence_kept.specs.CacheLaws.{CachedRunsAreTrue, PublishedRunsAreTrue};
 ghost use Rattle.coherence_kept.specs.RoundLaws.{DeathsKeepRounds, HaltsKeepRounds, LooksKeepRounds, StartsKeepRounds, TicksKeepRounds};
 ghost use Rattle.coherence_kept.specs.Laws.{DeathsKeepCoherence, HaltsKeepCoherence, InputsKeepPuts, JobsKeepPuts, LooksKeepCoherence, StartsKeepCoherence, StepsKeepFronts, TicksKeepCoherence};
 
@@ -26,7 +26,9 @@ pub fn rounds_are_kept()
 {}
 
 /// Where the invariant holds, each run that a living application server has cached is true at its session's front: it
-/// has just the pairs that so much of the data server's order leaves in its span.
+/// has just the pairs that so much of the data server's order leaves in its span; and each that it publishes, at the front
+/// that it publishes with it.
 pub fn cached_runs_are_true()
-    ensures { CachedRunsAreTrue }
+    ensures cached { CachedRunsAreTrue }
+    ensures published { PublishedRunsAreTrue }
 {}
