@@ -9,3 +9,4 @@ pub mod EntryDrops
 pub mod StepHeld
 pub mod CoherenceJobs
 pub mod CoherenceApps
+pub mod FrontsJobs
