@@ -10,3 +10,4 @@ pub mod StepHeld
 pub mod CoherenceJobs
 pub mod CoherenceApps
 pub mod FrontsJobs
+pub mod ServerHeld

@@ -66,14 +66,16 @@ pub fetch_held : (es : List Entry) (synced stays s : ℕ) → synced ≤ stays �
     → (key : List ℕ) (r : Run) (block : List ℕ) → list_any (is_span r.span) more ≡ true → covers key r ≡ true → TrueAt r es (length es) → IsBlockOf r block
     → Held es stays s (HeldBy es more) f (down ++ Block (head es es synced s) block ∷ [])
 fetch_held es synced stays s low within spans more f down h on key r block noted covered is_true in_bytes =
-    message_held es synced stays s low within more f down (more_noted es synced stays s low within spans f down h more on) (Block (head es es synced s) block) refl
-    (record {
-      run = r;
-      its = in_bytes;
-      at_once = is_true;
-      until = tt;
-      stands = λ off. record { noted = noted; is_wide = covers_wide key r covered; is_true = is_true };
-    }, tt)
+    message_held es synced stays s low within more f down (more_noted es synced stays s low within spans f down h more on) (Block (head es es synced s) block) refl (
+      record {
+        run = r;
+        its = in_bytes;
+        at_once = is_true;
+        until = tt;
+        stands = λ off. record { noted = noted; is_wide = covers_wide key r covered; is_true = is_true };
+      },
+      tt,
+    )
 
 -- up to the Close
 

@@ -68,3 +68,9 @@ EachHasFronts l m = (d : ℕ) → FrontsHold ((state_after l m.trail).server_at 
 abbrev pub StepsKeepFronts : Type 0
 StepsKeepFronts = (l : Layout) (c : CoresState) (m : Machine) (server now : ℕ) (input : DataIn) (outs : MoveOuts) (written : List Act) (new : Machine)
     → Holds l m → IsRun l m.trail → Mirrors c m → Allowed c (Server server now input) → ServerGoes m server now input outs written new → EachHasFronts l new
+
+-- Each command of a job does.
+abbrev pub CommandsKeepFronts : Type 0
+CommandsKeepFronts = (l : Layout) (c : CoresState) (m : Machine) (job now line : ℕ) (command : Command) (outs : MoveOuts) (written : List Act) (new : Machine)
+    → Holds l m → IsRun l m.trail → Mirrors c m → Allowed c (Step job now line command) → JobGoes m (app_of_job m.layout job) job now line command outs written new
+    → EachHasFronts l new

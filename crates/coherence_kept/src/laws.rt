@@ -1,4 +1,5 @@
-ghost use Rattle.coherence_kept.specs.Laws.{CommandsKeepPuts, DeathsKeepCoherence, HaltsKeepCoherence, InputsKeepPuts, LooksKeepCoherence};
+ghost use Rattle.coherence_kept.specs.Laws.{CommandsKeepFronts, CommandsKeepPuts, DeathsKeepCoherence, HaltsKeepCoherence};
+ghost use Rattle.coherence_kept.specs.Laws.{InputsKeepPuts, LooksKeepCoherence};
 ghost use Rattle.coherence_kept.specs.Laws.{StartsKeepCoherence, StepsKeepFronts, TicksKeepCoherence};
 
 /// Where the invariant holds, ticks, looks, deaths, halts and starts keep what was put to each session coherent, and each
@@ -18,7 +19,8 @@ pub fn what_was_put_stays_coherent()
     ensures inputs { InputsKeepPuts }
 {}
 
-/// Where it holds, each step of a data server keeps the fronts and runs of the application ends.
+/// Where it holds, each step of a data server and each command of a job keep the fronts and runs of the application ends.
 pub fn fronts_are_kept()
-    ensures { StepsKeepFronts }
+    ensures steps { StepsKeepFronts }
+    ensures commands { CommandsKeepFronts }
 {}
