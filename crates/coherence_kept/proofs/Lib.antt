@@ -11,3 +11,4 @@ pub mod CoherenceJobs
 pub mod CoherenceApps
 pub mod FrontsJobs
 pub mod ServerHeld
+pub mod ServerClosed
