@@ -12,3 +12,4 @@ pub mod CoherenceApps
 pub mod FrontsJobs
 pub mod ServerHeld
 pub mod ServerClosed
+pub mod WindowHeld
