@@ -1,5 +1,5 @@
 -- Coherence over each input of an application server: what was put is as it was, and an order that it learns of begins with the Welcome's header.
-use Rattle.std.proofs.Common.{◌≡◌, ◌≤◌, ◌<◌, ◌⊎◌, inl, inr, ◌&&◌, ◌==◌, ℕ, Bool, true, false, if◌then◌else◌, List, [], ◌++◌, length, take, Option, Some, None, is_some, refl, sym, ◌∙◌, ap, subst, arith}
+use Rattle.std.proofs.Common.{◌≡◌, ◌≤◌, ◌<◌, inl, inr, ◌&&◌, ◌==◌, ℕ, Bool, true, false, if◌then◌else◌, List, [], ◌++◌, length, Option, Some, None, refl, sym, ◌∙◌, ap, subst, arith}
 use Rattle.std.specs.Prelude.{IfSome}
 use Rattle.std.specs.List.{AllByRecursion}
 use Rattle.std.proofs.lemmas.Bool.{and_parts, eqb-true, eq-eqb, false≢true}
@@ -9,7 +9,7 @@ use Rattle.plain_orders.specs.declared.entry.Entry.{Entry}
 use Rattle.plain_orders.specs.declared.layout.Layout.{Layout}
 use Rattle.plain_orders.specs.Entries.{count}
 use Rattle.plain_orders.proofs.Places.{counts_rise}
-use Rattle.plain_runs.specs.Plain.{Plain, Server, start, current, order_at, put}
+use Rattle.plain_runs.specs.Plain.{Plain, Server, start, order_at, put}
 use Rattle.plain_runs.specs.Run.{IsRun, after_all, state_after}
 use Rattle.plain_runs.proofs.RunLemmas.{after_all-append}
 use Rattle.ecp_messages.specs.declared.down.Down.{Down}
@@ -22,7 +22,6 @@ use Rattle.app_rules.specs.declared.app_in.AppIn.TheVariants as app_in
 use Rattle.app_rules.specs.declared.app_outs.AppOuts.{AppOuts}
 use Rattle.app_rules.specs.AppState.{AppState, AppEnd, Session}
 use Rattle.app_rules.specs.AppStep.{made}
-use Rattle.app_rules.specs.Looks.{Shown}
 use Rattle.app_rules.specs.Works.{end_at, begun}
 use Rattle.app_rules.proofs.StepLaws.{steps_at_one_end}
 use Rattle.data_rules.specs.DataState.{DataState}
@@ -30,14 +29,13 @@ use Rattle.cluster_runs.specs.CoresState.{CoresState}
 use Rattle.cluster_runs.specs.declared.move_outs.MoveOuts.{MoveOuts}
 use Rattle.cluster_runs.specs.declared.moves.Move.TheVariants.{App}
 use Rattle.cluster_runs.specs.Connections.{ups_to}
-use Rattle.cluster_runs.specs.Goes.{AppGoes, app_site, app_end, app_takes, at_told, input_site, message_from, with_state}
+use Rattle.cluster_runs.specs.Goes.{AppGoes, app_end, app_takes, at_told, input_site, message_from, with_state}
 use Rattle.cluster_runs.specs.Lanes.{front_by, its_of, is_told_new, told_by, with_app_step, sent_before}
 use Rattle.cluster_runs.specs.Machine.{Machine, Site, End, app_state, end_state}
 use Rattle.cluster_runs.specs.Mirrors.{Mirrors}
 use Rattle.cluster_runs.specs.Moves.{Allowed, AppTakes}
 use Rattle.cluster_runs.specs.Sent.{Lane, Place}
 use Rattle.cluster_invariant.specs.Coherence.{IsHeader, IsCoherent, IsRun as IsAnyRun, RisingFrom, BlocksHold, IsHeld, NodeHeld, CoherenceHolds}
-use Rattle.cluster_invariant.specs.Ends.{ToldPlace}
 use Rattle.cluster_invariant.specs.Holds.{Holds}
 use Rattle.cluster_invariant.specs.Link.{LaneCounts, NewWelcomeOn}
 use Rattle.cluster_invariant.specs.Words.{stays_at}

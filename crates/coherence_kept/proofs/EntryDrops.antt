@@ -1,8 +1,8 @@
 -- An entry that enters with the Drops that it causes: what was put to a session stays coherent, and what isn't dropped is held.
 use Rattle.std.proofs.Common.{◌≡◌, ◌≤◌, ℕ, Bool, true, false, not, cond, ◌||◌, List, [], ◌∷◌, ◌++◌, length, take, filter, refl, sym, ◌∙◌, ap, subst, arith, le_refl}
-use Rattle.std.specs.List.{list_any, AllByRecursion}
+use Rattle.std.specs.List.{list_any}
 use Rattle.std.specs.Cmp.Lexicographic.{same_text}
-use Rattle.std.proofs.lemmas.Bool.{and_parts, or_parts, or_left, or_right, false≢true, true≢false}
+use Rattle.std.proofs.lemmas.Bool.{and_parts, or_parts, or_left, or_right, false≢true}
 use Rattle.std.proofs.lemmas.List.{length-append}
 use Rattle.std.proofs.Math.Seq.{take-length, take-append_seam}
 use Rattle.subscript_keys.specs.declared.span.Span.{Span}
@@ -16,7 +16,7 @@ use Rattle.plain_orders.specs.PairMap as map
 use Rattle.plain_orders.specs.Spans.{entry_spans}
 use Rattle.plain_orders.proofs.Locality.{ApartAll, entry_within}
 use Rattle.plain_orders.proofs.Places.{counts_rise}
-use Rattle.end_words.specs.Runs.{TrueAt, pairs_of, meets, same_span}
+use Rattle.end_words.specs.Runs.{TrueAt, meets, same_span}
 use Rattle.ecp_messages.specs.declared.down.Down.{Down}
 use Rattle.ecp_messages.specs.declared.front.Front.{Front}
 use Rattle.cluster_runs.specs.WireDrops.{drops_of, head, is_met, is_unmet}

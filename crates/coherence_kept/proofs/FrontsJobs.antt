@@ -1,12 +1,12 @@
 -- Fronts over each command of a job: a session's runs are among those that it had, and it has taken as much as before.
-use Rattle.std.proofs.Common.{◌≡◌, ◌≤◌, ◌<◌, ◌⊎◌, inl, inr, ◌&&◌, ◌==◌, ℕ, Bool, true, false, if◌then◌else◌, List, [], ◌∷◌, ◌++◌, take, Option, Some, None, is_some, refl, sym, ◌∙◌, ap, subst, arith}
+use Rattle.std.proofs.Common.{◌≡◌, ◌<◌, inl, inr, ◌&&◌, ◌==◌, ℕ, Bool, true, false, if◌then◌else◌, List, [], ◌∷◌, ◌++◌, take, Option, Some, None, is_some, refl, sym, ◌∙◌, ap, subst, arith}
 use Rattle.std.specs.Prelude.{IfSome}
 use Rattle.std.specs.List.{AllByRecursion}
 use Rattle.std.proofs.lemmas.Bool.{and_parts, eqb-true}
 use Rattle.plain_orders.specs.declared.act.Act.{Act}
 use Rattle.plain_orders.specs.declared.layout.Layout.{Layout}
 use Rattle.plain_orders.specs.Entries.{count}
-use Rattle.plain_runs.specs.Plain.{Plain, Server, start, current, order_at, put}
+use Rattle.plain_runs.specs.Plain.{Plain, Server, start, order_at, put}
 use Rattle.plain_runs.specs.Run.{IsRun, after_all, state_after}
 use Rattle.plain_runs.proofs.RunLemmas.{after_all-append}
 use Rattle.subscript_keys.specs.declared.run.Run.{Run}
@@ -14,7 +14,6 @@ use Rattle.ecp_messages.specs.declared.down.Down.{Down}
 use Rattle.ecp_messages.specs.declared.up.Up.{Up}
 use Rattle.ecp_messages.specs.declared.up.UpFrame.{UpFrame}
 use Rattle.app_job.specs.declared.command.Command.{Command}
-use Rattle.app_rules.specs.declared.app_outs.AppOuts.{AppOuts}
 use Rattle.app_rules.specs.AppState.{AppState, AppEnd, Session}
 use Rattle.app_rules.specs.AppStep.{made}
 use Rattle.app_rules.specs.Looks.{Shown, shown_front}
@@ -23,7 +22,7 @@ use Rattle.cluster_runs.specs.CoresState.{CoresState, app_of_job, is_dead}
 use Rattle.cluster_runs.specs.declared.move_outs.MoveOuts.{MoveOuts}
 use Rattle.cluster_runs.specs.declared.moves.Move.TheVariants.{Step}
 use Rattle.cluster_runs.specs.Connections.{ups_to}
-use Rattle.cluster_runs.specs.Goes.{JobGoes, app_site, app_end, at_told, job_site, with_state}
+use Rattle.cluster_runs.specs.Goes.{JobGoes, app_end, at_told, job_site, with_state}
 use Rattle.cluster_runs.specs.Lanes.{is_told_new, told_by, with_app_step, sent_before}
 use Rattle.cluster_runs.specs.Machine.{Machine, Site, End, app_state, end_state}
 use Rattle.cluster_runs.specs.Mirrors.{Mirrors}
@@ -38,7 +37,7 @@ use Rattle.cluster_invariant.proofs.OrdersStay.{orders_agree}
 use Rattle.cluster_invariant.proofs.Small.{at_places}
 use Rattle.cluster_steps.proofs.AppSites.{app_ends, site_ends, end_has_state, end_has_shown}
 use Rattle.cluster_steps.proofs.JobActs.{Wrote, wrote_by}
-use Rattle.cluster_steps.proofs.JobEnds.{SessionGrows, SessionsGrow, Grew, grows_by}
+use Rattle.cluster_steps.proofs.JobEnds.{SessionsGrow, Grew, grows_by}
 use Rattle.cluster_steps.proofs.JobPieces.{GoesOn, IsAmong}
 use Rattle.cluster_steps.proofs.JobPiecesOf.{job_goes}
 use Rattle.cluster_steps.proofs.Outcomes.{EndKept, command_told}

@@ -1,11 +1,10 @@
 -- A session that a data server's step closes: what was put to it up to its Close is coherent.
-use Rattle.std.proofs.Common.{◌≡◌, ◌≤◌, ℕ, Bool, true, List, [], ◌∷◌, ◌++◌, length, drop, refl, sym, ◌∙◌, ap, subst, arith}
+use Rattle.std.proofs.Common.{◌≡◌, ◌≤◌, ℕ, Bool, true, List, [], ◌∷◌, ◌++◌, length, drop, sym, ◌∙◌, ap, subst, arith}
 use Rattle.std.proofs.lemmas.List.{append_assoc, length-append}
 use Rattle.std.proofs.Math.Seq.{drop-append_seam}
 use Rattle.plain_orders.specs.declared.entry.Entry.{Entry}
 use Rattle.plain_orders.specs.Ordered.{IsOrdered}
 use Rattle.plain_orders.proofs.OrderLemmas.{ordered-front, ordered-last}
-use Rattle.ecp_messages.specs.declared.down.Down.{Down}
 use Rattle.data_rules.specs.DataState.{DataState}
 use Rattle.data_rules.specs.declared.down_frames.DownOut.{DownOut}
 use Rattle.cluster_runs.specs.Lanes.{downs_given, drops_until, is_closed_by, notes_of, with_data_step}

@@ -1,9 +1,7 @@
 -- Where a data server's step begins: what was put to each live session, with the runs that it has; and past orders over the step.
-use Rattle.std.proofs.Common.{◌≡◌, ◌≢◌, ◌≤◌, ◌<◌, ◌&&◌, ◌||◌, ◌==◌, ℕ, Bool, true, false, cond, List, [], ◌∷◌, ◌++◌, length, map, filter, refl, sym, ◌∙◌, ap, subst, arith}
+use Rattle.std.proofs.Common.{◌≡◌, ◌≢◌, ◌≤◌, ◌&&◌, ◌||◌, ◌==◌, ℕ, Bool, true, false, cond, List, [], ◌∷◌, map, filter, refl, sym, ◌∙◌, ap, subst}
 use Rattle.std.specs.List.{list_any}
-use Rattle.std.proofs.lemmas.Bool.{or_left, or_right, false≢true}
 use Rattle.subscript_keys.specs.declared.span.Span.{Span}
-use Rattle.subscript_keys.specs.declared.run.Run.{Run}
 use Rattle.plain_orders.specs.declared.entry.Entry.{Entry}
 use Rattle.plain_runs.specs.Plain.{Server, current, order_at}
 use Rattle.end_words.specs.Runs.{same_span}

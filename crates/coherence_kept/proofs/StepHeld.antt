@@ -1,5 +1,5 @@
 -- What a step puts to one session: a numbered message, a Block, and the Drops up to its Close.
-use Rattle.std.proofs.Common.{◌≡◌, ◌≤◌, ℕ, Bool, true, false, if◌then◌else◌, List, [], ◌∷◌, ◌++◌, length, take, refl, sym, ◌∙◌, ap, subst, arith, le_refl}
+use Rattle.std.proofs.Common.{◌≡◌, ◌≤◌, ℕ, Bool, true, false, if◌then◌else◌, List, [], ◌∷◌, ◌++◌, length, refl, sym, ap, subst, arith, le_refl}
 use Rattle.std.specs.Prelude.{⊤}
 use Rattle.std.specs.List.{list_any}
 use Rattle.std.proofs.lemmas.List.{append-nil, append_assoc, length-append}
@@ -20,11 +20,11 @@ use Rattle.ecp_messages.specs.declared.down.Down.TheVariants.{Block}
 use Rattle.ecp_messages.specs.declared.front.Front.{Front}
 use Rattle.cluster_runs.specs.Lanes.{drops_until}
 use Rattle.cluster_runs.specs.WireDrops.{Notes, head, with_entry}
-use Rattle.cluster_invariant.specs.Coherence.{front_of, drops, IsHeader, BlocksHold, IsCoherent}
+use Rattle.cluster_invariant.specs.Coherence.{front_of, IsHeader, BlocksHold, IsCoherent}
 use Rattle.link_kept.proofs.Later.{front_same}
 use Rattle.coherence_kept.proofs.Grows.{coherent_later}
-use Rattle.coherence_kept.proofs.Joined.{Follows, Held, held_coherent, held_joined}
-use Rattle.coherence_kept.proofs.EntryDrops.{HeldBy, is_span, kept, quick, entry_held}
+use Rattle.coherence_kept.proofs.Joined.{Held, held_coherent, held_joined}
+use Rattle.coherence_kept.proofs.EntryDrops.{HeldBy, is_span, entry_held}
 
 -- a header at the whole length
 
