@@ -67,9 +67,9 @@ record NewHeader (v : Server) (x : Site) (o : Option Place) (front : Front) : Ty
   unlearnt : (x.lane_at session order).began ≡ None
 
 -- the header of a new session, of which nothing counts
-open_header : (v : Server) (x : Site) (app told : ℕ) (es : List Entry) (stays session : ℕ) (front : Front) → front.n ≤ length es → count es session ≡ 0 → front.w ≡ 0 → front.s ≡ 0
+open_header : (es : List Entry) (stays session : ℕ) (front : Front) → front.n ≤ length es → count es session ≡ 0 → front.w ≡ 0 → front.s ≡ 0
     → IsHeader es stays session front
-open_header v x app told es stays session front within unused counted synced = record {
+open_header es stays session front within unused counted synced = record {
   within = within;
   counted =
       omega (arith, counted, unused, counts_rise 0 front.n (length es) es session within, ap (λ (xs : List Entry). count xs session) (take-length es));
@@ -121,7 +121,7 @@ input_header input l c m app d now state outs h shows known alive takes told is 
           order = w.order;
           its = w.its;
           header =
-              open_header v x app e.state.told (order_at v w.order) (stays_at v w.order) session front w.within w.unmet.unused w.none_counted w.none_synced;
+              open_header (order_at v w.order) (stays_at v w.order) session front w.within w.unmet.unused w.none_counted w.none_synced;
           unlearnt = w.unmet.unlearnt;
         })
       where

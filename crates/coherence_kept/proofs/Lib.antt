@@ -11,3 +11,7 @@ pub mod StepHeld
 pub mod CoherenceJobs
 pub mod CoherenceApps
 pub mod CachedRuns
+pub mod FrontsJobs
+pub mod ServerHeld
+pub mod ServerClosed
+pub mod WindowHeld

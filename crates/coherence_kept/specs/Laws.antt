@@ -5,15 +5,15 @@ use Rattle.plain_orders.specs.declared.layout.Layout.{Layout}
 use Rattle.plain_orders.specs.declared.entry.Entry.{Entry}
 use Rattle.plain_runs.specs.Run.{IsRun, state_after}
 use Rattle.app_job.specs.Sites.{Site as Target}
+use Rattle.cluster_runs.specs.declared.move_outs.MoveOuts.{MoveOuts}
+use Rattle.cluster_runs.specs.Machine.{Machine}
 use Rattle.app_job.specs.declared.command.Command.{Command}
 use Rattle.app_rules.specs.declared.app_in.AppIn.{AppIn}
 use Rattle.data_rules.specs.declared.data_in.DataIn.{DataIn}
-use Rattle.cluster_runs.specs.declared.move_outs.MoveOuts.{MoveOuts}
-use Rattle.cluster_runs.specs.Machine.{Machine}
 use Rattle.cluster_runs.specs.CoresState.{CoresState, app_of_job}
 use Rattle.cluster_runs.specs.Moves.{Allowed}
 use Rattle.cluster_runs.specs.Mirrors.{Mirrors}
-use Rattle.cluster_runs.specs.declared.moves.Move.TheVariants.{Begin, Step, App, Server as ServerMove}
+use Rattle.cluster_runs.specs.declared.moves.Move.TheVariants.{App, Begin, Server, Step}
 use Rattle.cluster_runs.specs.Goes.{AppGoes, BeginGoes, DieGoes, HaltGoes, JobGoes, LookGoes, ServerGoes, TickGoes}
 use Rattle.cluster_invariant.specs.Holds.{Holds}
 use Rattle.cluster_invariant.specs.Coherence.{CoherenceHolds}
@@ -49,22 +49,28 @@ StartsKeepCoherence = (l : Layout) (c : CoresState) (m : Machine) (server now : 
 abbrev pub EachPutIsCoherent : Layout → Machine → Type 0
 EachPutIsCoherent l m = (d : ℕ) → CoherenceHolds ((state_after l m.trail).server_at d) (m.site_at d)
 
--- A command of a job keeps that part.
-abbrev pub JobsKeepPuts : Type 0
-JobsKeepPuts = (l : Layout) (c : CoresState) (m : Machine) (job now line : ℕ) (command : Command) (outs : MoveOuts) (written : List Act) (new : Machine)
+-- Each command of a job keeps it coherent.
+abbrev pub CommandsKeepPuts : Type 0
+CommandsKeepPuts = (l : Layout) (c : CoresState) (m : Machine) (job now line : ℕ) (command : Command) (outs : MoveOuts) (written : List Act) (new : Machine)
     → Holds l m → IsRun l m.trail → Mirrors c m → Allowed c (Step job now line command) → JobGoes m (app_of_job m.layout job) job now line command outs written new
     → EachPutIsCoherent l new
 
--- So does an input of an application server.
+-- Each input of an application server does.
 abbrev pub InputsKeepPuts : Type 0
 InputsKeepPuts = (l : Layout) (c : CoresState) (m : Machine) (app now : ℕ) (input : AppIn) (outs : MoveOuts) (written : List Act) (new : Machine)
     → Holds l m → IsRun l m.trail → Mirrors c m → Allowed c (App app now input) → AppGoes m app now input outs written new → EachPutIsCoherent l new
 
 -- at each data server, the fronts of the ends with it
-abbrev pub EachFrontStands : Layout → Machine → Type 0
-EachFrontStands l m = (d : ℕ) → FrontsHold ((state_after l m.trail).server_at d) (m.site_at d) m.is_dead_at
+abbrev pub EachHasFronts : Layout → Machine → Type 0
+EachHasFronts l m = (d : ℕ) → FrontsHold ((state_after l m.trail).server_at d) (m.site_at d) m.is_dead_at
 
--- A step of a data server keeps that part.
+-- Each step of a data server keeps them.
 abbrev pub StepsKeepFronts : Type 0
 StepsKeepFronts = (l : Layout) (c : CoresState) (m : Machine) (server now : ℕ) (input : DataIn) (outs : MoveOuts) (written : List Act) (new : Machine)
-    → Holds l m → IsRun l m.trail → Mirrors c m → Allowed c (ServerMove server now input) → ServerGoes m server now input outs written new → EachFrontStands l new
+    → Holds l m → IsRun l m.trail → Mirrors c m → Allowed c (Server server now input) → ServerGoes m server now input outs written new → EachHasFronts l new
+
+-- Each command of a job does.
+abbrev pub CommandsKeepFronts : Type 0
+CommandsKeepFronts = (l : Layout) (c : CoresState) (m : Machine) (job now line : ℕ) (command : Command) (outs : MoveOuts) (written : List Act) (new : Machine)
+    → Holds l m → IsRun l m.trail → Mirrors c m → Allowed c (Step job now line command) → JobGoes m (app_of_job m.layout job) job now line command outs written new
+    → EachHasFronts l new

@@ -1,22 +1,33 @@
 ghost use Rattle.coherence_kept.specs.CacheLaws.{CachedRunsAreTrue, PublishedRunsAreTrue};
 ghost use Rattle.coherence_kept.specs.RoundLaws.{DeathsKeepRounds, HaltsKeepRounds, LooksKeepRounds, StartsKeepRounds, TicksKeepRounds};
-ghost use Rattle.coherence_kept.specs.Laws.{DeathsKeepCoherence, HaltsKeepCoherence, InputsKeepPuts, JobsKeepPuts, LooksKeepCoherence, StartsKeepCoherence, StepsKeepFronts, TicksKeepCoherence};
+ghost use Rattle.coherence_kept.specs.Laws.{CommandsKeepFronts, CommandsKeepPuts, DeathsKeepCoherence, HaltsKeepCoherence};
+ghost use Rattle.coherence_kept.specs.Laws.{InputsKeepPuts, LooksKeepCoherence};
+ghost use Rattle.coherence_kept.specs.Laws.{StartsKeepCoherence, StepsKeepFronts, TicksKeepCoherence};
 
 /// Where the invariant holds, ticks, looks, deaths, halts and starts keep what was put to each session coherent, and each
-/// application end's front and runs what came to it. Of these two, inputs of application servers and commands of jobs keep
-/// the first, and steps of data servers the second.
+/// application end's front and runs what came to it.
 pub fn coherence_is_kept()
     ensures ticks { TicksKeepCoherence }
     ensures looks { LooksKeepCoherence }
     ensures deaths { DeathsKeepCoherence }
     ensures halts { HaltsKeepCoherence }
     ensures starts { StartsKeepCoherence }
-    ensures jobs { JobsKeepPuts }
-    ensures inputs { InputsKeepPuts }
-    ensures steps { StepsKeepFronts }
 {}
 
-/// So they keep what rounds put: to each session Normal once and as it awaits it, and from each what it sends again.
+/// Where it holds, each command of a job and each input of an application server keep what was put to each session
+/// coherent: an order that the application server learns of begins with the header of its Welcome.
+pub fn what_was_put_stays_coherent()
+    ensures commands { CommandsKeepPuts }
+    ensures inputs { InputsKeepPuts }
+{}
+
+/// Where it holds, each step of a data server and each command of a job keep the fronts and runs of the application ends.
+pub fn fronts_are_kept()
+    ensures steps { StepsKeepFronts }
+    ensures commands { CommandsKeepFronts }
+{}
+
+/// Ticks, looks, deaths, halts and starts keep what rounds put: to each session Normal once and as it awaits it, and from each what it sends again.
 pub fn rounds_are_kept()
     ensures ticks { TicksKeepRounds }
     ensures looks { LooksKeepRounds }

@@ -1,7 +1,4 @@
 use Rattle.coherence_kept.proofs.BeginMoves.{coherence_kept_by_begin}
-use Rattle.coherence_kept.proofs.CoherenceApps.{puts_kept_by_app}
-use Rattle.coherence_kept.proofs.CoherenceJobs.{puts_kept_by_job}
-use Rattle.coherence_kept.proofs.FrontsServer.{fronts_kept_by_server}
 use Rattle.coherence_kept.proofs.ShortMoves.{coherence_kept_by_tick, coherence_kept_by_look, coherence_kept_by_die, coherence_kept_by_halt}
 use Rattle.coherence_kept.proofs.laws.coherence_is_kept.Goals as goal
 
@@ -19,12 +16,3 @@ returns-clause-halts c = coherence_kept_by_halt
 
 pub returns-clause-starts : goal.returns-clause-starts
 returns-clause-starts c = coherence_kept_by_begin
-
-pub returns-clause-jobs : goal.returns-clause-jobs
-returns-clause-jobs c = puts_kept_by_job
-
-pub returns-clause-inputs : goal.returns-clause-inputs
-returns-clause-inputs c = puts_kept_by_app
-
-pub returns-clause-steps : goal.returns-clause-steps
-returns-clause-steps c = fronts_kept_by_server
