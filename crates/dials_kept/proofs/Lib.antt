@@ -6,3 +6,4 @@ pub mod ToldStays
 pub mod QuietEnds
 pub mod JobDials
 pub mod QuietMoves
+pub mod InputDials
