@@ -7,3 +7,4 @@ pub mod QuietEnds
 pub mod JobDials
 pub mod QuietMoves
 pub mod InputDials
+pub mod BrokenDials

@@ -55,6 +55,11 @@ FailuresKeepDials = (l : Layout) (c : CoresState) (m : Machine) (app now d befor
     → Holds l m → IsRun l m.trail → Mirrors c m → Allowed c (App app now (app_in.NoWay d before later)) → AppGoes m app now (app_in.NoWay d before later) outs written new
     → EachDialsAre l new
 
+-- A connection that ended at an application server does.
+abbrev pub BreaksKeepDials : Type 0
+BreaksKeepDials = (l : Layout) (c : CoresState) (m : Machine) (app now d : ℕ) (outs : MoveOuts) (written : List Act) (new : Machine)
+    → Holds l m → IsRun l m.trail → Mirrors c m → Allowed c (App app now (app_in.Broken d)) → AppGoes m app now (app_in.Broken d) outs written new → EachDialsAre l new
+
 -- A line that is to join a pair again does.
 abbrev pub JoinsKeepDials : Type 0
 JoinsKeepDials = (l : Layout) (c : CoresState) (m : Machine) (app now d : ℕ) (outs : MoveOuts) (written : List Act) (new : Machine)

@@ -1,4 +1,4 @@
-ghost use Rattle.dials_kept.specs.Laws.{AppTicksKeepDials, CommandsKeepDials, DeathsKeepDials, FailuresKeepDials, HaltsKeepDials, JoinsKeepDials, LooksKeepDials, StartsKeepDials, TicksKeepDials};
+ghost use Rattle.dials_kept.specs.Laws.{AppTicksKeepDials, BreaksKeepDials, CommandsKeepDials, DeathsKeepDials, FailuresKeepDials, HaltsKeepDials, JoinsKeepDials, LooksKeepDials, StartsKeepDials, TicksKeepDials};
 
 /// Where the invariant holds, these moves keep the connections of each pair: which were made and left, what was put first
 /// on each and in which order it was taken, what each session learnt on which of them, and what a running data server has
@@ -11,6 +11,7 @@ pub fn the_connections_are_kept()
     ensures starts { StartsKeepDials }
     ensures commands { CommandsKeepDials }
     ensures failures { FailuresKeepDials }
+    ensures breaks { BreaksKeepDials }
     ensures joins { JoinsKeepDials }
     ensures app_ticks { AppTicksKeepDials }
 {}

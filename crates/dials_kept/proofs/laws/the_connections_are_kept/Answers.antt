@@ -1,4 +1,5 @@
 use Rattle.dials_kept.proofs.BeginDials.{dials_kept_by_begin}
+use Rattle.dials_kept.proofs.BrokenDials.{dials_kept_by_broken}
 use Rattle.dials_kept.proofs.InputDials.{dials_kept_by_app_tick, dials_kept_by_join, dials_kept_by_no_way}
 use Rattle.dials_kept.proofs.JobDials.{dials_kept_by_job}
 use Rattle.dials_kept.proofs.ShortDials.{dials_kept_by_die, dials_kept_by_halt, dials_kept_by_look, dials_kept_by_tick}
@@ -24,6 +25,9 @@ returns-clause-commands c = dials_kept_by_job
 
 pub returns-clause-failures : goal.returns-clause-failures
 returns-clause-failures c = dials_kept_by_no_way
+
+pub returns-clause-breaks : goal.returns-clause-breaks
+returns-clause-breaks c = dials_kept_by_broken
 
 pub returns-clause-joins : goal.returns-clause-joins
 returns-clause-joins c = dials_kept_by_join
