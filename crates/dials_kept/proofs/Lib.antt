@@ -8,3 +8,5 @@ pub mod JobDials
 pub mod QuietMoves
 pub mod InputDials
 pub mod BrokenDials
+pub mod MadeConnections
+pub mod ConnectedPairs
