@@ -103,7 +103,7 @@ message_later : (v w : Server) → StaysKnown v w → (app dial s : ℕ) (o : Op
 message_later v w later app dial s None low = refl
 message_later v w later app dial s (Some m) low = ap (λ (e : ℕ). Recover app s e m.taken dial) (later.last m.order low)
 
-knew_later : (v w : Server) (x y : Site) → StaysKnown v w → SiteGrows x y → (app s : ℕ) (m : Mark) → KnewIs v x app s m → KnewIs w y app s m
+pub knew_later : (v w : Server) (x y : Site) → StaysKnown v w → SiteGrows x y → (app s : ℕ) (m : Mark) → KnewIs v x app s m → KnewIs w y app s m
 knew_later v w x y later grows app s m is = record {
   there = omega (arith, is.there, later.there);
   told = later.told app s m.order is.told;

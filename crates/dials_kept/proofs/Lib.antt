@@ -6,3 +6,7 @@ pub mod ToldStays
 pub mod QuietEnds
 pub mod JobDials
 pub mod QuietMoves
+pub mod InputDials
+pub mod BrokenDials
+pub mod MadeConnections
+pub mod ConnectedPairs

@@ -102,7 +102,7 @@ dials_with_end v w x y dead app f its same later grow more pair is = dials_later
         (λ b other. pair_same v w x y later same (dead b) b (x.end_at b) (is.pairs b)) a)
 
 -- a connection that the end hasn't is not the one that it has
-no_wire : (dead : Bool) (e : AppEnd) (number : ℕ) → number ≢ e.dial → is_wire dead e number ≡ false
+pub no_wire : (dead : Bool) (e : AppEnd) (number : ℕ) → number ≢ e.dial → is_wire dead e number ≡ false
 no_wire true e number other = refl
 no_wire false e number other = go (has_wire e.line)
   where

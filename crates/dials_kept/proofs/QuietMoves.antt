@@ -71,7 +71,7 @@ quiet_then e f g x y = record { dial = y.dial ∙ x.dial; told = y.told ∙ x.to
 
 -- what it knows
 
-knows_quiet : (o q : Option Session) (p : Option Place) (told later : ℕ) → later ≡ told → (q ≡ o) ⊎ (q ≡ None) → IfSome o (λ s. s.number ≡ told)
+pub knows_quiet : (o q : Option Session) (p : Option Place) (told later : ℕ) → later ≡ told → (q ≡ o) ⊎ (q ≡ None) → IfSome o (λ s. s.number ≡ told)
     → NoLess (knows_of o p told) (knows_of q p later)
 knows_quiet o q p told later same (inl kept) newest =
     subst (λ (k : Knew). NoLess (knows_of o p told) k)
@@ -85,7 +85,7 @@ knows_quiet o q p told later same (inr lost) newest =
     go (Some s) None is = inr (is, tt)
     go (Some s) (Some z) is = inr (is, tt)
 
-none_new : (o q : Option Session) → (q ≡ o) ⊎ (q ≡ None) → is_told_new o q ≡ false
+pub none_new : (o q : Option Session) → (q ≡ o) ⊎ (q ≡ None) → is_told_new o q ≡ false
 none_new o q (inl same) = subst (λ (z : Option Session). is_told_new o z ≡ false) (sym same) (go o)
   where
     go : (z : Option Session) → is_told_new z z ≡ false
@@ -97,7 +97,7 @@ none_new o q (inr lost) = subst (λ (z : Option Session). is_told_new o z ≡ fa
     go None = refl
     go (Some s) = refl
 
-took_quiet : (x : Site) (o q : Option Session) (p : Option Place) → (q ≡ o) ⊎ (q ≡ None)
+pub took_quiet : (x : Site) (o q : Option Session) (p : Option Place) → (q ≡ o) ⊎ (q ≡ None)
     → IfSome o (λ s. IfSome p (λ z. (z.session ≡ s.number) × (s.window.taken ≡ (x.lane_at s.number z.order).down_taken))) → TookMore x q p
 took_quiet x o q p (inl same) is = subst (λ (z : Option Session). TookMore x z p) (sym same) (go o p is)
   where
@@ -112,14 +112,14 @@ took_quiet x o q p (inr lost) is = subst (λ (z : Option Session). TookMore x z 
     go None = tt
     go (Some r) = tt
 
-wireless_still : (line : Line) (k : Knew) (o : Option Connection) → has_wire line ≡ false → KnowsStill line k o
+pub wireless_still : (line : Line) (k : Knew) (o : Option Connection) → has_wire line ≡ false → KnowsStill line k o
 wireless_still Apart k o is = tt
 wireless_still Trying k o is = tt
 wireless_still Greeting k o is = absurd (false≢true (sym is))
 wireless_still Asking k o is = absurd (false≢true (sym is))
 wireless_still Joined k o is = tt
 
-wire_quiet : (e t : AppEnd) → QuietEnd e t → (dead : Bool) → is_wire dead t t.dial ≡ is_wire dead e t.dial
+pub wire_quiet : (e t : AppEnd) → QuietEnd e t → (dead : Bool) → is_wire dead t t.dial ≡ is_wire dead e t.dial
 wire_quiet e t q true = refl
 wire_quiet e t q false =
     ap (λ (b : Bool). if b then t.dial == t.dial else false) q.wire ∙ ap (λ (n : ℕ). if has_wire e.line then t.dial == n else false) q.dial

@@ -1,22 +1,23 @@
--- Moves that keep what the connections of each pair are, where the invariant holds before them.
+-- Moves that keep the connections of each pair, where the invariant holds before them.
 use Rattle.std.specs.Prelude.{ℕ, List}
 use Rattle.plain_orders.specs.declared.act.Act.{Act}
-use Rattle.plain_orders.specs.declared.layout.Layout.{Layout}
 use Rattle.plain_orders.specs.declared.entry.Entry.{Entry}
+use Rattle.plain_orders.specs.declared.layout.Layout.{Layout}
 use Rattle.plain_runs.specs.Run.{IsRun, state_after}
 use Rattle.app_job.specs.Sites.{Site as Target}
 use Rattle.app_job.specs.declared.command.Command.{Command}
+use Rattle.app_rules.specs.declared.app_in.AppIn.TheVariants as app_in
 use Rattle.cluster_runs.specs.declared.move_outs.MoveOuts.{MoveOuts}
-use Rattle.cluster_runs.specs.Machine.{Machine}
+use Rattle.cluster_runs.specs.declared.moves.Move.TheVariants.{App, Begin, Step}
 use Rattle.cluster_runs.specs.CoresState.{CoresState, app_of_job}
 use Rattle.cluster_runs.specs.Moves.{Allowed}
 use Rattle.cluster_runs.specs.Mirrors.{Mirrors}
-use Rattle.cluster_runs.specs.declared.moves.Move.TheVariants.{Begin, Step}
-use Rattle.cluster_runs.specs.Goes.{BeginGoes, DieGoes, HaltGoes, JobGoes, LookGoes, TickGoes}
-use Rattle.cluster_invariant.specs.Holds.{Holds}
+use Rattle.cluster_runs.specs.Machine.{Machine}
+use Rattle.cluster_runs.specs.Goes.{AppGoes, BeginGoes, DieGoes, HaltGoes, JobGoes, LookGoes, TickGoes}
 use Rattle.cluster_invariant.specs.Dials.{DialsAre}
+use Rattle.cluster_invariant.specs.Holds.{Holds}
 
--- at each data server, the connections of its pairs
+-- the connections at each data server
 abbrev pub EachDialsAre : Layout → Machine → Type 0
 EachDialsAre l m = (d : ℕ) → DialsAre ((state_after l m.trail).server_at d) (m.site_at d) m.is_dead_at
 
@@ -37,13 +38,34 @@ DeathsKeepDials = (l : Layout) (m : Machine) (app : ℕ) (outs : MoveOuts) (writ
 abbrev pub HaltsKeepDials : Type 0
 HaltsKeepDials = (l : Layout) (m : Machine) (server : ℕ) (outs : MoveOuts) (written : List Act) (new : Machine) → Holds l m → HaltGoes m server outs written new → EachDialsAre l new
 
--- And each start of one.
+-- Each start of a data server does.
 abbrev pub StartsKeepDials : Type 0
 StartsKeepDials = (l : Layout) (c : CoresState) (m : Machine) (server now : ℕ) (entries : List Entry) (outs : MoveOuts) (written : List Act) (new : Machine)
     → Holds l m → IsRun l m.trail → Mirrors c m → Allowed c (Begin server now entries) → BeginGoes m server now entries outs written new → EachDialsAre l new
 
--- And each command of a job, if the trail is a run after it too.
-abbrev pub JobsKeepDials : Type 0
-JobsKeepDials = (l : Layout) (c : CoresState) (m : Machine) (job now line : ℕ) (command : Command) (outs : MoveOuts) (written : List Act) (new : Machine)
+-- A command of a job does, where the trail stays a run.
+abbrev pub CommandsKeepDials : Type 0
+CommandsKeepDials = (l : Layout) (c : CoresState) (m : Machine) (job now line : ℕ) (command : Command) (outs : MoveOuts) (written : List Act) (new : Machine)
     → Holds l m → IsRun l m.trail → IsRun l new.trail → Mirrors c m → Allowed c (Step job now line command)
     → JobGoes m (app_of_job m.layout job) job now line command outs written new → EachDialsAre l new
+
+-- An attempt to connect that failed does.
+abbrev pub FailuresKeepDials : Type 0
+FailuresKeepDials = (l : Layout) (c : CoresState) (m : Machine) (app now d before later : ℕ) (outs : MoveOuts) (written : List Act) (new : Machine)
+    → Holds l m → IsRun l m.trail → Mirrors c m → Allowed c (App app now (app_in.NoWay d before later)) → AppGoes m app now (app_in.NoWay d before later) outs written new
+    → EachDialsAre l new
+
+-- A connection that ended at an application server does.
+abbrev pub BreaksKeepDials : Type 0
+BreaksKeepDials = (l : Layout) (c : CoresState) (m : Machine) (app now d : ℕ) (outs : MoveOuts) (written : List Act) (new : Machine)
+    → Holds l m → IsRun l m.trail → Mirrors c m → Allowed c (App app now (app_in.Broken d)) → AppGoes m app now (app_in.Broken d) outs written new → EachDialsAre l new
+
+-- A line that is to join a pair again does.
+abbrev pub JoinsKeepDials : Type 0
+JoinsKeepDials = (l : Layout) (c : CoresState) (m : Machine) (app now d : ℕ) (outs : MoveOuts) (written : List Act) (new : Machine)
+    → Holds l m → IsRun l m.trail → Mirrors c m → Allowed c (App app now (app_in.Join d)) → AppGoes m app now (app_in.Join d) outs written new → EachDialsAre l new
+
+-- And a tick at an application server.
+abbrev pub AppTicksKeepDials : Type 0
+AppTicksKeepDials = (l : Layout) (c : CoresState) (m : Machine) (app now : ℕ) (outs : MoveOuts) (written : List Act) (new : Machine)
+    → Holds l m → IsRun l m.trail → Mirrors c m → Allowed c (App app now app_in.Tick) → AppGoes m app now app_in.Tick outs written new → EachDialsAre l new

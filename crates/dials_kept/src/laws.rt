@@ -1,12 +1,17 @@
-ghost use Rattle.dials_kept.specs.Laws.{DeathsKeepDials, HaltsKeepDials, JobsKeepDials, LooksKeepDials, StartsKeepDials, TicksKeepDials};
+ghost use Rattle.dials_kept.specs.Laws.{AppTicksKeepDials, BreaksKeepDials, CommandsKeepDials, DeathsKeepDials, FailuresKeepDials, HaltsKeepDials, JoinsKeepDials, LooksKeepDials, StartsKeepDials, TicksKeepDials};
 
-/// Where the invariant holds, ticks, looks, deaths, halts, starts and commands of jobs keep the connections of each pair:
-/// which were made and left, what was put first on each, and what both ends know of it.
-pub fn connections_are_kept()
+/// Where the invariant holds, these moves keep the connections of each pair: which were made and left, what was put first
+/// on each and in which order it was taken, what each session learnt on which of them, and what a running data server has
+/// of them.
+pub fn the_connections_are_kept()
     ensures ticks { TicksKeepDials }
     ensures looks { LooksKeepDials }
     ensures deaths { DeathsKeepDials }
     ensures halts { HaltsKeepDials }
     ensures starts { StartsKeepDials }
-    ensures jobs { JobsKeepDials }
+    ensures commands { CommandsKeepDials }
+    ensures failures { FailuresKeepDials }
+    ensures breaks { BreaksKeepDials }
+    ensures joins { JoinsKeepDials }
+    ensures app_ticks { AppTicksKeepDials }
 {}
