@@ -15,3 +15,5 @@ pub mod NodeEndsMoves
 pub mod NodeEndsSites
 pub mod NodeEndsJobs
 pub mod Unopened
+pub mod FreshLanes
+pub mod NodeEndsApps

@@ -95,7 +95,7 @@ at_breaks app d (TickAct time) at = absurd at
 at_breaks app d (Lose a e loss) at = refl
 at_breaks app d (Died a) at = absurd at
 
-own_breaks : (app : ℕ) (ws : List Act) → AllByRecursion (IsOfApp app) ws → AllByRecursion (λ a. leaves_breaks a ≡ true) ws
+pub own_breaks : (app : ℕ) (ws : List Act) → AllByRecursion (IsOfApp app) ws → AllByRecursion (λ a. leaves_breaks a ≡ true) ws
 own_breaks app [] own = tt
 own_breaks app (a ∷ ws) own = (go own.0, own_breaks app ws own.1)
   where
