@@ -17,3 +17,4 @@ pub mod NodeEndsJobs
 pub mod Unopened
 pub mod FreshLanes
 pub mod NodeEndsApps
+pub mod NodeEndsInputs

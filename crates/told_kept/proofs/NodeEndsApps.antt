@@ -74,6 +74,18 @@ takes_alone d (app_in.Broken k) e dial c fresh h =
 takes_alone d (app_in.Join k) e dial c fresh h = h
 takes_alone d app_in.Tick e dial c fresh h = h
 
+-- the next number is one that no connection had
+pub unmade : (l : Layout) (m : Machine) (app d : ℕ) → Holds l m → is_some (((m.site_at d).end_at app).connection_at (((m.site_at d).end_at app).state.dial + 1)) ≡ false
+unmade l m app d h = ((h.sites d).dials.pairs app).made (((m.site_at d).end_at app).state.dial + 1) ∙ beyond ((m.site_at d).end_at app).state.dial (((m.site_at d).end_at app).state.dial + 1) (omega arith)
+  where
+    beyond : (n k : ℕ) → k ≡ n + 1 → is_made n k ≡ false
+    beyond n zero is = refl
+    beyond n (suc k) is = by (nat_lt k n) refl
+      where
+        by : (b : Bool) → nat_lt k n ≡ b → nat_lt k n ≡ false
+        by true low = absurd (omega (arith, ltb-true k n low, is))
+        by false low = low
+
 -- nothing is put on the connection of a Hello that is alone
 abbrev pub PutsNothing : Machine → ℕ → ℕ → AppState → List UpOut → Type 0
 PutsNothing m app d state frames = (dial : ℕ) (k : Connection) → ((m.site_at d).end_at app).connection_at dial ≡ Some k → HelloAlone k → dial ≡ (end_at state d).dial → ups_to d frames ≡ []
@@ -106,18 +118,7 @@ node_ends_kept_by_app l c m app now input outs written new h shows allowed goes 
         moved : End
         moved = app_end d goes.app_outs e.state (end_at goes.state d) (goes.shown d) (message_from d input) (app_takes d input e.state.dial e)
 
-        unmade : is_some (e.connection_at (e.state.dial + 1)) ≡ false
-        unmade = ((h.sites d).dials.pairs app).made (e.state.dial + 1) ∙ beyond (e.state.dial) (e.state.dial + 1) (omega arith)
-          where
-            beyond : (n k : ℕ) → k ≡ n + 1 → is_made n k ≡ false
-            beyond n zero is = refl
-            beyond n (suc k) is = by (nat_lt k n) refl
-              where
-                by : (b : Bool) → nat_lt k n ≡ b → nat_lt k n ≡ false
-                by true low = absurd (omega (arith, ltb-true k n low, is))
-                by false low = low
-
         still : (dial : ℕ) (k : Connection) → e.connection_at dial ≡ Some k → HelloAlone k → IsSomeAnd (moved.connection_at dial) (AloneStill k)
         still dial k there alone =
             end_alone d goes.app_outs e.state (end_at goes.state d) (goes.shown d) (message_from d input) (app_takes d input e.state.dial e) dial k (λ is. silent d dial k there alone is)
-            (takes_alone d input e dial k unmade (subst (λ (q : Option Connection). IsSomeAnd q (AloneStill k)) (sym there) (refl, alone)))
+            (takes_alone d input e dial k (unmade l m app d h) (subst (λ (q : Option Connection). IsSomeAnd q (AloneStill k)) (sym there) (refl, alone)))
