@@ -18,3 +18,4 @@ pub mod Unopened
 pub mod FreshLanes
 pub mod NodeEndsApps
 pub mod NodeEndsInputs
+pub mod NodeEndsFrames
