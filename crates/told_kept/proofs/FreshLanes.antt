@@ -1,19 +1,18 @@
 -- A lane that begins as an application server takes an input is of an order that it didn't learn of.
-use Rattle.std.proofs.Common.{◌≡◌, ◌<◌, ◌⊎◌, ℕ, true, false, List, Option, Some, None, refl, sym, ◌∙◌, ap, subst, inl, inr}
+use Rattle.std.proofs.Common.{◌≡◌, ◌<◌, ℕ, false, List, Option, Some, None, refl, sym, ◌∙◌, ap, subst, inl, inr}
 use Rattle.std.specs.Prelude.{IfSome}
 use Rattle.std.proofs.lemmas.Bool.{false≢true}
 use Rattle.plain_orders.specs.declared.act.Act.{Act}
 use Rattle.plain_orders.specs.declared.layout.Layout.{Layout}
-use Rattle.plain_runs.specs.Plain.{Server}
-use Rattle.plain_runs.specs.Run.{IsRun, state_after}
+use Rattle.plain_runs.specs.Run.{state_after}
 use Rattle.ecp_messages.specs.declared.down.Down.{Down}
 use Rattle.ecp_messages.specs.declared.down.Down.TheVariants.{Welcome, Reset, Block, Drop, Ack, Grant, Answer, Normal, Bare}
 use Rattle.ecp_messages.specs.declared.down.DownFrame.{DownFrame}
 use Rattle.app_rules.specs.declared.app_in.AppIn.{AppIn}
 use Rattle.app_rules.specs.declared.app_in.AppIn.TheVariants as app_in
 use Rattle.app_rules.specs.declared.app_outs.AppOuts.{AppOuts}
-use Rattle.app_rules.specs.AppState.{AppState, AppEnd, Session}
-use Rattle.app_rules.specs.AppStep.{AppMay, made}
+use Rattle.app_rules.specs.AppState.{AppState, AppEnd}
+use Rattle.app_rules.specs.AppStep.{made}
 use Rattle.app_rules.specs.Looks.{Shown}
 use Rattle.app_rules.specs.Works.{end_at, begun}
 use Rattle.app_rules.proofs.StepLaws.{steps_at_one_end}
@@ -22,7 +21,7 @@ use Rattle.cluster_runs.specs.declared.move_outs.MoveOuts.{MoveOuts}
 use Rattle.cluster_runs.specs.declared.moves.Move.TheVariants.{App}
 use Rattle.cluster_runs.specs.Lanes.{is_told_new}
 use Rattle.cluster_runs.specs.Goes.{AppGoes, app_end, app_takes, message_from, with_state}
-use Rattle.cluster_runs.specs.Machine.{Machine, Site, End, app_state, end_state}
+use Rattle.cluster_runs.specs.Machine.{Machine, End, app_state, end_state}
 use Rattle.cluster_runs.specs.Mirrors.{Mirrors}
 use Rattle.cluster_runs.specs.Moves.{Allowed, AppTakes}
 use Rattle.cluster_runs.specs.Sent.{Place}

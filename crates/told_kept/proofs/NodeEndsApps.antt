@@ -1,7 +1,7 @@
 -- The data ends of running nodes stay as the invariant has them over an input of an application server, where it puts nothing on the
 -- connection of a Hello that is alone.
-use Rattle.std.proofs.Common.{◌≡◌, ◌≢◌, ◌<◌, ◌+◌, ◌==◌, ℕ, zero, suc, Bool, true, false, List, [], ◌∷◌, ◌++◌, Option, Some, None, is_some, option_map, refl, sym, ◌∙◌, ap, subst, arith, if◌then◌else◌}
-use Rattle.std.specs.Prelude.{IfSome, IsSomeAnd, nat_lt}
+use Rattle.std.proofs.Common.{◌≡◌, ◌+◌, ◌==◌, ℕ, zero, suc, Bool, true, false, List, [], ◌++◌, Option, Some, None, is_some, option_map, refl, sym, ◌∙◌, subst, arith, if◌then◌else◌}
+use Rattle.std.specs.Prelude.{IsSomeAnd, nat_lt}
 use Rattle.std.specs.List.{AllByRecursion}
 use Rattle.std.proofs.lemmas.Bool.{eqb-true, false≢true, ltb-true}
 use Rattle.plain_orders.specs.declared.act.Act.{Act}
@@ -17,12 +17,11 @@ use Rattle.app_rules.specs.AppStep.{made}
 use Rattle.app_rules.specs.Works.{end_at, begun}
 use Rattle.app_rules.proofs.StepLaws.{steps_at_one_end}
 use Rattle.cluster_runs.specs.CoresState.{CoresState}
-use Rattle.cluster_runs.specs.Connections.{app_leaves, at_number, down_taken, fresh_connection, ups_to, with_connection}
+use Rattle.cluster_runs.specs.Connections.{app_leaves, at_number, down_taken, ups_to, with_connection}
 use Rattle.cluster_runs.specs.declared.move_outs.MoveOuts.{MoveOuts}
 use Rattle.cluster_runs.specs.declared.moves.Move.TheVariants.{App}
 use Rattle.cluster_runs.specs.Goes.{AppGoes, app_end, app_takes, input_site, message_from}
-use Rattle.cluster_runs.specs.Lanes.{is_told_new}
-use Rattle.cluster_runs.specs.Machine.{Machine, Site, End, app_state}
+use Rattle.cluster_runs.specs.Machine.{Machine, End, app_state}
 use Rattle.cluster_runs.specs.Mirrors.{Mirrors}
 use Rattle.cluster_runs.specs.Moves.{Allowed}
 use Rattle.cluster_runs.specs.Sent.{Connection}

@@ -1,6 +1,6 @@
 -- The data ends of running nodes stay as the invariant has them over each frame that an application server takes, where what it puts goes to
 -- that frame's data server alone.
-use Rattle.std.proofs.Common.{◌≡◌, ◌≢◌, ◌<◌, ◌⊎◌, ℕ, Bool, true, false, List, [], ◌∷◌, length, Option, Some, None, refl, sym, ◌∙◌, ap, subst, inl, inr, eqb}
+use Rattle.std.proofs.Common.{◌≡◌, ◌≢◌, ℕ, Bool, true, false, List, [], ◌∷◌, Option, Some, refl, sym, ◌∙◌, ap, subst, inl, inr, eqb}
 use Rattle.std.specs.Prelude.{drop}
 use Rattle.std.proofs.lemmas.Bool.{eqb-true, eq-eqb, false≢true}
 use Rattle.std.proofs.Math.Seq.{drop-nil}
@@ -23,7 +23,7 @@ use Rattle.cluster_runs.specs.Connections.{ups_to}
 use Rattle.cluster_runs.specs.declared.move_outs.MoveOuts.{MoveOuts}
 use Rattle.cluster_runs.specs.declared.moves.Move.TheVariants.{App}
 use Rattle.cluster_runs.specs.Goes.{AppGoes}
-use Rattle.cluster_runs.specs.Machine.{Machine, Site, End, app_state, end_state}
+use Rattle.cluster_runs.specs.Machine.{Machine, End, app_state, end_state}
 use Rattle.cluster_runs.specs.Mirrors.{Mirrors}
 use Rattle.cluster_runs.specs.Moves.{Allowed}
 use Rattle.cluster_runs.specs.Sent.{Connection}

@@ -1,12 +1,12 @@
 -- The data ends of running nodes stay as the invariant has them over each input of an application server that is no frame.
-use Rattle.std.proofs.Common.{◌≡◌, ◌≢◌, ◌<◌, ◌+◌, ℕ, Bool, true, false, List, [], ◌∷◌, ◌++◌, length, Option, Some, None, is_some, refl, sym, ◌∙◌, ap, subst, arith, eqb}
-use Rattle.std.specs.Prelude.{⊤, nat_le, nat_lt}
+use Rattle.std.proofs.Common.{◌≡◌, ◌≢◌, ◌<◌, ◌+◌, ℕ, Bool, true, false, List, [], ◌∷◌, length, is_some, refl, sym, ◌∙◌, ap, subst, eqb}
+use Rattle.std.specs.Prelude.{nat_le}
 use Rattle.std.specs.List.{range_with_len}
-use Rattle.std.proofs.lemmas.Bool.{eqb-true, eq-eqb, false≢true, ltb-true}
+use Rattle.std.proofs.lemmas.Bool.{eqb-true, eq-eqb, false≢true}
 use Rattle.plain_orders.specs.declared.act.Act.{Act}
 use Rattle.plain_orders.specs.declared.layout.Layout.{Layout}
 use Rattle.plain_orders.specs.Times.{until}
-use Rattle.plain_runs.specs.Run.{IsRun, state_after}
+use Rattle.plain_runs.specs.Run.{state_after}
 use Rattle.link_states.specs.declared.app_link.AppLink.{AppLink}
 use Rattle.link_states.specs.declared.app_link.AppLink.TheVariants.{NotConnected, Normal as NormalLink, Trouble, Recovery}
 use Rattle.app_rules.specs.declared.app_in.AppIn.{AppIn}
@@ -14,26 +14,24 @@ use Rattle.app_rules.specs.declared.app_in.AppIn.TheVariants as app_in
 use Rattle.app_rules.specs.declared.app_outs.AppOuts.{AppOuts}
 use Rattle.app_rules.specs.declared.line.Line.{Line}
 use Rattle.app_rules.specs.declared.line.Line.TheVariants.{Apart, Trying, Greeting, Asking, Joined}
-use Rattle.app_rules.specs.declared.up_frames.UpOut.{UpOut}
 use Rattle.app_rules.specs.AppState.{AppState, AppEnd}
 use Rattle.app_rules.specs.AppStep.{AppMay, Makes, made}
-use Rattle.app_rules.specs.Losing.{broken_from, connected, connected_from, failed_from, joins_from, ticks, ticks_from, ticks_trouble, tries_when, with_dial}
-use Rattle.app_rules.specs.Works.{Sofar, becomes, begun, end_at, is_apart, tries, tries_if}
+use Rattle.app_rules.specs.Losing.{broken_from, connected_from, failed_from, joins_from, ticks, ticks_from, ticks_trouble, tries_when, with_dial}
+use Rattle.app_rules.specs.Works.{Sofar, becomes, begun, end_at, is_apart, tries_if}
 use Rattle.cluster_runs.specs.CoresState.{CoresState}
 use Rattle.cluster_runs.specs.Connections.{ups_to}
 use Rattle.cluster_runs.specs.declared.move_outs.MoveOuts.{MoveOuts}
 use Rattle.cluster_runs.specs.declared.moves.Move.TheVariants.{App}
 use Rattle.cluster_runs.specs.Goes.{AppGoes}
-use Rattle.cluster_runs.specs.Machine.{Machine, Site, End, app_state}
+use Rattle.cluster_runs.specs.Machine.{Machine, app_state}
 use Rattle.cluster_runs.specs.Mirrors.{Mirrors}
 use Rattle.cluster_runs.specs.Moves.{Allowed}
-use Rattle.cluster_runs.specs.Sent.{Connection}
-use Rattle.cluster_invariant.specs.Ends.{HelloAlone}
 use Rattle.cluster_invariant.specs.Holds.{Holds}
 use Rattle.cluster_steps.proofs.AppSites.{app_ends}
 use Rattle.cluster_steps.proofs.InputEnds.{ConnectedCame, connected_came}
 use Rattle.cluster_steps.proofs.JobEnds.{up_elsewhere}
 use Rattle.ends_kept.proofs.TablesMoves.{app_may}
+use Rattle.told_kept.specs.Laws.{IsNoFrame}
 use Rattle.told_kept.proofs.NodeEndsApps.{PutsNothing, node_ends_kept_by_app, unmade}
 use Rattle.told_kept.proofs.NodeEndsMoves.{NodeEndsHold}
 
@@ -93,15 +91,6 @@ connected_dial NotConnected d now e b c x = ap (λ (y : AppEnd). y.dial) x.end
 connected_dial NormalLink d now e b c x = ap (λ (y : AppEnd). y.dial) x.end
 connected_dial (Trouble broke try_at) d now e b c x = ap (λ (y : AppEnd). y.dial) x.end
 connected_dial Recovery d now e b c x = ap (λ (y : AppEnd). y.dial) x.end
-
--- it is no frame
-abbrev pub IsNoFrame : AppIn → Type 0
-IsNoFrame (app_in.Frame d frame) = ⊥
-IsNoFrame (app_in.Connected d) = ⊤
-IsNoFrame (app_in.NoWay d before later) = ⊤
-IsNoFrame (app_in.Broken d) = ⊤
-IsNoFrame (app_in.Join d) = ⊤
-IsNoFrame app_in.Tick = ⊤
 
 puts_nothing : (i : AppIn) (l : Layout) (c : CoresState) (m : Machine) (app now d : ℕ) (state : AppState) (outs : AppOuts) → Holds l m → Mirrors c m → app < c.layout.apps → IsNoFrame i → AppMay (app_state m app) i
     → Makes (begun (app_state m app)) now i (made state outs) → PutsNothing m app d state outs.frames

@@ -1,4 +1,4 @@
-ghost use Rattle.told_kept.specs.Laws.{CommandsKeepDataEnds, DeathsKeepDataEnds, HaltsKeepDataEnds, LooksKeepDataEnds, MovesKeepTold, MovesKeepUnopened, TicksKeepDataEnds};
+ghost use Rattle.told_kept.specs.Laws.{CommandsKeepDataEnds, DeathsKeepDataEnds, HaltsKeepDataEnds, InputsKeepDataEnds, LooksKeepDataEnds, MovesKeepTold, MovesKeepUnopened, TicksKeepDataEnds};
 
 /// Where the invariant holds, each move keeps what the living application ends were told: sessions that are synced, the
 /// newest one that they have, and the order that it is told of, whose Epoch stays.
@@ -12,11 +12,12 @@ pub fn none_broke_before_the_first_start()
 {}
 
 /// Where the invariant holds, the data ends of running nodes stay as it has them: links, round and waiting Hellos, over
-/// ticks, looks, halts, deaths and the steps of jobs.
+/// ticks, looks, halts, deaths, the steps of jobs, and inputs of application servers that are no frames.
 pub fn the_data_ends_are_kept()
     ensures ticks { TicksKeepDataEnds }
     ensures looks { LooksKeepDataEnds }
     ensures halts { HaltsKeepDataEnds }
     ensures deaths { DeathsKeepDataEnds }
     ensures commands { CommandsKeepDataEnds }
+    ensures inputs { InputsKeepDataEnds }
 {}
