@@ -15,3 +15,7 @@ pub mod NodeEndsMoves
 pub mod NodeEndsSites
 pub mod NodeEndsJobs
 pub mod Unopened
+pub mod FreshLanes
+pub mod NodeEndsApps
+pub mod NodeEndsInputs
+pub mod NodeEndsFrames

@@ -1,6 +1,6 @@
 -- The data end of a running node stays where its node does, and of the plain server what it is compared with.
-use Rattle.std.proofs.Common.{◌≡◌, ◌≢◌, ◌<◌, ℕ, Bool, true, false, not, List, [], ◌∷◌, length, Option, Some, None, option_map, refl, sym, ◌∙◌, ap, subst, if◌then◌else◌}
-use Rattle.std.specs.Prelude.{IfSome, IsSomeAnd}
+use Rattle.std.proofs.Common.{◌≡◌, ℕ, Bool, not, List, [], ◌∷◌, Option, Some, None, refl, sym, ◌∙◌, ap, if◌then◌else◌}
+use Rattle.std.specs.Prelude.{IfSome}
 use Rattle.std.specs.List.{AllByRecursion, filter, list_any}
 use Rattle.plain_orders.specs.Sessions.{live_sessions}
 use Rattle.plain_runs.specs.Plain.{Server}
@@ -14,7 +14,7 @@ use Rattle.data_rules.specs.Conns.{link_of}
 use Rattle.cluster_runs.specs.Machine.{Site}
 use Rattle.cluster_runs.specs.Sent.{ups_taken}
 use Rattle.cluster_invariant.specs.Dials.{LinkedTo}
-use Rattle.cluster_invariant.specs.Ends.{BrokeAt, CallerIs, CallersAre, HelloAlone, LinkIs, NodeEnds, RoundIs, due_in, is_done, is_undone}
+use Rattle.cluster_invariant.specs.Ends.{CallerIs, HelloAlone, LinkIs, NodeEnds, RoundIs, is_done, is_undone}
 
 -- what of the plain server it is compared with
 pub record SameBroke (v w : Server) : Type 0 where

@@ -1,17 +1,15 @@
 -- The data ends of running nodes stay as the invariant has them over each step of a job.
-use Rattle.std.proofs.Common.{◌≡◌, ◌≢◌, ◌<◌, ℕ, Bool, true, false, List, [], ◌∷◌, ◌++◌, Option, Some, None, is_some, refl, sym, ◌∙◌, ap, subst}
-use Rattle.std.specs.Prelude.{IfSome, IsSomeAnd}
+use Rattle.std.proofs.Common.{◌≡◌, ◌<◌, ℕ, Bool, true, false, List, [], ◌∷◌, ◌++◌, Option, Some, None, is_some, refl, sym, ◌∙◌, ap, subst}
+use Rattle.std.specs.Prelude.{IsSomeAnd}
 use Rattle.std.specs.List.{AllByRecursion}
 use Rattle.std.proofs.lemmas.Bool.{false≢true}
 use Rattle.plain_orders.specs.declared.act.Act.{Act}
 use Rattle.plain_orders.specs.declared.act.Act.TheVariants.{Opened, Enter, Synced, Shut, Release, Met, Told, Back, Crash, Issue, Read, Grant as GrantAct, Granted, GiveUp, Quit, Free, Counted, NotWhole, Range, Committed, RolledBack, Reached, Level, Done, Refused, Broke, Mended, Tick, Lose, Died}
-use Rattle.plain_orders.specs.declared.causes.PairEnd.TheVariants.{App as AppSide, Server as ServerSide}
 use Rattle.plain_orders.specs.declared.layout.Layout.{Layout}
 use Rattle.plain_runs.specs.Plain.{Plain, Server, start}
 use Rattle.plain_runs.specs.Run.{after_all, state_after}
 use Rattle.plain_runs.proofs.RunLemmas.{after_all-append}
 use Rattle.ecp_messages.specs.declared.up.Up.{Up}
-use Rattle.ecp_messages.specs.declared.up.UpFrame.{UpFrame}
 use Rattle.end_words.specs.Windows.{Window}
 use Rattle.app_job.specs.declared.command.Command.{Command}
 use Rattle.app_rules.specs.declared.line.Line.{Line}
@@ -20,18 +18,16 @@ use Rattle.app_rules.specs.AppState.{AppState, AppEnd, Session}
 use Rattle.app_rules.specs.AppStep.{made}
 use Rattle.app_rules.specs.Works.{end_at, begun, is_joined, is_normal, session_at}
 use Rattle.cluster_runs.specs.CoresState.{CoresState, app_of_job, is_dead}
-use Rattle.cluster_runs.specs.Connections.{ups_to}
 use Rattle.cluster_runs.specs.declared.move_outs.MoveOuts.{MoveOuts}
 use Rattle.cluster_runs.specs.declared.moves.Move.TheVariants.{Step}
 use Rattle.cluster_runs.specs.Goes.{JobGoes, job_site, app_end}
-use Rattle.cluster_runs.specs.Lanes.{is_told_new}
 use Rattle.cluster_runs.specs.Machine.{Machine, Site, End, app_state, end_state}
 use Rattle.cluster_runs.specs.Mirrors.{Mirrors}
 use Rattle.cluster_runs.specs.Moves.{Allowed}
 use Rattle.cluster_runs.specs.Sent.{Connection, Place}
 use Rattle.cluster_invariant.specs.Ends.{HelloAlone}
 use Rattle.cluster_invariant.specs.Holds.{Holds}
-use Rattle.cluster_invariant.specs.Link.{AppWay, DownBy, JoinedWay, WithSession}
+use Rattle.cluster_invariant.specs.Link.{DownBy, JoinedWay, WithSession}
 use Rattle.cluster_invariant.proofs.Small.{of_some}
 use Rattle.cluster_steps.proofs.AppSites.{app_ends, site_beside}
 use Rattle.cluster_steps.proofs.FrameCases.{LineHas}

@@ -1,5 +1,5 @@
 -- The data ends of running nodes stay as the invariant has them over a tick, a look, and a node or an application server that goes.
-use Rattle.std.proofs.Common.{◌≡◌, ◌≢◌, ℕ, Bool, true, false, List, [], ◌∷◌, ◌++◌, Option, Some, None, option_map, refl, sym, ◌∙◌, ap, subst, if◌then◌else◌, ◌==◌}
+use Rattle.std.proofs.Common.{◌≡◌, ℕ, Bool, true, false, List, [], ◌∷◌, ◌++◌, Option, Some, None, option_map, refl, sym, ◌∙◌, ap, subst, if◌then◌else◌, ◌==◌}
 use Rattle.std.specs.Prelude.{IfSome, IsSomeAnd}
 use Rattle.std.specs.List.{AllByRecursion}
 use Rattle.plain_orders.specs.declared.act.Act.{Act}
@@ -18,13 +18,13 @@ use Rattle.app_job.specs.declared.command.Command.TheVariants as commands
 use Rattle.cluster_runs.specs.declared.move_outs.MoveOuts.{MoveOuts}
 use Rattle.cluster_runs.specs.Connections.{app_leaves, link_in}
 use Rattle.cluster_runs.specs.Goes.{TickGoes, LookGoes, LookedGoes, DieGoes, HaltGoes, dies, halted_site}
-use Rattle.cluster_runs.specs.Machine.{Machine, Site, End, with_acts, DataConnection}
-use Rattle.cluster_runs.specs.Sent.{Connection, FirstTaken}
+use Rattle.cluster_runs.specs.Machine.{Machine, Site, DataConnection}
+use Rattle.cluster_runs.specs.Sent.{Connection}
 use Rattle.cluster_invariant.specs.Dials.{LinkedTo}
 use Rattle.cluster_invariant.specs.Ends.{HelloAlone, NodeEnds}
 use Rattle.cluster_invariant.specs.Holds.{Holds}
 use Rattle.cluster_invariant.proofs.Frame.{kept_by_tick, others_left}
-use Rattle.told_kept.proofs.NodeEndsBeside.{SameBroke, SameCalls, some_beside}
+use Rattle.told_kept.proofs.NodeEndsBeside.{SameCalls, some_beside}
 use Rattle.told_kept.proofs.SameBreaks.{leaves_breaks, rows_breaks}
 
 -- the data end of a site's node

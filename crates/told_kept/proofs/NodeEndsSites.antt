@@ -1,8 +1,8 @@
 -- The data end of a node, where an application server steps: what was taken upwards stays, and Hellos that are alone on their connections.
-use Rattle.std.proofs.Common.{◌≡◌, ◌≢◌, ◌≤◌, ◌&&◌, ◌==◌, ℕ, Bool, true, false, List, [], ◌∷◌, ◌++◌, length, Option, Some, None, is_some, option_map, refl, sym, ◌∙◌, ap, subst, arith, eqb, if◌then◌else◌}
+use Rattle.std.proofs.Common.{◌≡◌, ◌&&◌, ◌==◌, ℕ, Bool, true, false, List, [], length, Option, Some, None, option_map, refl, sym, ◌∙◌, ap, subst, arith, if◌then◌else◌}
 use Rattle.std.specs.Prelude.{IfSome, IsSomeAnd, take, drop}
 use Rattle.std.specs.List.{list_any}
-use Rattle.std.proofs.lemmas.Bool.{and_parts, eqb-true, eq-eqb, false≢true}
+use Rattle.std.proofs.lemmas.Bool.{and_parts, eqb-true}
 use Rattle.std.proofs.lemmas.List.{append-nil, take-append-le}
 use Rattle.plain_runs.specs.Plain.{put}
 use Rattle.ecp_messages.specs.declared.down.Down.{Down}
@@ -19,7 +19,7 @@ use Rattle.cluster_runs.specs.Sent.{Connection, Lane, Place, ups_taken}
 use Rattle.cluster_invariant.specs.Ends.{HelloAlone}
 use Rattle.cluster_invariant.specs.Link.{LaneCounts}
 use Rattle.cluster_invariant.proofs.Small.{at_places}
-use Rattle.cluster_steps.proofs.AppSites.{SameBeside, site_beside, site_ends}
+use Rattle.cluster_steps.proofs.AppSites.{site_beside, site_ends}
 use Rattle.told_kept.proofs.NodeEndsBeside.{SameCalls}
 use Rattle.told_kept.proofs.NodeEndsMoves.{AloneStill, alone_by}
 

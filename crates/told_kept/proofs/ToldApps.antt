@@ -88,7 +88,7 @@ own_kept l m app d outs state shown message e w later mets kept same h =
     old = (m.site_at d).end_at app
 
 -- an end that was told something new has the place that its connection says
-told_new : (b : Bool) (m : Option Down) (n : ℕ) (e : End) → b ≡ true → (told_by b m n e).told ≡ its_of (e.connection_at n)
+pub told_new : (b : Bool) (m : Option Down) (n : ℕ) (e : End) → b ≡ true → (told_by b m n e).told ≡ its_of (e.connection_at n)
 told_new true m n e is = refl
 told_new false m n e is = absurd (false≢true is)
 

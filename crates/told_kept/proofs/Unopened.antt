@@ -1,5 +1,5 @@
 -- Before its first start no data end of a data server broke: each move keeps it.
-use Rattle.std.proofs.Common.{◌≡◌, ◌≢◌, ◌⊎◌, ◌<◌, ℕ, Bool, true, false, List, [], ◌∷◌, ◌++◌, length, Option, Some, None, is_some, refl, sym, ◌∙◌, ap, subst, inl, inr, eqb, if◌then◌else◌}
+use Rattle.std.proofs.Common.{◌≡◌, ◌≢◌, ℕ, Bool, true, false, List, [], ◌∷◌, ◌++◌, length, Option, Some, None, refl, sym, ◌∙◌, ap, subst, inl, inr, eqb, if◌then◌else◌}
 use Rattle.std.specs.List.{AllByRecursion}
 use Rattle.std.proofs.lemmas.Bool.{eqb-true, eq-eqb, false≢true}
 use Rattle.plain_orders.specs.declared.act.Act.{Act}
@@ -15,22 +15,19 @@ use Rattle.plain_runs.specs.Plain.{Plain, Server, start}
 use Rattle.plain_runs.specs.OrderRows.{opened_with, crashed}
 use Rattle.plain_runs.specs.Run.{IsRun, after_all, state_after}
 use Rattle.plain_runs.proofs.RunLemmas.{after_all-append}
-use Rattle.app_job.specs.Sites.{Site as Target}
 use Rattle.app_job.specs.declared.command.Command.{Command}
 use Rattle.app_job.specs.declared.command.Command.TheVariants as commands
 use Rattle.app_rules.specs.declared.app_in.AppIn.{AppIn}
-use Rattle.app_rules.specs.AppState.{AppState}
 use Rattle.app_rules.specs.AppStep.{made}
 use Rattle.app_rules.specs.Works.{begun}
 use Rattle.app_rules.proofs.StepLaws.{steps_at_one_end}
 use Rattle.data_rules.specs.declared.data_in.DataIn.{DataIn}
-use Rattle.data_rules.specs.DataState.{DataState}
 use Rattle.cluster_runs.specs.declared.move_outs.MoveOuts.{MoveOuts}
 use Rattle.cluster_runs.specs.declared.moves.Move.{Move}
 use Rattle.cluster_runs.specs.declared.moves.Move.TheVariants.{Step, Looked, App, Server as ServerMove, Begin, Halt, Die, Tick}
 use Rattle.cluster_runs.specs.CoresState.{CoresState, app_of_job}
-use Rattle.cluster_runs.specs.Goes.{AppGoes, BeginGoes, Goes, JobGoes, LookGoes, LookedGoes, ServerGoes}
-use Rattle.cluster_runs.specs.Machine.{Machine, Site, app_state}
+use Rattle.cluster_runs.specs.Goes.{AppGoes, BeginGoes, Goes, JobGoes, LookedGoes, ServerGoes}
+use Rattle.cluster_runs.specs.Machine.{Machine, app_state}
 use Rattle.cluster_runs.specs.Mirrors.{Mirrors}
 use Rattle.cluster_runs.specs.Moves.{Allowed}
 use Rattle.cluster_runs.specs.Steps.{begin_act}
@@ -42,7 +39,6 @@ use Rattle.cluster_invariant.proofs.OrderMoves.{server_wrote}
 use Rattle.cluster_invariant.proofs.OrderRows.{StepWrote}
 use Rattle.cluster_invariant.proofs.Small.{of_some, put_same, put_other}
 use Rattle.cluster_steps.proofs.JobActs.{Wrote, wrote_by}
-use Rattle.cluster_steps.proofs.JobPieces.{IsOfJob}
 use Rattle.cluster_steps.proofs.JobPiecesOf.{job_goes}
 use Rattle.ends_kept.proofs.PairActs.{IsAt, IsOfApp}
 use Rattle.ends_kept.proofs.TablesKept.{tables_by_input}
@@ -95,7 +91,7 @@ at_breaks app d (TickAct time) at = absurd at
 at_breaks app d (Lose a e loss) at = refl
 at_breaks app d (Died a) at = absurd at
 
-own_breaks : (app : ℕ) (ws : List Act) → AllByRecursion (IsOfApp app) ws → AllByRecursion (λ a. leaves_breaks a ≡ true) ws
+pub own_breaks : (app : ℕ) (ws : List Act) → AllByRecursion (IsOfApp app) ws → AllByRecursion (λ a. leaves_breaks a ≡ true) ws
 own_breaks app [] own = tt
 own_breaks app (a ∷ ws) own = (go own.0, own_breaks app ws own.1)
   where
