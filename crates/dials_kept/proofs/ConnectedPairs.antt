@@ -1,6 +1,6 @@
 -- A pair whose application end made a connection: it is later than all others, and says what the end knows.
-use Rattle.std.proofs.Common.{◌≡◌, ◌≢◌, ◌≤◌, ◌<◌, ℕ, ◌+◌, Bool, true, false, not, ◌==◌, List, [], ◌∷◌, ◌++◌, drop, Option, Some, None, is_some, if◌then◌else◌, refl, sym, ◌∙◌, ap, subst, arith}
-use Rattle.std.specs.Prelude.{⊤, IfSome, IsSomeAnd}
+use Rattle.std.proofs.Common.{◌≡◌, ◌<◌, ℕ, ◌+◌, Bool, true, false, not, ◌==◌, [], ◌∷◌, Option, Some, None, is_some, if◌then◌else◌, refl, sym, ◌∙◌, ap, subst}
+use Rattle.std.specs.Prelude.{IfSome}
 use Rattle.std.proofs.lemmas.Bool.{false≢true, eqb-true, eq-eqb}
 use Rattle.plain_runs.specs.Plain.{Server}
 use Rattle.app_rules.specs.declared.line.Line.{Line}
@@ -14,7 +14,7 @@ use Rattle.cluster_runs.specs.Goes.{with_state}
 use Rattle.cluster_invariant.specs.Dials.{PairDials, KnewIs, KnowsStill, first_frame, is_made}
 use Rattle.cluster_invariant.specs.Words.{NoLess, is_wire, has_wire}
 use Rattle.cluster_invariant.proofs.Small.{some_kept}
-use Rattle.dials_kept.proofs.ConnectionsGrow.{StaysKnown, MadeNow, GrowTo, knew_later, no_less_same, pair_later}
+use Rattle.dials_kept.proofs.ConnectionsGrow.{StaysKnown, GrowTo, knew_later, no_less_same, pair_later}
 use Rattle.dials_kept.proofs.NodesGrow.{SameNode, site_grows}
 use Rattle.dials_kept.proofs.ShortDials.{grow_same}
 use Rattle.dials_kept.proofs.QuietEnds.{no_wire}

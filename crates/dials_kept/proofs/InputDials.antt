@@ -1,5 +1,5 @@
 -- The part on connections, for an attempt that failed, a line that joined again, and a tick at an application server.
-use Rattle.std.proofs.Common.{◌≡◌, ◌≢◌, ◌⊎◌, ◌≤◌, ◌<◌, ℕ, Bool, true, false, List, [], ◌∷◌, ◌++◌, length, Option, Some, None, if◌then◌else◌, refl, sym, ◌∙◌, ap, subst, arith, inl, inr, eqb}
+use Rattle.std.proofs.Common.{◌≡◌, ◌<◌, ℕ, Bool, true, false, List, [], ◌∷◌, length, refl, sym, ◌∙◌, ap, subst, inl, inr, eqb}
 use Rattle.std.specs.Prelude.{nat_le}
 use Rattle.std.specs.List.{range_with_len}
 use Rattle.std.proofs.lemmas.Bool.{false≢true, eqb-true, eq-eqb}
@@ -10,12 +10,11 @@ use Rattle.plain_orders.specs.Times.{until}
 use Rattle.plain_runs.specs.Run.{IsRun, state_after}
 use Rattle.link_states.specs.declared.app_link.AppLink.{AppLink}
 use Rattle.link_states.specs.declared.app_link.AppLink.TheVariants.{NotConnected, Normal as NormalLink, Trouble, Recovery}
-use Rattle.app_rules.specs.declared.app_in.AppIn.{AppIn}
 use Rattle.app_rules.specs.declared.app_in.AppIn.TheVariants as app_in
 use Rattle.app_rules.specs.declared.line.Line.{Line}
 use Rattle.app_rules.specs.declared.line.Line.TheVariants.{Apart, Trying, Greeting, Asking, Joined}
-use Rattle.app_rules.specs.AppState.{AppState, AppEnd, Session}
-use Rattle.app_rules.specs.AppStep.{AppMay, made}
+use Rattle.app_rules.specs.AppState.{AppState, AppEnd}
+use Rattle.app_rules.specs.AppStep.{AppMay}
 use Rattle.app_rules.specs.Laws.{KeepsOthers}
 use Rattle.app_rules.specs.Losing.{failed, failed_from, joins_from, ticks, ticks_from, ticks_trouble, tries_when, line_after_loss}
 use Rattle.app_rules.specs.Works.{Sofar, begun, becomes, end_at, with_line, is_apart, tries_if}
@@ -28,7 +27,7 @@ use Rattle.cluster_runs.specs.Moves.{Allowed}
 use Rattle.cluster_runs.specs.Mirrors.{Mirrors}
 use Rattle.cluster_runs.specs.Machine.{Machine, app_state, end_state}
 use Rattle.cluster_runs.specs.Goes.{AppGoes}
-use Rattle.cluster_invariant.specs.Ends.{AppTables, stands}
+use Rattle.cluster_invariant.specs.Ends.{stands}
 use Rattle.cluster_invariant.specs.Holds.{Holds}
 use Rattle.cluster_invariant.specs.Words.{has_wire}
 use Rattle.cluster_steps.proofs.AppSites.{app_ends}

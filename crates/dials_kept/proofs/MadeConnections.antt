@@ -1,19 +1,17 @@
 -- A connection that an application server makes: what it puts first on it says just what it knows, and the connections are numbered on.
-use Rattle.std.proofs.Common.{◌≡◌, ◌≢◌, ◌≤◌, ◌<◌, ℕ, zero, suc, ◌+◌, Bool, true, false, not, ◌==◌, List, [], ◌∷◌, ◌++◌, length, drop, Option, Some, None, is_some, option_map, if◌then◌else◌, refl, sym, ◌∙◌, ap, subst, arith}
-use Rattle.std.specs.Prelude.{⊤, IfSome, IsSomeAnd, nat_lt}
-use Rattle.std.proofs.lemmas.Bool.{false≢true, eqb-true, eq-eqb, ltb-true, ltb-false, lt-ltb, le-ltb}
-use Rattle.plain_orders.specs.Entries.{last_epoch}
+use Rattle.std.proofs.Common.{◌≡◌, ◌≢◌, ◌≤◌, ◌<◌, ℕ, zero, suc, ◌+◌, Bool, true, false, [], ◌∷◌, Option, Some, None, is_some, refl, sym, ◌∙◌, ap, subst, arith}
+use Rattle.std.specs.Prelude.{IfSome, IsSomeAnd, nat_lt}
+use Rattle.std.proofs.lemmas.Bool.{false≢true, ltb-true, ltb-false, lt-ltb, le-ltb}
 use Rattle.plain_runs.specs.Plain.{Server, Session as PlainSession, current, order_at}
-use Rattle.ecp_messages.specs.declared.up.UpFrame.{UpFrame}
-use Rattle.app_rules.specs.AppState.{AppEnd, Session}
+use Rattle.app_rules.specs.AppState.{Session}
 use Rattle.data_rules.specs.Places.{epoch_place}
-use Rattle.cluster_runs.specs.Sent.{Connection, Knew, Mark, Place, Lane}
+use Rattle.cluster_runs.specs.Sent.{Knew, Place}
 use Rattle.cluster_runs.specs.Machine.{Site, End}
-use Rattle.cluster_runs.specs.Connections.{knows, knows_of, fresh_connection, with_ups}
+use Rattle.cluster_runs.specs.Connections.{knows_of, fresh_connection, with_ups}
 use Rattle.cluster_invariant.specs.Dials.{ConnectionIs, KnewIs, first_frame, is_made}
 use Rattle.cluster_invariant.specs.Ends.{ToldPlace}
 use Rattle.cluster_invariant.specs.Link.{WindowIs}
-use Rattle.cluster_invariant.specs.Words.{is_begun, stays_at}
+use Rattle.cluster_invariant.specs.Words.{stays_at}
 
 -- What an end with a session knows is so.
 pub knows_is : (v : Server) (x : Site) (app : ℕ) (o : Option Session) (p : Option Place) (told : ℕ) → IfSome o (λ s. ToldPlace v app s p)

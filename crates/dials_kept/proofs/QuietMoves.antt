@@ -1,6 +1,6 @@
 -- The part on connections, for an application server's input that puts nothing: its ends know what they knew, or lost a session.
-use Rattle.std.proofs.Common.{◌≡◌, ◌≢◌, ◌⊎◌, ◌≤◌, ℕ, ◌+◌, Bool, true, false, not, ◌&&◌, ◌==◌, List, [], ◌∷◌, ◌++◌, drop, Option, Some, None, option_map, if◌then◌else◌, refl, sym, ◌∙◌, ap, subst, arith, inl, inr}
-use Rattle.std.specs.Prelude.{⊤, IfSome, IsSomeAnd}
+use Rattle.std.proofs.Common.{◌≡◌, ◌⊎◌, ◌≤◌, ℕ, Bool, true, false, not, ◌==◌, List, [], ◌++◌, Option, Some, None, option_map, if◌then◌else◌, refl, sym, ◌∙◌, ap, subst, arith, inl, inr}
+use Rattle.std.specs.Prelude.{IfSome}
 use Rattle.std.specs.List.{AllByRecursion}
 use Rattle.std.proofs.lemmas.Bool.{false≢true, eq-eqb}
 use Rattle.std.proofs.lemmas.List.{append-nil}
@@ -9,24 +9,21 @@ use Rattle.plain_orders.specs.declared.layout.Layout.{Layout}
 use Rattle.plain_runs.specs.Plain.{Plain, Server, start}
 use Rattle.plain_runs.specs.Run.{IsRun, RunFrom, after_all, state_after}
 use Rattle.plain_runs.proofs.RunLemmas.{run_parts, after_all-append}
-use Rattle.ecp_messages.specs.declared.down.Down.{Down}
-use Rattle.ecp_messages.specs.declared.up.UpFrame.{UpFrame}
 use Rattle.app_rules.specs.declared.app_in.AppIn.{AppIn}
 use Rattle.app_rules.specs.declared.line.Line.{Line}
 use Rattle.app_rules.specs.declared.line.Line.TheVariants.{Apart, Trying, Greeting, Asking, Joined}
 use Rattle.app_rules.specs.declared.up_frames.UpOut.{UpOut}
-use Rattle.app_rules.specs.AppState.{AppState, AppEnd, Session}
+use Rattle.app_rules.specs.AppState.{AppEnd, Session}
 use Rattle.app_rules.specs.AppStep.{made}
-use Rattle.app_rules.specs.Looks.{Shown}
-use Rattle.app_rules.specs.Works.{Sofar, begun, end_at}
+use Rattle.app_rules.specs.Works.{begun, end_at}
 use Rattle.cluster_runs.specs.declared.move_outs.MoveOuts.{MoveOuts}
 use Rattle.cluster_runs.specs.declared.moves.Move.TheVariants.{App}
 use Rattle.cluster_runs.specs.CoresState.{CoresState}
 use Rattle.cluster_runs.specs.Moves.{Allowed}
 use Rattle.cluster_runs.specs.Mirrors.{Mirrors}
-use Rattle.cluster_runs.specs.Sent.{Connection, Knew, Place, Lane}
+use Rattle.cluster_runs.specs.Sent.{Connection, Knew, Place}
 use Rattle.cluster_runs.specs.Machine.{Machine, Site, End, app_state, end_state}
-use Rattle.cluster_runs.specs.Connections.{knows, knows_of, ups_to, with_ups, at_number, carries_up}
+use Rattle.cluster_runs.specs.Connections.{knows, knows_of, with_ups, carries_up}
 use Rattle.cluster_runs.specs.Goes.{AppGoes, app_end, app_takes, input_site, message_from, with_state}
 use Rattle.cluster_runs.specs.Lanes.{is_told_new, told_by}
 use Rattle.cluster_invariant.specs.Dials.{DialsAre, PairDials, KnowsStill}
@@ -36,7 +33,7 @@ use Rattle.cluster_invariant.proofs.AppActs.{Leaves, app_step_leaves}
 use Rattle.cluster_invariant.proofs.OrderBeside.{leaves_orders}
 use Rattle.cluster_steps.proofs.AppSites.{site_ends}
 use Rattle.ends_kept.proofs.AppRuns.{run_kept_by_app}
-use Rattle.dials_kept.proofs.ConnectionsGrow.{StaysKnown, Grows, GrowTo, no_less_same}
+use Rattle.dials_kept.proofs.ConnectionsGrow.{StaysKnown, GrowTo, no_less_same}
 use Rattle.dials_kept.proofs.NodesGrow.{SameNode}
 use Rattle.dials_kept.proofs.ShortDials.{EachDials, left_same, still_mapped}
 use Rattle.dials_kept.proofs.ToldStays.{known_by_acts}
