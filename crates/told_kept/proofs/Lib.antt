@@ -19,3 +19,4 @@ pub mod FreshLanes
 pub mod NodeEndsApps
 pub mod NodeEndsInputs
 pub mod NodeEndsFrames
+pub mod TablesShort

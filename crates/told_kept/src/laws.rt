@@ -1,3 +1,4 @@
+ghost use Rattle.told_kept.specs.TableLaws.{DeathsKeepTables, HaltsKeepTables, LooksKeepTables, StartsKeepTables, TicksKeepTables};
 ghost use Rattle.told_kept.specs.Laws.{CommandsKeepDataEnds, DeathsKeepDataEnds, HaltsKeepDataEnds, InputsKeepDataEnds, LooksKeepDataEnds, MovesKeepTold, MovesKeepUnopened, TicksKeepDataEnds};
 
 /// Where the invariant holds, each move keeps what the living application ends were told: sessions that are synced, the
@@ -20,4 +21,13 @@ pub fn the_data_ends_are_kept()
     ensures deaths { DeathsKeepDataEnds }
     ensures commands { CommandsKeepDataEnds }
     ensures inputs { InputsKeepDataEnds }
+{}
+
+/// Where the invariant holds, moves that change no application end keep that their tables are the plain pairs'.
+pub fn the_tables_stay()
+    ensures ticks { TicksKeepTables }
+    ensures looks { LooksKeepTables }
+    ensures deaths { DeathsKeepTables }
+    ensures halts { HaltsKeepTables }
+    ensures starts { StartsKeepTables }
 {}
