@@ -18,5 +18,6 @@ pub mod Unopened
 pub mod FreshLanes
 pub mod NodeEndsApps
 pub mod NodeEndsInputs
+pub mod FrameAlone
 pub mod NodeEndsFrames
 pub mod TablesShort

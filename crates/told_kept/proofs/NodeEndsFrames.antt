@@ -36,6 +36,9 @@ use Rattle.cluster_steps.proofs.FrameEnds.{FrameCame, NumberedCame, ended_from}
 use Rattle.ends_kept.proofs.PairTables.{line_has}
 use Rattle.ends_kept.proofs.TablesMoves.{app_may}
 use Rattle.ends_kept.proofs.TakenDown.{Taken, taken_down}
+use Rattle.app_rules.specs.declared.app_in.AppIn.{AppIn}
+use Rattle.told_kept.proofs.FrameAlone.{taken_silent}
+use Rattle.told_kept.proofs.NodeEndsInputs.{node_ends_kept_by_input}
 use Rattle.told_kept.proofs.NodeEndsApps.{PutsNothing, node_ends_kept_by_app}
 use Rattle.told_kept.proofs.NodeEndsMoves.{NodeEndsHold}
 
@@ -83,11 +86,11 @@ none_taken e frame c t there alone = go (sym (ap (drop c.downs_taken) alone.sile
     go : ◌≡◌ {A = List DownFrame} [] (frame ∷ t.behind) → ⊥
     go is = absurd (cc (is))
 
--- Each frame, where what is put goes to its data server alone.
+-- Each frame: what is put goes to its data server alone.
 pub node_ends_kept_by_frame : (l : Layout) (c : CoresState) (m : Machine) (app now d : ℕ) (frame : DownFrame) (outs : MoveOuts) (written : List Act) (new : Machine)
     → Holds l m → Mirrors c m → Allowed c (App app now (app_in.Frame d frame)) → (goes : AppGoes m app now (app_in.Frame d frame) outs written new)
-    → ((k : ℕ) → k ≢ d → ups_to k goes.app_outs.frames ≡ []) → NodeEndsHold l (state_after l new.trail) new
-node_ends_kept_by_frame l c m app now d frame outs written new h shows allowed goes elsewhere =
+    → NodeEndsHold l (state_after l new.trail) new
+node_ends_kept_by_frame l c m app now d frame outs written new h shows allowed goes =
     node_ends_kept_by_app l c m app now (app_in.Frame d frame) outs written new h shows allowed goes (λ k. silent k)
   where
     alive : m.is_dead_at app ≡ false
@@ -104,6 +107,9 @@ node_ends_kept_by_frame l c m app now d frame outs written new h shows allowed g
         frame_dial frame.message d now frame (begun (app_state m app)) (made goes.state goes.app_outs) (frame_came (begun (app_state m app)) now d frame (made goes.state goes.app_outs) may.known has goes.steps)
         ∙ ap (λ (y : AppEnd). y.dial) (app_ends c m app d shows allowed.known)
 
+    elsewhere : (k : ℕ) → k ≢ d → ups_to k goes.app_outs.frames ≡ []
+    elsewhere k other = taken_silent k d (λ same. other (sym same)) (begun (app_state m app)) now frame (made goes.state goes.app_outs) goes.steps
+
     silent : (k : ℕ) → PutsNothing m app k goes.state goes.app_outs.frames
     silent k dial conn there alone is = go (eqb k d) refl
       where
@@ -115,3 +121,13 @@ node_ends_kept_by_frame l c m app now d frame outs written new h shows allowed g
         go : (b : Bool) → eqb k d ≡ b → ups_to k goes.app_outs.frames ≡ []
         go true same = absurd (here k (eqb-true k d same) there is)
         go false other = elsewhere k (λ same. false≢true (sym other ∙ eq-eqb k d same))
+
+-- So each input of an application server keeps them.
+pub node_ends_kept_by_inputs : (l : Layout) (c : CoresState) (m : Machine) (app now : ℕ) (input : AppIn) (outs : MoveOuts) (written : List Act) (new : Machine)
+    → Holds l m → Mirrors c m → Allowed c (App app now input) → AppGoes m app now input outs written new → NodeEndsHold l (state_after l new.trail) new
+node_ends_kept_by_inputs l c m app now (app_in.Frame d frame) outs written new h shows allowed goes = node_ends_kept_by_frame l c m app now d frame outs written new h shows allowed goes
+node_ends_kept_by_inputs l c m app now (app_in.Connected d) outs written new h shows allowed goes = node_ends_kept_by_input l c m app now (app_in.Connected d) outs written new h shows allowed goes tt
+node_ends_kept_by_inputs l c m app now (app_in.NoWay d before later) outs written new h shows allowed goes = node_ends_kept_by_input l c m app now (app_in.NoWay d before later) outs written new h shows allowed goes tt
+node_ends_kept_by_inputs l c m app now (app_in.Broken d) outs written new h shows allowed goes = node_ends_kept_by_input l c m app now (app_in.Broken d) outs written new h shows allowed goes tt
+node_ends_kept_by_inputs l c m app now (app_in.Join d) outs written new h shows allowed goes = node_ends_kept_by_input l c m app now (app_in.Join d) outs written new h shows allowed goes tt
+node_ends_kept_by_inputs l c m app now app_in.Tick outs written new h shows allowed goes = node_ends_kept_by_input l c m app now app_in.Tick outs written new h shows allowed goes tt

@@ -1,6 +1,6 @@
 -- The data ends of running nodes stay as the invariant has them over each input of an application server that is no frame.
 use Rattle.std.proofs.Common.{◌≡◌, ◌≢◌, ◌<◌, ◌+◌, ℕ, Bool, true, false, List, [], ◌∷◌, length, is_some, refl, sym, ◌∙◌, ap, subst, eqb}
-use Rattle.std.specs.Prelude.{nat_le}
+use Rattle.std.specs.Prelude.{nat_le, ⊤}
 use Rattle.std.specs.List.{range_with_len}
 use Rattle.std.proofs.lemmas.Bool.{eqb-true, eq-eqb, false≢true}
 use Rattle.plain_orders.specs.declared.act.Act.{Act}
@@ -31,9 +31,17 @@ use Rattle.cluster_steps.proofs.AppSites.{app_ends}
 use Rattle.cluster_steps.proofs.InputEnds.{ConnectedCame, connected_came}
 use Rattle.cluster_steps.proofs.JobEnds.{up_elsewhere}
 use Rattle.ends_kept.proofs.TablesMoves.{app_may}
-use Rattle.told_kept.specs.Laws.{IsNoFrame}
 use Rattle.told_kept.proofs.NodeEndsApps.{PutsNothing, node_ends_kept_by_app, unmade}
 use Rattle.told_kept.proofs.NodeEndsMoves.{NodeEndsHold}
+
+-- an input that is no frame
+abbrev pub IsNoFrame : AppIn → Type 0
+IsNoFrame (app_in.Frame d frame) = ⊥
+IsNoFrame (app_in.Connected d) = ⊤
+IsNoFrame (app_in.NoWay d before later) = ⊤
+IsNoFrame (app_in.Broken d) = ⊤
+IsNoFrame (app_in.Join d) = ⊤
+IsNoFrame app_in.Tick = ⊤
 
 -- what puts no frame
 

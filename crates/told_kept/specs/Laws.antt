@@ -1,12 +1,11 @@
 -- What a move keeps, where the invariant holds before it.
-use Rattle.std.specs.Prelude.{◌≡◌, ⊤, ℕ, false, List, None, IfSome}
+use Rattle.std.specs.Prelude.{◌≡◌, ℕ, false, List, None, IfSome}
 use Rattle.plain_orders.specs.declared.act.Act.{Act}
 use Rattle.plain_orders.specs.declared.layout.Layout.{Layout}
 use Rattle.plain_runs.specs.Run.{IsRun, state_after}
 use Rattle.plain_runs.specs.Plain.{Plain}
 use Rattle.app_job.specs.declared.command.Command.{Command}
 use Rattle.app_rules.specs.declared.app_in.AppIn.{AppIn}
-use Rattle.app_rules.specs.declared.app_in.AppIn.TheVariants as app_in
 use Rattle.cluster_runs.specs.CoresState.{CoresState, app_of_job}
 use Rattle.cluster_runs.specs.declared.move_outs.MoveOuts.{MoveOuts}
 use Rattle.cluster_runs.specs.declared.moves.Move.{Move}
@@ -56,16 +55,7 @@ abbrev pub CommandsKeepDataEnds : Type 0
 CommandsKeepDataEnds = (l : Layout) (c : CoresState) (m : Machine) (job now line : ℕ) (command : Command) (outs : MoveOuts) (written : List Act) (new : Machine)
     → Holds l m → Mirrors c m → Allowed c (Step job now line command) → JobGoes m (app_of_job m.layout job) job now line command outs written new → DataEndsHold l (state_after l new.trail) new
 
--- an input that is no frame
-abbrev pub IsNoFrame : AppIn → Type 0
-IsNoFrame (app_in.Frame d frame) = ⊥
-IsNoFrame (app_in.Connected d) = ⊤
-IsNoFrame (app_in.NoWay d before later) = ⊤
-IsNoFrame (app_in.Broken d) = ⊤
-IsNoFrame (app_in.Join d) = ⊤
-IsNoFrame app_in.Tick = ⊤
-
--- Such an input of an application server does.
+-- Each input of an application server does.
 abbrev pub InputsKeepDataEnds : Type 0
 InputsKeepDataEnds = (l : Layout) (c : CoresState) (m : Machine) (app now : ℕ) (input : AppIn) (outs : MoveOuts) (written : List Act) (new : Machine)
-    → Holds l m → Mirrors c m → Allowed c (App app now input) → AppGoes m app now input outs written new → IsNoFrame input → DataEndsHold l (state_after l new.trail) new
+    → Holds l m → Mirrors c m → Allowed c (App app now input) → AppGoes m app now input outs written new → DataEndsHold l (state_after l new.trail) new

@@ -13,7 +13,7 @@ pub fn none_broke_before_the_first_start()
 {}
 
 /// Where the invariant holds, the data ends of running nodes stay as it has them: links, round and waiting Hellos, over
-/// ticks, looks, halts, deaths, the steps of jobs, and inputs of application servers that are no frames.
+/// ticks, looks, halts, deaths, the steps of jobs, and inputs of application servers.
 pub fn the_data_ends_are_kept()
     ensures ticks { TicksKeepDataEnds }
     ensures looks { LooksKeepDataEnds }

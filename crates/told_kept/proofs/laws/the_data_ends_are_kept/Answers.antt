@@ -1,4 +1,4 @@
-use Rattle.told_kept.proofs.NodeEndsInputs.{node_ends_kept_by_input}
+use Rattle.told_kept.proofs.NodeEndsFrames.{node_ends_kept_by_inputs}
 use Rattle.told_kept.proofs.NodeEndsJobs.{node_ends_kept_by_job}
 use Rattle.told_kept.proofs.NodeEndsMoves.{node_ends_kept_by_die, node_ends_kept_by_halt, node_ends_kept_by_looked, node_ends_kept_by_tick}
 use Rattle.told_kept.proofs.laws.the_data_ends_are_kept.Goals as goal
@@ -19,4 +19,4 @@ pub returns-clause-commands : goal.returns-clause-commands
 returns-clause-commands c = node_ends_kept_by_job
 
 pub returns-clause-inputs : goal.returns-clause-inputs
-returns-clause-inputs c = node_ends_kept_by_input
+returns-clause-inputs c = node_ends_kept_by_inputs
