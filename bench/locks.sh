@@ -4,19 +4,12 @@
 # only fills. The last line is the time of the rounds in the larger table over that in the smaller.
 # Build the program first: (cd crates/lock_bench && rt run -- 10 1).
 set -eu
-cd "$(dirname "$0")/.."
-program=crates/lock_bench/out/lock_bench
-[ -x "$program" ] || { echo "no $program: build it first, as this file's head says"; exit 1; }
+source "$(dirname "$0")/timed.sh" lock_bench
 rounds=${1:-100000}
-time_file=$(mktemp)
-trap 'rm -f "$time_file"' EXIT
 
-# The best of three runs: seconds and KiB.
+# Seconds and KiB.
 measure() {
-    for _ in 1 2 3; do
-        /usr/bin/time -f '%e %M' -o "$time_file" "$program" "$1" "$2" > /dev/null
-        cat "$time_file"
-    done | sort -n | head -n 1
+    best 3 '%e %M' "$1" "$2"
 }
 
 printf '%d cores, %d rounds\n%8s %10s %12s %12s\n' "$(nproc)" "$rounds" holds 'fill, s' 'peak KiB' 'rounds, s'

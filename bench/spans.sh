@@ -4,19 +4,12 @@
 # them takes is measured too and taken off. Asks that went through all would take some 8 and 16 times as long.
 # Build the program first: (cd crates/span_bench && rt run -- cover 16 1000).
 set -eu
-cd "$(dirname "$0")/.."
-program=crates/span_bench/out/span_bench
-[ -x "$program" ] || { echo "no $program: build it first, as this file's head says"; exit 1; }
+source "$(dirname "$0")/timed.sh" span_bench
 asked=${1:-1000000}
-time_file=$(mktemp)
-trap 'rm -f "$time_file"' EXIT
 
-# Seconds of the best of five runs.
+# Seconds.
 seconds() {
-    for _ in 1 2 3 4 5; do
-        /usr/bin/time -f '%U' -o "$time_file" "$program" "$1" "$2" "$3" > /dev/null
-        cat "$time_file"
-    done | sort -n | head -n 1
+    best 5 '%U' "$1" "$2" "$3"
 }
 
 printf '%d cores, %d asked\n%8s %8s %8s %10s %10s %8s\n' "$(nproc)" "$asked" what few many 'few, s' 'many, s' ratio
