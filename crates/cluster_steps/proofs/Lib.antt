@@ -10,3 +10,4 @@ pub mod InputEnds
 pub mod AppSites
 pub mod JobActs
 pub mod Outcomes
+pub mod FrameAlone

@@ -1,4 +1,3 @@
-pub mod LiveSessions
 pub mod PairTables
 pub mod PairActs
 pub mod TablesKept

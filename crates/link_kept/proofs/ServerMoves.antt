@@ -25,6 +25,7 @@ use Rattle.cluster_runs.specs.Moves.{Allowed, NodeMay}
 use Rattle.cluster_runs.specs.Mirrors.{Mirrors}
 use Rattle.cluster_runs.specs.Machine.{Machine, Site}
 use Rattle.cluster_runs.specs.Goes.{ServerGoes, server_site}
+use Rattle.plain_orders.proofs.LiveSessions.{none_opened}
 use Rattle.cluster_invariant.specs.Orders.{NodeOrder}
 use Rattle.cluster_invariant.specs.Dials.{NodeDials, LearntBy}
 use Rattle.cluster_invariant.specs.Link.{NodeLink}
@@ -41,31 +42,6 @@ use Rattle.link_kept.proofs.ServesServer.{ServesAfter, serves_begin, serves_kept
 use Rattle.link_kept.proofs.FramesFit.{FrameAt, frame_next}
 use Rattle.link_kept.proofs.OrderGrows.{order_grows}
 use Rattle.link_kept.proofs.StepFits.{ConnsKnow, LeftToOthers, fits_well}
-
--- a session that isn't opened yet
-
-app_pushed : (o : Option ℕ) (es : List Entry) (e : Entry) (s : ℕ) → app_from o (es ++ e ∷ []) s ≡ app_after (app_from o es s) e s
-app_pushed o [] e s = refl
-app_pushed o (x ∷ es) e s = app_pushed (app_after o x s) es e s
-
-none_pushed : (es : List Entry) (e : Entry) → IsOrdered es → ((s : ℕ) → length es < s → app_in es s ≡ None) → MayFollow es e → (s : ℕ) → length (es ++ e ∷ []) < s
-    → app_in (es ++ e ∷ []) s ≡ None
-none_pushed es (Epoch number) o none may s above = app_pushed None es (Epoch number) s ∙ none s (omega (arith, above, length-append es (Epoch number ∷ [])))
-none_pushed es (Opened session app) o none may s above =
-    app_pushed None es (Opened session app) s
-    ∙ ap (λ (b : Bool). if b then Some app else app_in es s)
-    (ne_eqb session s (λ same. absurd (omega (arith, above, same, may.is_position, length-append es (Opened session app ∷ [])))))
-    ∙ none s (omega (arith, above, length-append es (Opened session app ∷ [])))
-none_pushed es (Closed session) o none may s above = app_pushed None es (Closed session) s ∙ none s (omega (arith, above, length-append es (Closed session ∷ [])))
-none_pushed es (Update session w job txn op) o none may s above =
-    app_pushed None es (Update session w job txn op) s ∙ none s (omega (arith, above, length-append es (Update session w job txn op ∷ [])))
-none_pushed es (Commit session w job txn) o none may s above =
-    app_pushed None es (Commit session w job txn) s ∙ none s (omega (arith, above, length-append es (Commit session w job txn ∷ [])))
-none_pushed es (Rollback session w job txn) o none may s above =
-    app_pushed None es (Rollback session w job txn) s ∙ none s (omega (arith, above, length-append es (Rollback session w job txn ∷ [])))
-
-none_opened : (es : List Entry) → IsOrdered es → (s : ℕ) → length es < s → app_in es s ≡ None
-none_opened es o = ordered_induction (λ (xs : List Entry). (s : ℕ) → length xs < s → app_in xs s ≡ None) (λ s above. refl) none_pushed es o
 
 -- has begun in no order
 none_begun : (v : Server) (x : Site) (s k : ℕ) (o a : Option ℕ) → a ≡ None → LearntBy v x s k o a → o ≡ None

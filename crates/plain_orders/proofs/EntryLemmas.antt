@@ -1,6 +1,7 @@
 -- Counts, live sessions and epochs of a list with one entry more, or with several.
 use Rattle.std.proofs.Common.{◌≡◌, ℕ, max, Bool, List, [], ◌∷◌, ◌++◌, Option, refl}
 use Rattle.plain_orders.specs.declared.entry.Entry.{Entry}
+use Rattle.plain_orders.specs.Sessions.{app_from, app_after}
 use Rattle.plain_orders.specs.Entries.{w_in, count_from, count, live_after, live_from, live, live_session_after, live_session_from, live_session, epoch_after, epoch_from, last_epoch}
 
 pub count_from-append : (n : ℕ) (es fs : List Entry) (s : ℕ) → count_from n (es ++ fs) s ≡ count_from (count_from n es s) fs s
@@ -34,3 +35,8 @@ epoch_from-append n (e ∷ es) fs = epoch_from-append (epoch_after n e) es fs
 -- the newest epoch after one entry more
 pub last_epoch-push : (es : List Entry) (e : Entry) → last_epoch (es ++ e ∷ []) ≡ epoch_after (last_epoch es) e
 last_epoch-push es e = epoch_from-append 0 es (e ∷ [])
+
+-- whose Opens a list has, with one entry more
+pub app_from-push : (o : Option ℕ) (es : List Entry) (e : Entry) (s : ℕ) → app_from o (es ++ e ∷ []) s ≡ app_after (app_from o es s) e s
+app_from-push o [] e s = refl
+app_from-push o (x ∷ es) e s = app_from-push (app_after o x s) es e s

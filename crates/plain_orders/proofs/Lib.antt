@@ -11,3 +11,4 @@ pub mod FrontLemmas
 pub mod Locality
 pub mod Values
 pub mod UndoValues
+pub mod LiveSessions

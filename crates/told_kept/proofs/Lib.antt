@@ -18,6 +18,5 @@ pub mod Unopened
 pub mod FreshLanes
 pub mod NodeEndsApps
 pub mod NodeEndsInputs
-pub mod FrameAlone
 pub mod NodeEndsFrames
 pub mod TablesShort

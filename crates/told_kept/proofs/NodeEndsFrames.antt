@@ -37,7 +37,7 @@ use Rattle.ends_kept.proofs.PairTables.{line_has}
 use Rattle.ends_kept.proofs.TablesMoves.{app_may}
 use Rattle.ends_kept.proofs.TakenDown.{Taken, taken_down}
 use Rattle.app_rules.specs.declared.app_in.AppIn.{AppIn}
-use Rattle.told_kept.proofs.FrameAlone.{taken_silent}
+use Rattle.cluster_steps.proofs.FrameAlone.{taken_silent}
 use Rattle.told_kept.proofs.NodeEndsInputs.{node_ends_kept_by_input}
 use Rattle.told_kept.proofs.NodeEndsApps.{PutsNothing, node_ends_kept_by_app}
 use Rattle.told_kept.proofs.NodeEndsMoves.{NodeEndsHold}

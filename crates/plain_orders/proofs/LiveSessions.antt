@@ -1,18 +1,16 @@
 -- In an ordered list a live session is the one live session of the application server that opened it.
-use Rattle.std.proofs.Common.{◌≡◌, ◌∙◌, ◌+◌, ◌≤◌, ◌⊎◌, inl, inr, ℕ, Bool, true, false, if◌then◌else◌, nat_eq, List, [], ◌∷◌, ◌++◌, length, Option, Some, None, refl, sym, ap, arith}
+use Rattle.std.proofs.Common.{◌≡◌, ◌∙◌, ◌+◌, ◌≤◌, ◌<◌, ◌⊎◌, inl, inr, ℕ, Bool, true, false, if◌then◌else◌, nat_eq, List, [], ◌∷◌, ◌++◌, length, Option, Some, None, refl, sym, ap, arith}
 use Rattle.std.proofs.lemmas.Bool.{eqb-true, eq-eqb}
+use Rattle.std.proofs.lemmas.Bool.{ne_eqb}
+use Rattle.std.proofs.lemmas.List.{length-append}
 use Rattle.plain_orders.specs.declared.entry.Entry.{Entry}
 use Rattle.plain_orders.specs.declared.entry.Entry.TheVariants.{Epoch, Opened, Closed, Update, Commit, Rollback}
 use Rattle.plain_orders.specs.Entries.{live, live_after, live_session, live_session_after, unless_closed}
-use Rattle.plain_orders.specs.Sessions.{app_in, app_from, app_after}
+use Rattle.plain_orders.specs.Sessions.{app_in, app_after}
 use Rattle.plain_orders.specs.Ordered.{MayFollow, IsOrdered}
-use Rattle.plain_orders.proofs.EntryLemmas.{live-push, live_session-push}
+use Rattle.plain_orders.proofs.EntryLemmas.{live-push, live_session-push, app_from-push}
 use Rattle.plain_orders.proofs.OrderLemmas.{ordered_induction}
 use Rattle.plain_orders.proofs.PastLemmas.{apart, kept_open, Past, ordered_past}
-
-app_from-push : (o : Option ℕ) (es : List Entry) (e : Entry) (s : ℕ) → app_from o (es ++ e ∷ []) s ≡ app_after (app_from o es s) e s
-app_from-push o [] e s = refl
-app_from-push o (x ∷ es) e s = app_from-push (app_after o x s) es e s
 
 -- after an Open an application server has this session or the one that it had
 opens : (session app a s : ℕ) (o : Option ℕ) → (if nat_eq app a then Some session else o) ≡ Some s → ((app ≡ a) × (session ≡ s)) ⊎ (o ≡ Some s)
@@ -101,3 +99,23 @@ ordered_one_live es o = ordered_induction
     (λ l e ordered h may. one_live-push l (ordered_past l ordered) h e may)
     es
     o
+
+-- a session whose Open doesn't stand in the list yet
+none_pushed : (es : List Entry) (e : Entry) → IsOrdered es → ((s : ℕ) → length es < s → app_in es s ≡ None) → MayFollow es e → (s : ℕ) → length (es ++ e ∷ []) < s
+    → app_in (es ++ e ∷ []) s ≡ None
+none_pushed es (Epoch number) o none may s above = app_from-push None es (Epoch number) s ∙ none s (omega (arith, above, length-append es (Epoch number ∷ [])))
+none_pushed es (Opened session app) o none may s above =
+    app_from-push None es (Opened session app) s
+    ∙ ap (λ (b : Bool). if b then Some app else app_in es s)
+    (ne_eqb session s (λ same. absurd (omega (arith, above, same, may.is_position, length-append es (Opened session app ∷ [])))))
+    ∙ none s (omega (arith, above, length-append es (Opened session app ∷ [])))
+none_pushed es (Closed session) o none may s above = app_from-push None es (Closed session) s ∙ none s (omega (arith, above, length-append es (Closed session ∷ [])))
+none_pushed es (Update session w job txn op) o none may s above =
+    app_from-push None es (Update session w job txn op) s ∙ none s (omega (arith, above, length-append es (Update session w job txn op ∷ [])))
+none_pushed es (Commit session w job txn) o none may s above =
+    app_from-push None es (Commit session w job txn) s ∙ none s (omega (arith, above, length-append es (Commit session w job txn ∷ [])))
+none_pushed es (Rollback session w job txn) o none may s above =
+    app_from-push None es (Rollback session w job txn) s ∙ none s (omega (arith, above, length-append es (Rollback session w job txn ∷ [])))
+
+pub none_opened : (es : List Entry) → IsOrdered es → (s : ℕ) → length es < s → app_in es s ≡ None
+none_opened es o = ordered_induction (λ (xs : List Entry). (s : ℕ) → length xs < s → app_in xs s ≡ None) (λ s above. refl) none_pushed es o
