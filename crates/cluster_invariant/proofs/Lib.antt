@@ -1,6 +1,8 @@
 pub mod Small
 pub mod Begins
 pub mod Frame
+pub mod PastOrders
+pub mod SiteMoves
 pub mod Deeds
 pub mod PieceKinds
 pub mod PieceMay
