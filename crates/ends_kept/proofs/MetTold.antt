@@ -1,15 +1,14 @@
 -- The acts of Welcomes and Resets may come: what they say stands in the plain machine.
 use Rattle.std.proofs.Common.{◌≡◌, ◌⊎◌, ◌<◌, ◌≤◌, ℕ, true, false, List, [], ◌∷◌, ◌++◌, Option, Some, None, option_map, is_some, refl, sym, ◌∙◌, ap, subst, inl, inr, arith}
-use Rattle.std.specs.Prelude.{IfSome, IsSomeAnd, unwrap_or, get_or}
+use Rattle.std.specs.Prelude.{IfSome, IsSomeAnd, unwrap_or}
 use Rattle.std.specs.List.{list_all}
 use Rattle.std.proofs.lemmas.Bool.{false≢true, and_parts}
-use Rattle.std.proofs.lemmas.List.{get_or-append-add}
 use Rattle.plain_orders.specs.declared.entry.Entry.{Entry}
 use Rattle.plain_orders.specs.declared.entry.Entry.TheVariants.{Opened, Closed}
 use Rattle.plain_orders.specs.declared.layout.Layout.{Layout}
 use Rattle.plain_orders.specs.Entries.{entry_at, last_epoch}
 use Rattle.plain_orders.specs.Sessions.{place_of_epoch}
-use Rattle.plain_runs.specs.Plain.{Server, Pair, Session as PlainSession, Entered, current, order_at, orders, session_in}
+use Rattle.plain_runs.specs.Plain.{Server, Pair, Session as PlainSession, Entered, current, order_at, session_in}
 use Rattle.plain_runs.specs.EndRows.{MetMay, ToldMay, LoseResetMay, begun_by}
 use Rattle.plain_runs.specs.Run.{IsRun, state_after}
 use Rattle.link_states.specs.declared.app_link.AppLink.{AppLink}
@@ -30,12 +29,9 @@ use Rattle.cluster_invariant.specs.Link.{AppWay, DownBy, GreetedWay, GreetedFirs
 use Rattle.cluster_invariant.specs.Words.{stays_at, downs_left}
 use Rattle.cluster_invariant.proofs.OrdersStay.{stays_synced, entry_stays}
 use Rattle.cluster_invariant.proofs.Small.{of_some}
+use Rattle.cluster_invariant.proofs.PastOrders.{order_now}
 use Rattle.ends_kept.proofs.EpochBegun.{begun_is}
 use Rattle.ends_kept.proofs.TakenDown.{Taken}
-
--- the current order is the last
-last_order : (v : Server) → order_at v (current v) ≡ v.order
-last_order v = ap (λ n. get_or (orders v) n []) (omega arith) ∙ get_or-append-add v.past (v.order ∷ []) 0 []
 
 -- what is on its way on the connection on which a frame was taken, by how far the end is
 down_by : (v : Server) (x : Site) (app : ℕ) (e : End) (frame : DownFrame) (line : Line) (t : Taken e frame) → AppWay v x app e → e.state.line ≡ line → DownBy line v x app e t.connection
@@ -91,7 +87,7 @@ met_may l m app d frame session epoch kept front taken h run alive t message lin
 
     by : NewWelcomeOn v (m.site_at d) app e.state.told t.connection session epoch kept front taken → MetMay v app session
     by w = record {
-      place = ap (λ (es : List Entry). entry_at es session) (sym (last_order v)) ∙ entry_stays l m.trail d w.order (current v) session (Opened session app) run w.unmet.there (omega arith) w.synced w.unmet.opened;
+      place = ap (λ (es : List Entry). entry_at es session) (sym (order_now v)) ∙ entry_stays l m.trail d w.order (current v) session (Opened session app) run w.unmet.there (omega arith) w.synced w.unmet.opened;
       synced = omega (arith, w.synced, stays_synced l m.trail d w.order run w.unmet.there);
       entered = ap is_some w.unmet.entered;
       not_lost = ap (λ (o : Option Entered). (unwrap_or o (record { app = 0; in_order = 0; lost_since = false })).lost_since) w.unmet.entered;
@@ -186,7 +182,7 @@ closed_may l m app d k session at n run low its r = record {
   there = ap is_some its;
   synced = omega (arith, r.1, stays_synced l m.trail d k run low);
   closed =
-      ap (λ (es : List Entry). entry_at es at) (sym (last_order ((state_after l m.trail).server_at d)))
+      ap (λ (es : List Entry). entry_at es at) (sym (order_now ((state_after l m.trail).server_at d)))
       ∙ entry_stays l m.trail d k (current ((state_after l m.trail).server_at d)) at (Closed n) run low (omega arith) r.1 r.2
       ∙ ap (λ i. Some (Closed i)) (ap (λ (o : Option ℕ). unwrap_or o 0) (sym its));
 }

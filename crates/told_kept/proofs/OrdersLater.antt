@@ -1,8 +1,6 @@
 -- Where the orders of a plain server go on by entries that are no Epochs, or by a start, each keeps its Epoch, and no less of it stays.
-use Rattle.std.proofs.Common.{◌≡◌, ◌≢◌, ◌≤◌, ◌+◌, ◌-◌, ℕ, zero, suc, Bool, true, false, List, [], ◌∷◌, ◌++◌, length, take, get_or, refl, sym, ◌∙◌, ap, subst, arith, if◌then◌else◌, ◌==◌}
+use Rattle.std.proofs.Common.{◌≡◌, ◌≤◌, ◌+◌, ◌-◌, ℕ, zero, suc, Bool, true, false, List, [], ◌∷◌, ◌++◌, length, get_or, refl, sym, ◌∙◌, ap, subst, arith, if◌then◌else◌, ◌==◌}
 use Rattle.std.specs.List.{AllByRecursion}
-use Rattle.std.proofs.lemmas.Bool.{eqb-true, eq-eqb, ne_eqb, false≢true}
-use Rattle.std.proofs.lemmas.List.{get_or_append_left, length-append, length-take-le}
 use Rattle.plain_orders.specs.declared.entry.Entry.{Entry}
 use Rattle.plain_orders.specs.declared.entry.Entry.TheVariants.{Epoch, Opened, Closed, Update, Commit, Rollback}
 use Rattle.plain_orders.specs.Entries.{epoch_from, last_epoch}
@@ -11,7 +9,7 @@ use Rattle.plain_runs.specs.OrderRows.{crashed}
 use Rattle.data_rules.specs.Places.{epoch_place}
 use Rattle.cluster_invariant.specs.Words.{stays_at}
 use Rattle.cluster_invariant.proofs.Deeds.{Deed, Enters, Closes, Releases, ComesBack, Grants, Frees, Breaks, DeedIs, IsEntered, order_by, order_with}
-use Rattle.cluster_invariant.proofs.Written.{next_place}
+use Rattle.cluster_invariant.proofs.PastOrders.{crashed_current, crashed_order, crashed_stays}
 use Rattle.told_kept.proofs.ToldStays.{OrdersLater}
 
 -- the last Epoch of an order that goes on by deeds
@@ -68,51 +66,11 @@ grown_later v w past epoch place more = record {
 
 -- A start: a new order behind the others, with all that was synced.
 
-crashed_order : (v : Server) (clock round kept k : ℕ) → k ≤ current v → order_at (crashed clock round v kept) k ≡ order_at v k
-crashed_order v clock round kept k low =
-    get_or_append_left (v.past ++ v.order ∷ []) ((take kept v.order ++ Epoch (last_epoch (take kept v.order) + 1) ∷ []) ∷ []) [] k (omega (arith, low, length-append v.past (v.order ∷ [])))
-
-all_alike_last : (xs : List (List Entry)) (o : List Entry) → get_or (xs ++ o ∷ []) (length xs) [] ≡ o
-all_alike_last [] o = refl
-all_alike_last (x ∷ xs) o = all_alike_last xs o
-
 pub crashed_later : (v : Server) (clock round kept : ℕ) → v.synced ≤ kept → kept ≤ length v.order → OrdersLater v (crashed clock round v kept)
 crashed_later v clock round kept low within = record {
-  there = omega (arith, long);
+  there = omega (arith, crashed_current v clock round kept);
   synced = low;
   last = λ k under. ap last_epoch (crashed_order v clock round kept k under);
   place = λ k under. ap epoch_place (crashed_order v clock round kept k under);
-  stays = λ k under. go k under (k == current v) refl;
+  stays = λ k under. crashed_stays v clock round kept k low within under;
 }
-  where
-    w : Server
-    w = crashed clock round v kept
-
-    long : current w ≡ current v + 1
-    long = length-append v.past (v.order ∷ [])
-
-    before : (k : ℕ) → k ≤ current v → stays_at w k ≡ epoch_place (order_at w (k + 1)) - 1
-    before k under = ap (λ (b : Bool). if b then w.synced else epoch_place (order_at w (k + 1)) - 1) (ne_eqb k (current w) (λ same. absurd (omega (arith, under, same, long))))
-
-    newest : order_at w (current v + 1) ≡ take kept v.order ++ Epoch (last_epoch (take kept v.order) + 1) ∷ []
-    newest = ap (order_at w) (sym long) ∙ all_alike_last (v.past ++ v.order ∷ []) (take kept v.order ++ Epoch (last_epoch (take kept v.order) + 1) ∷ [])
-
-    at_kept : stays_at w (current v) ≡ kept
-    at_kept =
-        before (current v) (omega arith) ∙ ap (λ (es : List Entry). epoch_place es - 1) newest
-        ∙ omega (arith, next_place (last_epoch (take kept v.order) + 1) 0 0 (take kept v.order), length-take-le kept v.order within)
-
-    go : (k : ℕ) → k ≤ current v → (b : Bool) → (k == current v) ≡ b → stays_at v k ≤ stays_at w k
-    go k under true same =
-        subst (λ n. stays_at v n ≤ stays_at w n) (sym (eqb-true k (current v) same))
-        (omega (arith, ap (λ (b : Bool). if b then v.synced else epoch_place (order_at v (current v + 1)) - 1) (eq-eqb (current v) (current v) refl), at_kept, low))
-    go k under false other =
-        omega (
-          arith,
-          ap (λ (b : Bool). if b then v.synced else epoch_place (order_at v (k + 1)) - 1) other,
-          before k under,
-          ap (λ (es : List Entry). epoch_place es - 1) (crashed_order v clock round kept (k + 1) (omega (arith, under, apart))),
-        )
-      where
-        apart : k ≢ current v
-        apart same = false≢true (sym other ∙ eq-eqb k (current v) same)

@@ -1,32 +1,31 @@
 -- The tables of application ends, for the moves that change no end: a tick, a look, a node or an application server that goes, a start.
-use Rattle.std.proofs.Common.{◌≡◌, ℕ, Bool, true, false, if◌then◌else◌, List, [], ◌∷◌, ◌++◌, Option, Some, None, refl, sym, ◌∙◌, ap, subst, ◌==◌}
-use Rattle.std.proofs.lemmas.Bool.{false≢true}
+use Rattle.std.proofs.Common.{◌≡◌, ℕ, Bool, false, List, ◌++◌, Option, Some, None, refl, sym, ◌∙◌, ap, subst}
 use Rattle.plain_orders.specs.declared.act.Act.{Act}
-use Rattle.plain_orders.specs.declared.act.Act.TheVariants as act
 use Rattle.plain_orders.specs.declared.entry.Entry.{Entry}
 use Rattle.plain_orders.specs.declared.layout.Layout.{Layout}
-use Rattle.plain_orders.specs.declared.question.Question.TheVariants.{Get as GetQuestion}
-use Rattle.plain_orders.specs.declared.via.Via.TheVariants.{Cached}
-use Rattle.plain_orders.specs.PairMap.{value_at}
 use Rattle.plain_runs.specs.Plain.{Pair, Plain, Server, put, start}
 use Rattle.plain_runs.specs.Run.{state_after}
 use Rattle.plain_runs.specs.Step.{after}
 use Rattle.plain_runs.proofs.RunLemmas.{after_all-more}
 use Rattle.app_job.specs.Sites.{Site as Target}
 use Rattle.app_rules.specs.AppState.{AppEnd}
-use Rattle.end_words.specs.Runs.{pairs_of}
 use Rattle.cluster_runs.specs.declared.move_outs.MoveOuts.{MoveOuts}
 use Rattle.cluster_runs.specs.Steps.{begin_act}
 use Rattle.cluster_runs.specs.Machine.{Machine, Site, with_acts}
-use Rattle.cluster_runs.specs.Goes.{BeginGoes, DieGoes, HaltGoes, LookGoes, TickGoes, at_site, begun_site, dies, halted_site}
+use Rattle.cluster_runs.specs.Goes.{BeginGoes, DieGoes, HaltGoes, LookGoes, TickGoes, at_site, begun_site}
 use Rattle.cluster_invariant.specs.Ends.{AppTables}
 use Rattle.cluster_invariant.specs.Holds.{Holds}
 use Rattle.cluster_invariant.proofs.Frame.{kept_by_tick}
+use Rattle.cluster_invariant.proofs.SiteMoves.{kept_by_death, kept_by_halt, kept_by_look}
 use Rattle.cluster_invariant.proofs.Small.{at_places}
 
 -- the tables of the ends of all living application servers
 abbrev pub TablesHold : Layout → Plain → Machine → Type 0
 TablesHold l p m = (d app : ℕ) → m.is_dead_at app ≡ false → AppTables ((p.server_at d).pair_at app) ((m.site_at d).end_at app).state
+
+-- the same, as a part of the invariant
+abbrev TablesPart : (ℕ → Bool) → ℕ → Server → Site → Type 0
+TablesPart is_dead d v x = (app : ℕ) → is_dead app ≡ false → AppTables (v.pair_at app) (x.end_at app).state
 
 -- the same pairs
 abbrev SamePairs : Plain → Plain → Type 0
@@ -54,6 +53,7 @@ states_at : (m : Machine) (server : ℕ) (y : Site) → ((app : ℕ) → (y.end_
 states_at m server y same d app =
     at_places (λ (e : ℕ) (x : Site). (x.end_at app).state ≡ ((m.site_at e).end_at app).state) m.site_at server y (same app) (λ e other. refl) d
 
+-- as the invariant has them
 before : (l : Layout) (m : Machine) → Holds l m → TablesHold l (state_after l m.trail) m
 before l m h d app lives = (h.sites d).ends.tables app lives
 
@@ -66,38 +66,17 @@ tables_kept_by_tick l m new now outs written h goes = before l new (kept_by_tick
 pub tables_kept_by_look : (l : Layout) (m : Machine) (app job line : ℕ) (at : Target) (outs : MoveOuts) (written : List Act) (new : Machine)
     → Holds l m → LookGoes m app job line at outs written new → TablesHold l (state_after l new.trail) new
 tables_kept_by_look l m app job line at outs written new h goes =
-    subst (λ (n : Machine). TablesHold l (state_after l n.trail) n) (sym goes.after)
-    (subst (λ (ws : List Act). TablesHold l (state_after l (m.trail ++ ws)) (with_acts ws m)) (sym goes.acts)
-    (subst (λ (q : Plain). TablesHold l q m) (sym (after_all-more l start m.trail look))
-    (tables_same l (state_after l m.trail) (after l (state_after l m.trail) look) m m
-    (pairs_at (state_after l m.trail) (after l (state_after l m.trail) look) at.server _ refl refl) (λ d a. refl) (λ a lives. lives) (before l m h))))
-  where
-    look : Act
-    look = act.Read job line at.server goes.front.n Cached (GetQuestion at.key (value_at (pairs_of goes.run) at.key))
+    kept_by_look TablesPart l m app job line at outs written new goes (before l m h) (λ knows. before l m h at.server)
 
 -- An application server that goes keeps them.
 pub tables_kept_by_die : (l : Layout) (m : Machine) (app : ℕ) (outs : MoveOuts) (written : List Act) (new : Machine)
     → Holds l m → DieGoes m app outs written new → TablesHold l (state_after l new.trail) new
-tables_kept_by_die l m app outs written new h goes =
-    subst (λ (n : Machine). TablesHold l (state_after l n.trail) n) (sym goes.after)
-    (subst (λ (ws : List Act). TablesHold l (state_after l (m.trail ++ ws)) (with_acts ws (dies app m))) (sym goes.acts)
-    (subst (λ (q : Plain). TablesHold l q (with_acts (act.Died app ∷ []) (dies app m))) (sym (after_all-more l start m.trail (act.Died app)))
-    (λ d a lives. before l m h d a (alive a lives))))
-  where
-    alive : (a : ℕ) → put m.is_dead_at app true a ≡ false → m.is_dead_at a ≡ false
-    alive a = go (a == app)
-      where
-        go : (b : Bool) → (if b then true else m.is_dead_at a) ≡ false → m.is_dead_at a ≡ false
-        go true is = absurd (false≢true (sym is))
-        go false is = is
+tables_kept_by_die l m app outs written new h goes = kept_by_death TablesPart l m app outs written new goes (λ alive d a lives. before l m h d a (alive a lives))
 
 -- A halt keeps them.
 pub tables_kept_by_halt : (l : Layout) (m : Machine) (server : ℕ) (outs : MoveOuts) (written : List Act) (new : Machine)
     → Holds l m → HaltGoes m server outs written new → TablesHold l (state_after l new.trail) new
-tables_kept_by_halt l m server outs written new h goes =
-    subst (λ (n : Machine). TablesHold l (state_after l n.trail) n) (sym goes.after)
-    (tables_same l (state_after l m.trail) (state_after l m.trail) m (at_site server halted_site m) (λ d. refl)
-    (states_at m server (halted_site (m.site_at server)) (λ a. refl)) (λ a lives. lives) (before l m h))
+tables_kept_by_halt l m server outs written new h goes = kept_by_halt TablesPart l m server outs written new goes (before l m h) (before l m h server)
 
 -- the act of a start leaves the pairs
 begin_pairs : (l : Layout) (p : Plain) (server : ℕ) (es : List Entry) (o : Option (List Entry)) → SamePairs p (after l p (begin_act o server es))

@@ -1,13 +1,12 @@
 -- What application ends were told stays over each step of a data server.
-use Rattle.std.proofs.Common.{◌≡◌, ◌≢◌, ℕ, Bool, true, false, List, [], ◌∷◌, ◌++◌, map, Option, refl, sym, ◌∙◌, ap, subst, arith, if◌then◌else◌}
+use Rattle.std.proofs.Common.{◌≡◌, ℕ, Bool, true, false, List, [], ◌∷◌, ◌++◌, map, Option, refl, sym, ◌∙◌, ap, subst, arith, if◌then◌else◌}
 use Rattle.std.specs.Prelude.{nat_lt}
 use Rattle.std.specs.List.{AllByRecursion}
 use Rattle.plain_orders.specs.declared.act.Act.{Act}
 use Rattle.plain_orders.specs.declared.layout.Layout.{Layout}
 use Rattle.plain_orders.specs.Entries.{last_epoch}
-use Rattle.plain_runs.specs.Plain.{Plain, Server, start}
+use Rattle.plain_runs.specs.Plain.{Plain, Server}
 use Rattle.plain_runs.specs.Run.{IsRun, after_all, state_after}
-use Rattle.plain_runs.proofs.RunLemmas.{after_all-append}
 use Rattle.data_rules.specs.DataState.{DataState}
 use Rattle.data_rules.specs.declared.data_in.DataIn.{DataIn}
 use Rattle.data_rules.specs.declared.data_in.DataIn.TheVariants as data_in
@@ -19,15 +18,15 @@ use Rattle.cluster_runs.specs.declared.move_outs.MoveOuts.{MoveOuts}
 use Rattle.cluster_runs.specs.declared.moves.Move.TheVariants.{Server as ServerMove}
 use Rattle.cluster_runs.specs.CoresState.{CoresState}
 use Rattle.cluster_runs.specs.Connections.{hears_downs, leaves_conn, leaves_conns}
-use Rattle.cluster_runs.specs.Goes.{ServerGoes, at_site, server_site, server_takes, with_node}
+use Rattle.cluster_runs.specs.Goes.{ServerGoes, server_site, server_takes, with_node}
 use Rattle.data_rules.specs.declared.data_outs.DataOuts.{DataOuts}
-use Rattle.cluster_runs.specs.Machine.{Machine, Site, with_acts}
+use Rattle.cluster_runs.specs.Machine.{Machine, Site}
 use Rattle.cluster_runs.specs.Mirrors.{Mirrors}
 use Rattle.cluster_runs.specs.Moves.{Allowed, NodeMay}
 use Rattle.cluster_runs.specs.Steps.{raised, is_raised}
 use Rattle.cluster_invariant.specs.Holds.{Holds}
 use Rattle.cluster_invariant.proofs.Deeds.{Deed, Enters, Closes, Releases, ComesBack, Grants, Frees, Breaks, Does, act_of}
-use Rattle.cluster_invariant.proofs.Frame.{others_left}
+use Rattle.cluster_invariant.proofs.SiteMoves.{kept_at_one}
 use Rattle.cluster_invariant.proofs.OrderMoves.{server_wrote, step_from}
 use Rattle.cluster_invariant.proofs.OrderRows.{StepWrote}
 use Rattle.cluster_invariant.proofs.PieceDeeds.{does_step}
@@ -36,7 +35,7 @@ use Rattle.cluster_invariant.proofs.Written.{place_kept}
 use Rattle.cluster_steps.proofs.Outcomes.{end_same}
 use Rattle.told_kept.proofs.OrdersLater.{epoch_kept, grown_later}
 use Rattle.told_kept.proofs.SameSessions.{leaves_told, SameMets, rows_met, mets_kept}
-use Rattle.told_kept.proofs.ToldBeside.{ToldAt, ToldHolds, told_of, same_told}
+use Rattle.told_kept.proofs.ToldBeside.{ToldPart, ToldAt, ToldHolds, told_of, same_told}
 use Rattle.told_kept.proofs.ToldStays.{OrdersLater, told_later}
 
 -- the acts of a data server's step tell no session anything
@@ -87,15 +86,6 @@ told_at_later v w x y is_dead later mets states tolds h app alive =
     same_told w app (x.end_at app) (y.end_at app) (states app) (tolds app)
     (told_later v w app (x.end_at app) (x.end_at app) later (mets_kept app v w mets) (end_same (x.end_at app).state) refl (h app alive))
 
--- one site of all
-pub told_at_one : (l : Layout) (m new : Machine) (server : ℕ) (f : Site → Site) (written : List Act) → Holds l m → new ≡ with_acts written (at_site server f m)
-    → ((e : ℕ) → e ≢ server → (after_all l (state_after l m.trail) written).server_at e ≡ (state_after l m.trail).server_at e)
-    → ToldAt m.is_dead_at ((after_all l (state_after l m.trail) written).server_at server) (f (m.site_at server)) → ToldHolds l (state_after l new.trail) new
-told_at_one l m new server f written h after others here =
-    subst (λ (n : Machine). ToldHolds l (state_after l n.trail) n) (sym after)
-    (subst (λ (q : Plain). ToldHolds l q (with_acts written (at_site server f m))) (sym (after_all-append l start m.trail written))
-    (others_left l (state_after l m.trail) (after_all l (state_after l m.trail) written) m server (f (m.site_at server)) (λ d v x. ToldAt m.is_dead_at v x) (told_of l m h) others here))
-
 -- a step of a data server leaves the states of the ends
 
 abbrev SameTold : Site → Site → Type 0
@@ -139,7 +129,7 @@ told_kept_by_server l c m server now input outs written new h run shows allowed 
 
     go : StepWrote server goes.node goes.state p (after_all l p written) → ToldHolds l (state_after l new.trail) new
     go w =
-        told_at_one l m new server (server_site goes.node now input goes.data_outs goes.state) written h goes.after w.others
+        kept_at_one ToldPart l m new server (server_site goes.node now input goes.data_outs goes.state) written (told_of l m h) goes.after w.others
         (told_at_later (p.server_at server) ((after_all l p written).server_at server) (m.site_at server) (server_site goes.node now input goes.data_outs goes.state (m.site_at server)) m.is_dead_at
         (grown_later (p.server_at server) ((after_all l p written).server_at server) w.past (ap last_epoch w.order ∙ epoch_kept w.deeds (p.server_at server).order w.may)
         (ap epoch_place w.order ∙ place_kept w.deeds (p.server_at server).order w.may) (omega (arith, w.synced)))
