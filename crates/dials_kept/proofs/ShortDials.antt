@@ -1,38 +1,35 @@
 -- The part on connections, for the moves that put and take nothing: a tick, a look, and an application server or a node that goes.
-use Rattle.std.proofs.Common.{◌≡◌, ℕ, Bool, true, false, not, List, [], ◌∷◌, ◌++◌, drop, Option, Some, None, is_some, option_map, if◌then◌else◌, refl, sym, ◌∙◌, ap, subst, arith, ◌==◌}
+use Rattle.std.proofs.Common.{◌≡◌, ℕ, Bool, true, false, not, List, [], drop, Option, Some, None, is_some, option_map, if◌then◌else◌, refl, sym, ◌∙◌, ap, arith, ◌==◌}
 use Rattle.std.specs.Prelude.{IfSome}
 use Rattle.std.proofs.lemmas.Bool.{false≢true}
 use Rattle.std.proofs.lemmas.List.{append-nil}
 use Rattle.plain_orders.specs.declared.act.Act.{Act}
-use Rattle.plain_orders.specs.declared.act.Act.TheVariants as act
 use Rattle.plain_orders.specs.declared.layout.Layout.{Layout}
-use Rattle.plain_orders.specs.declared.question.Question.TheVariants.{Get as GetQuestion}
-use Rattle.plain_orders.specs.declared.via.Via.TheVariants.{Cached}
-use Rattle.plain_orders.specs.PairMap.{value_at}
-use Rattle.plain_runs.specs.Plain.{Plain, Server, Known, start}
+use Rattle.plain_runs.specs.Plain.{Plain, Server, Known}
 use Rattle.plain_runs.specs.Run.{state_after}
-use Rattle.plain_runs.specs.Step.{after}
-use Rattle.plain_runs.proofs.RunLemmas.{after_all-more}
 use Rattle.app_job.specs.Sites.{Site as Target}
-use Rattle.end_words.specs.Runs.{pairs_of}
 use Rattle.app_rules.specs.declared.line.Line.{Line}
 use Rattle.app_rules.specs.declared.line.Line.TheVariants.{Apart, Trying, Greeting, Asking, Joined}
 use Rattle.cluster_runs.specs.declared.move_outs.MoveOuts.{MoveOuts}
 use Rattle.cluster_runs.specs.Sent.{Connection, FirstTaken, Knew}
-use Rattle.cluster_runs.specs.Machine.{Machine, Site, End, DataConnection, with_acts}
+use Rattle.cluster_runs.specs.Machine.{Machine, Site, End, DataConnection}
 use Rattle.cluster_runs.specs.Connections.{app_leaves, leaves_linked, left, link_in, link_of, knows}
 use Rattle.cluster_runs.specs.Goes.{TickGoes, LookGoes, DieGoes, HaltGoes, dies, halted_site}
 use Rattle.cluster_invariant.specs.Dials.{DialsAre, PairDials, KnowsStill, is_left_at, is_here}
 use Rattle.cluster_invariant.specs.Words.{is_wire}
 use Rattle.cluster_invariant.specs.Holds.{Holds}
-use Rattle.cluster_invariant.proofs.Small.{at_places}
-use Rattle.cluster_invariant.proofs.Frame.{kept_by_tick, others_left}
+use Rattle.cluster_invariant.proofs.SiteMoves.{kept_by_look, kept_by_death, kept_by_halt}
+use Rattle.cluster_invariant.proofs.Frame.{kept_by_tick}
 use Rattle.dials_kept.proofs.ConnectionsGrow.{StaysKnown, known_same, SiteGrows, Grows, GrowTo, no_less_same, pair_later}
 use Rattle.dials_kept.proofs.NodesGrow.{EndsGrow, SameNode, site_grows, dials_later, learnt_later, links_later}
 
 -- the connections at each data server
 abbrev pub EachDials : Layout → Plain → Machine → Type 0
 EachDials l p m = (d : ℕ) → DialsAre (p.server_at d) (m.site_at d) m.is_dead_at
+
+-- the same, as a part of the invariant
+abbrev pub DialsPart : (ℕ → Bool) → ℕ → Server → Site → Type 0
+DialsPart dead d v x = DialsAre v x dead
 
 -- connections that are as they were but for who left
 
@@ -105,31 +102,19 @@ dials_kept_by_tick l m new now outs written h goes d = ((kept_by_tick l m new no
 pub dials_kept_by_look : (l : Layout) (m : Machine) (app job line : ℕ) (at : Target) (outs : MoveOuts) (written : List Act) (new : Machine)
     → Holds l m → LookGoes m app job line at outs written new → EachDials l (state_after l new.trail) new
 dials_kept_by_look l m app job line at outs written new h goes =
-    subst (λ (n : Machine). EachDials l (state_after l n.trail) n) (sym goes.after)
-    (subst (λ (ws : List Act). (d : ℕ) → DialsAre ((state_after l (m.trail ++ ws)).server_at d) (m.site_at d) m.is_dead_at) (sym goes.acts)
-    (subst (λ (q : Plain). (d : ℕ) → DialsAre (q.server_at d) (m.site_at d) m.is_dead_at) (sym (after_all-more l start m.trail look)) each))
+    kept_by_look DialsPart l m app job line at outs written new goes (λ d. (h.sites d).dials)
+    (λ knows. dials_beside v (record v { known_at = knows }) (m.site_at at.server) m.is_dead_at (known knows) (h.sites at.server).dials)
   where
-    p : Plain
-    p = state_after l m.trail
+    v : Server
+    v = (state_after l m.trail).server_at at.server
 
-    look : Act
-    look = act.Read job line at.server goes.front.n Cached (GetQuestion at.key (value_at (pairs_of goes.run) at.key))
-
-    known : (d : ℕ) (knows : ℕ → Known) → StaysKnown (p.server_at d) (record (p.server_at d) { known_at = knows })
-    known d knows = record { there = omega arith; last = λ k low. refl; stays = λ k low is. is; told = λ a s k is. is; opened = λ s k a low is. is }
-
-    each : (d : ℕ) → DialsAre ((after l p look).server_at d) (m.site_at d) m.is_dead_at
-    each d =
-        at_places (λ (e : ℕ) (v : Server). DialsAre v (m.site_at e) m.is_dead_at) p.server_at at.server _
-        (dials_beside (p.server_at at.server) _ (m.site_at at.server) m.is_dead_at (known at.server _) (h.sites at.server).dials) (λ e other. (h.sites e).dials) d
+    known : (knows : ℕ → Known) → StaysKnown v (record v { known_at = knows })
+    known knows = record { there = omega arith; last = λ k low. refl; stays = λ k low is. is; told = λ a s k is. is; opened = λ s k a low is. is }
 
 -- An application server that goes keeps it.
 pub dials_kept_by_die : (l : Layout) (m : Machine) (app : ℕ) (outs : MoveOuts) (written : List Act) (new : Machine)
     → Holds l m → DieGoes m app outs written new → EachDials l (state_after l new.trail) new
-dials_kept_by_die l m app outs written new h goes =
-    subst (λ (n : Machine). EachDials l (state_after l n.trail) n) (sym goes.after)
-    (subst (λ (ws : List Act). EachDials l (state_after l (m.trail ++ ws)) (with_acts ws (dies app m))) (sym goes.acts)
-    (subst (λ (q : Plain). EachDials l q (with_acts (act.Died app ∷ []) (dies app m))) (sym (after_all-more l start m.trail (act.Died app))) each))
+dials_kept_by_die l m app outs written new h goes = kept_by_death DialsPart l m app outs written new goes (λ alive. each)
   where
     leaves : Bool → Connection → Connection
     leaves b c = if b then app_leaves c else c
@@ -201,10 +186,7 @@ dials_kept_by_die l m app outs written new h goes =
 -- A halt keeps it.
 pub dials_kept_by_halt : (l : Layout) (m : Machine) (server : ℕ) (outs : MoveOuts) (written : List Act) (new : Machine)
     → Holds l m → HaltGoes m server outs written new → EachDials l (state_after l new.trail) new
-dials_kept_by_halt l m server outs written new h goes =
-    subst (λ (n : Machine). EachDials l (state_after l n.trail) n) (sym goes.after)
-    (others_left l (state_after l m.trail) (state_after l m.trail) m server (halted_site x) (λ d v z. DialsAre v z m.is_dead_at) (λ d. (h.sites d).dials)
-    (λ e other. refl) here)
+dials_kept_by_halt l m server outs written new h goes = kept_by_halt DialsPart l m server outs written new goes (λ d. (h.sites d).dials) here
   where
     x : Site
     x = m.site_at server
