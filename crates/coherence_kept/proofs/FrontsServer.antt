@@ -37,7 +37,7 @@ use Rattle.cluster_invariant.proofs.OrderRows.{StepWrote}
 use Rattle.cluster_invariant.proofs.OrdersStay.{orders_agree}
 use Rattle.cluster_invariant.proofs.Written.{place_kept}
 use Rattle.link_kept.proofs.Later.{front_same, front_then}
-use Rattle.link_kept.proofs.ShortMoves.{order_now, stays_within}
+use Rattle.cluster_invariant.proofs.PastOrders.{order_now, stays_within}
 use Rattle.link_kept.proofs.WindowsGo.{same_or}
 use Rattle.link_kept.proofs.WindowsServer.{LanesGrow, server_lanes}
 use Rattle.coherence_kept.proofs.Grows.{OrdersOn}

@@ -1,32 +1,23 @@
 -- What a recovery round puts, for the moves that put and take nothing.
-use Rattle.std.proofs.Common.{◌≡◌, ◌≢◌, ◌≤◌, ◌<◌, ◌+◌, ℕ, Bool, true, false, if◌then◌else◌, List, [], ◌∷◌, ◌++◌, length, Option, Some, None, refl, sym, ◌∙◌, ap, subst, arith, ◌==◌}
+use Rattle.std.proofs.Common.{◌≡◌, ◌≤◌, ◌<◌, ◌+◌, ℕ, Bool, true, false, List, [], ◌∷◌, ◌++◌, length, Option, Some, None, refl, sym, ◌∙◌, ap, subst, arith}
 use Rattle.std.specs.Prelude.{◌&&◌, not, IfSome, nat_lt}
 use Rattle.std.specs.List.{list_any}
 use Rattle.std.proofs.lemmas.Bool.{false_from_ne_true, false≢true, ltb-true, ltb-false}
 use Rattle.plain_orders.specs.declared.act.Act.{Act}
-use Rattle.plain_orders.specs.declared.act.Act.TheVariants as act
 use Rattle.plain_orders.specs.declared.entry.Entry.{Entry}
 use Rattle.plain_orders.specs.declared.entry.Entry.TheVariants.{Epoch}
 use Rattle.plain_orders.specs.declared.layout.Layout.{Layout}
 use Rattle.plain_orders.specs.declared.layout.Times.{Times}
-use Rattle.plain_orders.specs.declared.question.Question.TheVariants.{Get as GetQuestion}
-use Rattle.plain_orders.specs.declared.via.Via.TheVariants.{Cached}
 use Rattle.plain_orders.specs.Entries.{last_epoch, live}
 use Rattle.plain_orders.specs.Ordered.{IsOrdered}
-use Rattle.plain_orders.specs.PairMap.{value_at}
 use Rattle.plain_orders.specs.Times.{until}
 use Rattle.plain_orders.proofs.EntryLemmas.{live-push}
-use Rattle.plain_orders.proofs.FrontLemmas.{ordered-take}
 use Rattle.plain_orders.proofs.PastLemmas.{ordered_past}
 use Rattle.plain_runs.specs.OrderRows.{crashed, opened_with}
-use Rattle.plain_runs.specs.Plain.{Plain, Server, Known, put, start, current, order_at}
-use Rattle.plain_runs.specs.Run.{IsRun, after_all, state_after}
-use Rattle.plain_runs.specs.Step.{after}
-use Rattle.plain_runs.proofs.OrderLaws.{orders_kept}
-use Rattle.plain_runs.proofs.RunLemmas.{after_all-append, after_all-more}
+use Rattle.plain_runs.specs.Plain.{Plain, Server, current, order_at}
+use Rattle.plain_runs.specs.Run.{IsRun, state_after}
 use Rattle.app_job.specs.Sites.{Site as Target}
 use Rattle.app_rules.specs.AppState.{Session}
-use Rattle.end_words.specs.Runs.{pairs_of}
 use Rattle.link_states.specs.declared.data_link.DataLink.TheVariants.{Recovering}
 use Rattle.recovery_round.specs.RoundWords.{Round}
 use Rattle.data_rules.specs.Conns.{with_link}
@@ -37,22 +28,21 @@ use Rattle.data_rules.specs.Places.{epoch_place}
 use Rattle.data_rules.specs.Step.{recovering, started, with_epoch}
 use Rattle.cluster_runs.specs.declared.move_outs.MoveOuts.{MoveOuts}
 use Rattle.cluster_runs.specs.declared.moves.Move.TheVariants.{Begin}
-use Rattle.cluster_runs.specs.CoresState.{CoresState, plain_server}
-use Rattle.cluster_runs.specs.Moves.{Allowed, EntriesMay, LaterMay}
-use Rattle.cluster_runs.specs.Steps.{begin_act}
+use Rattle.cluster_runs.specs.CoresState.{CoresState}
+use Rattle.cluster_runs.specs.Moves.{Allowed}
 use Rattle.cluster_runs.specs.Mirrors.{Mirrors}
 use Rattle.cluster_runs.specs.Sent.{Lane, Place, downs_taken, no_lane}
-use Rattle.cluster_runs.specs.Machine.{Machine, Site, End, with_acts}
-use Rattle.cluster_runs.specs.Goes.{BeginGoes, DieGoes, HaltGoes, LookGoes, TickGoes, at_site, begun_site, dies, halted_site, past_with}
+use Rattle.cluster_runs.specs.Machine.{Machine, Site, End}
+use Rattle.cluster_runs.specs.Goes.{BeginGoes, DieGoes, HaltGoes, LookGoes, TickGoes, begun_site, dies, past_with}
 use Rattle.cluster_invariant.specs.Holds.{SiteHolds, Holds}
 use Rattle.cluster_invariant.specs.Rounds.{LaneRound, RoundGoes, RoundOf, RoundsHold, SessionRound, awaits_normal}
 use Rattle.cluster_invariant.specs.Words.{is_normal_down, is_opened_in}
-use Rattle.cluster_invariant.proofs.Frame.{kept_by_tick, others_left}
-use Rattle.cluster_invariant.proofs.OrdersStay.{orders_agree}
-use Rattle.cluster_invariant.proofs.Small.{at_places, put_same, put_other, some_kept}
+use Rattle.cluster_invariant.proofs.Frame.{kept_by_tick}
+use Rattle.cluster_invariant.proofs.Small.{some_kept}
 use Rattle.cluster_invariant.proofs.Written.{next_place}
-use Rattle.link_kept.proofs.ShortMoves.{order_now, told_there}
-use Rattle.coherence_kept.proofs.BeginMoves.{begins_act, crashed_order}
+use Rattle.cluster_invariant.proofs.PastOrders.{crashed_order}
+use Rattle.cluster_invariant.proofs.SiteMoves.{FirstStart, LaterStart, kept_by_start, kept_by_look, kept_by_death, kept_by_halt}
+use Rattle.link_kept.proofs.ShortMoves.{told_there}
 
 -- the rounds of each data server
 abbrev pub AllRounds : Layout → Plain → Machine → Type 0
@@ -63,28 +53,16 @@ pub rounds_kept_by_tick : (l : Layout) (m new : Machine) (now : ℕ) (outs : Mov
     → AllRounds l (state_after l new.trail) new
 rounds_kept_by_tick l m new now outs written h goes d = ((kept_by_tick l m new now outs written h goes).sites d).rounds
 
--- what jobs know is not of them
-known_rounds : (v : Server) (x : Site) (dead : ℕ → Bool) (known : ℕ → Known) → RoundsHold v x dead → RoundsHold (record v { known_at = known }) x dead
-known_rounds v x dead known is = record { lanes = is.lanes; node = is.node; apps = is.apps }
+-- the rounds, as a part of the invariant
+abbrev RoundsPart : (ℕ → Bool) → ℕ → Server → Site → Type 0
+RoundsPart dead d v x = RoundsHold v x dead
 
--- A look keeps them.
+-- A look keeps them: what jobs know is not of them.
 pub rounds_kept_by_look : (l : Layout) (m : Machine) (app job line : ℕ) (at : Target) (outs : MoveOuts) (written : List Act) (new : Machine)
     → Holds l m → LookGoes m app job line at outs written new → AllRounds l (state_after l new.trail) new
 rounds_kept_by_look l m app job line at outs written new h goes =
-    subst (λ (n : Machine). AllRounds l (state_after l n.trail) n) (sym goes.after)
-    (subst (λ (ws : List Act). (d : ℕ) → RoundsHold ((state_after l (m.trail ++ ws)).server_at d) (m.site_at d) m.is_dead_at) (sym goes.acts)
-    (subst (λ (q : Plain). (d : ℕ) → RoundsHold (q.server_at d) (m.site_at d) m.is_dead_at) (sym (after_all-more l start m.trail look)) each))
-  where
-    p : Plain
-    p = state_after l m.trail
-
-    look : Act
-    look = act.Read job line at.server goes.front.n Cached (GetQuestion at.key (value_at (pairs_of goes.run) at.key))
-
-    each : (d : ℕ) → RoundsHold ((after l p look).server_at d) (m.site_at d) m.is_dead_at
-    each d =
-        at_places (λ (e : ℕ) (v : Server). RoundsHold v (m.site_at e) m.is_dead_at) p.server_at at.server _
-        (known_rounds (p.server_at at.server) (m.site_at at.server) m.is_dead_at _ (h.sites at.server).rounds) (λ e other. (h.sites e).rounds) d
+    kept_by_look RoundsPart l m app job line at outs written new goes (λ d. (h.sites d).rounds)
+    (λ knows. record { lanes = (h.sites at.server).rounds.lanes; node = (h.sites at.server).rounds.node; apps = (h.sites at.server).rounds.apps })
 
 -- a round that goes on at a site with the same lanes
 same_round : (x y : Site) (n : DataState) → ((s : ℕ) → y.lane_at s y.past ≡ x.lane_at s x.past) → RoundGoes x n → RoundGoes y n
@@ -97,35 +75,22 @@ same_round x y n same is = record {
 pub rounds_kept_by_die : (l : Layout) (m : Machine) (app : ℕ) (outs : MoveOuts) (written : List Act) (new : Machine)
     → Holds l m → DieGoes m app outs written new → AllRounds l (state_after l new.trail) new
 rounds_kept_by_die l m app outs written new h goes =
-    subst (λ (n : Machine). AllRounds l (state_after l n.trail) n) (sym goes.after)
-    (subst (λ (ws : List Act). AllRounds l (state_after l (m.trail ++ ws)) (with_acts ws (dies app m))) (sym goes.acts)
-    (subst (λ (q : Plain). AllRounds l q (with_acts (act.Died app ∷ []) (dies app m))) (sym (after_all-more l start m.trail (act.Died app))) each))
-  where
-    alive : (a : ℕ) → put m.is_dead_at app true a ≡ false → m.is_dead_at a ≡ false
-    alive a = go (a == app)
-      where
-        go : (b : Bool) → (if b then true else m.is_dead_at a) ≡ false → m.is_dead_at a ≡ false
-        go true is = absurd (false≢true (sym is))
-        go false is = is
-
-    each : AllRounds l (state_after l m.trail) (dies app m)
-    each d = record {
+    kept_by_death RoundsPart l m app outs written new goes
+    (λ alive d. record {
       lanes = (h.sites d).rounds.lanes;
       node =
           some_kept (λ (n : DataState). IfSome n.round (λ r. RoundGoes (m.site_at d) n)) (λ (n : DataState). IfSome n.round (λ r. RoundGoes ((dies app m).site_at d) n))
           (λ n. some_kept (λ (r : Round). RoundGoes (m.site_at d) n) (λ (r : Round). RoundGoes ((dies app m).site_at d) n)
           (λ r. same_round (m.site_at d) ((dies app m).site_at d) n (λ s. refl)) n.round) (m.site_at d).node (h.sites d).rounds.node;
       apps = λ a lives. (h.sites d).rounds.apps a (alive a lives);
-    }
+    })
 
 -- A halt keeps them.
 pub rounds_kept_by_halt : (l : Layout) (m : Machine) (server : ℕ) (outs : MoveOuts) (written : List Act) (new : Machine)
     → Holds l m → HaltGoes m server outs written new → AllRounds l (state_after l new.trail) new
 rounds_kept_by_halt l m server outs written new h goes =
-    subst (λ (n : Machine). AllRounds l (state_after l n.trail) n) (sym goes.after)
-    (others_left l (state_after l m.trail) (state_after l m.trail) m server (halted_site (m.site_at server)) (λ d v z. RoundsHold v z m.is_dead_at)
-    (λ d. (h.sites d).rounds) (λ e other. refl)
-    (record { lanes = (h.sites server).rounds.lanes; node = tt; apps = (h.sites server).rounds.apps }))
+    kept_by_halt RoundsPart l m server outs written new goes (λ d. (h.sites d).rounds)
+    (record { lanes = (h.sites server).rounds.lanes; node = tt; apps = (h.sites server).rounds.apps })
 
 -- starts
 
@@ -200,20 +165,17 @@ begun_rounds l d now es v w x dead its ordered lanes alike = record {
     n = started d l.times es now
 
 -- a later start
-rounds_kept_by_later : (l : Layout) (d now clock : ℕ) (es : List Entry) (v : Server) (x : Site) (dead : ℕ → Bool) → SiteHolds l d dead v x → IsOrdered es
-    → v.opened ≡ true → RoundsHold (crashed clock l.times.round v (length es)) (begun_site l d now es x) dead
-rounds_kept_by_later l d now clock es v x dead its ordered opened =
-    begun_rounds l d now es v w x dead its ordered (λ s k there. lane s k there (nat_lt (current v) k) refl) (λ app lives. same (x.end_at app).state.session)
+rounds_kept_by_later : (l : Layout) (d now clock : ℕ) (es : List Entry) (v : Server) (x : Site) (dead : ℕ → Bool) → SiteHolds l d dead v x → LaterStart v x es
+    → RoundsHold (crashed clock l.times.round v (length es)) (begun_site l d now es x) dead
+rounds_kept_by_later l d now clock es v x dead its starts =
+    begun_rounds l d now es v w x dead its starts.ordered (λ s k there. lane s k there (nat_lt (current v) k) refl) (λ app lives. same (x.end_at app).state.session)
   where
     w : Server
     w = crashed clock l.times.round v (length es)
 
-    next : past_with x.order x.past ≡ current v + 1
-    next = ap (λ (o : Option (List Entry)). past_with o x.past) (its.order.disk ∙ ap (λ (b : Bool). if b then Some v.order else None) opened) ∙ omega (arith, its.order.past)
-
     lane : (s k : ℕ) → k ≤ current w → (b : Bool) → nat_lt (current v) k ≡ b → LaneRound (order_at w k) s (x.lane_at s k)
     lane s k there true late =
-        subst (λ (z : Lane). LaneRound (order_at w k) s z) (sym (its.order.to_come s k (omega (arith, next, ltb-true (current v) k late)))) (none_round (order_at w k) s)
+        subst (λ (z : Lane). LaneRound (order_at w k) s z) (sym (its.order.to_come s k (omega (arith, starts.next, ltb-true (current v) k late)))) (none_round (order_at w k) s)
     lane s k there false low =
         subst (λ (fs : List Entry). LaneRound fs s (x.lane_at s k)) (sym (crashed_order v clock l.times.round (length es) k (ltb-false (current v) k low)))
         (its.rounds.lanes s k (ltb-false (current v) k low))
@@ -223,24 +185,18 @@ rounds_kept_by_later l d now clock es v x dead its ordered opened =
     same (Some s) = λ k low. ap (λ (fs : List Entry). is_opened_in fs s.number) (crashed_order v clock l.times.round (length es) k low)
 
 -- the first start
-rounds_kept_by_first : (l : Layout) (d now clock : ℕ) (es : List Entry) (v : Server) (x : Site) (dead : ℕ → Bool) → SiteHolds l d dead v x → IsOrdered es
-    → v.opened ≡ false → v.order ≡ [] → v.past ≡ [] → v.synced ≤ length v.order → RoundsHold (opened_with clock l.times.round v es) (begun_site l d now es x) dead
-rounds_kept_by_first l d now clock es v x dead its ordered shut none first low =
-    begun_rounds l d now es v w x dead its ordered
-    (λ s k there. subst (λ (z : Lane). LaneRound (order_at w k) s z) (sym (its.order.to_come s k (omega (arith, next, first_now)))) (none_round (order_at w k) s))
+rounds_kept_by_first : (l : Layout) (d now clock : ℕ) (es : List Entry) (v : Server) (x : Site) (dead : ℕ → Bool) → SiteHolds l d dead v x → FirstStart v x es
+    → RoundsHold (opened_with clock l.times.round v es) (begun_site l d now es x) dead
+rounds_kept_by_first l d now clock es v x dead its starts =
+    begun_rounds l d now es v w x dead its starts.ordered
+    (λ s k there. subst (λ (z : Lane). LaneRound (order_at w k) s z) (sym (its.order.to_come s k (omega (arith, starts.next, first_now)))) (none_round (order_at w k) s))
     (λ app lives. same (x.end_at app).state.session (its.ends.told app lives).synced (its.ends.told app lives).newest)
   where
     w : Server
     w = opened_with clock l.times.round v es
 
     first_now : current v ≡ 0
-    first_now = ap (λ (xs : List (List Entry)). length xs) first
-
-    next : past_with x.order x.past ≡ current v
-    next = ap (λ (o : Option (List Entry)). past_with o x.past) (its.order.disk ∙ ap (λ (b : Bool). if b then Some v.order else None) shut) ∙ its.order.past
-
-    synced : v.synced ≡ 0
-    synced = omega (arith, low, ap (λ (xs : List Entry). length xs) none)
+    first_now = ap (λ (xs : List (List Entry)). length xs) starts.first
 
     never : (fs : List Entry) (n : ℕ) → n ≡ 0 → is_opened_in fs n ≡ false
     never fs n zero = false_from_ne_true (nat_lt (epoch_place fs) n) (λ above. absurd (omega (arith, zero, ltb-true (epoch_place fs) n above)))
@@ -248,66 +204,15 @@ rounds_kept_by_first l d now clock es v x dead its ordered shut none first low =
     same : {told : ℕ} (o : Option Session) → told ≤ v.synced → IfSome o (λ s. s.number ≡ told)
         → IfSome o (λ s. (k : ℕ) → k ≤ current v → is_opened_in (order_at w k) s.number ≡ is_opened_in (order_at v k) s.number)
     same None within newest = tt
-    same (Some s) within newest = λ k there. never (order_at w k) s.number (omega (arith, within, newest, synced)) ∙ sym (never (order_at v k) s.number (omega (arith, within, newest, synced)))
-
--- a site that is changed with what its acts make of the plain machine
-rounds_at : (l : Layout) (m : Machine) (server : ℕ) (f : Site → Site) (written : List Act) → Holds l m
-    → ((e : ℕ) → e ≢ server → (after_all l (state_after l m.trail) written).server_at e ≡ (state_after l m.trail).server_at e)
-    → RoundsHold ((after_all l (state_after l m.trail) written).server_at server) (f (m.site_at server)) m.is_dead_at
-    → AllRounds l (state_after l (m.trail ++ written)) (with_acts written (at_site server f m))
-rounds_at l m server f written h others here =
-    subst (λ (q : Plain). AllRounds l q (with_acts written (at_site server f m))) (sym (after_all-append l start m.trail written))
-    (others_left l (state_after l m.trail) (after_all l (state_after l m.trail) written) m server (f (m.site_at server)) (λ d v x. RoundsHold v x m.is_dead_at)
-    (λ d. (h.sites d).rounds) others here)
+    same (Some s) within newest =
+        λ k there.
+        never (order_at w k) s.number (omega (arith, within, newest, starts.synced))
+        ∙ sym (never (order_at v k) s.number (omega (arith, within, newest, starts.synced)))
 
 -- Each start of a data server keeps them.
 pub rounds_kept_by_begin : (l : Layout) (c : CoresState) (m : Machine) (server now : ℕ) (es : List Entry) (outs : MoveOuts) (written : List Act) (new : Machine)
     → Holds l m → IsRun l m.trail → Mirrors c m → Allowed c (Begin server now es) → BeginGoes m server now es outs written new → AllRounds l (state_after l new.trail) new
 rounds_kept_by_begin l c m server now es outs written new h run shows allowed goes =
-    subst (λ (n : Machine). AllRounds l (state_after l n.trail) n) (sym goes.after)
-    (subst (λ (ws : List Act). AllRounds l (state_after l (m.trail ++ ws)) (with_acts ws (at_site server (begun_site m.layout server now es) m))) (sym goes.acts)
-    (subst (λ (k : Layout). AllRounds l (state_after l (m.trail ++ begin_act x.order server es ∷ []))
-    (with_acts (begin_act x.order server es ∷ []) (at_site server (begun_site k server now es) m))) (sym h.layout) (go v.opened refl)))
-  where
-    x : Site
-    x = m.site_at server
-
-    v : Server
-    v = (state_after l m.trail).server_at server
-
-    its : SiteHolds l server m.is_dead_at v x
-    its = h.sites server
-
-    -- what the start may have on its disk
-    may : (b : Bool) → v.opened ≡ b → EntriesMay (if b then Some v.order else None) (plain_server c server).synced es
-    may b opened =
-        subst (λ (o : Option (List Entry)). EntriesMay o (plain_server c server).synced es)
-        (shows.orders server ∙ its.order.disk ∙ ap (λ (t : Bool). if t then Some v.order else None) opened) allowed.kept
-
-    by : (b : Bool) → v.opened ≡ b → AllRounds l (state_after l (m.trail ++ begin_act (if b then Some v.order else None) server es ∷ []))
-        (with_acts (begin_act (if b then Some v.order else None) server es ∷ []) (at_site server (begun_site l server now es) m))
-    by false shut =
-        rounds_at l m server (begun_site l server now es) (act.Opened server es ∷ []) h (λ e other. put_other (state_after l m.trail).server_at server _ e other)
-        (subst (λ (w : Server). RoundsHold w (begun_site l server now es x) m.is_dead_at)
-        (sym (put_same (state_after l m.trail).server_at server (opened_with (state_after l m.trail).clock l.times.round v es)))
-        (rounds_kept_by_first l server now (state_after l m.trail).clock es v x m.is_dead_at its (may false shut) shut ((orders_kept l m.trail server run).fresh shut).0
-        ((orders_kept l m.trail server run).fresh shut).1 (orders_kept l m.trail server run).within))
-    by true opened =
-        rounds_at l m server (begun_site l server now es) (act.Crash server (length es) ∷ []) h (λ e other. put_other (state_after l m.trail).server_at server _ e other)
-        (subst (λ (w : Server). RoundsHold w (begun_site l server now es x) m.is_dead_at)
-        (sym (put_same (state_after l m.trail).server_at server (crashed (state_after l m.trail).clock l.times.round v (length es))))
-        (rounds_kept_by_later l server now (state_after l m.trail).clock es v x m.is_dead_at its ordered opened))
-      where
-        kept : LaterMay v.order (plain_server c server).synced es
-        kept = may true opened
-
-        ordered : IsOrdered es
-        ordered =
-            subst IsOrdered (sym kept.front)
-            (ordered-take v.order (length es) (subst IsOrdered (order_now v) ((orders_agree l m.trail server run).ordered (current v) (omega arith))))
-
-    go : (b : Bool) → v.opened ≡ b
-        → AllRounds l (state_after l (m.trail ++ begin_act x.order server es ∷ [])) (with_acts (begin_act x.order server es ∷ []) (at_site server (begun_site l server now es) m))
-    go b opened =
-        subst (λ (a : Act). AllRounds l (state_after l (m.trail ++ a ∷ [])) (with_acts (a ∷ []) (at_site server (begun_site l server now es) m)))
-        (sym (begins_act l v x server es its.order b opened)) (by b opened)
+    kept_by_start RoundsPart l c m server now es outs written new h run shows allowed goes (λ d. (h.sites d).rounds)
+    (λ starts. rounds_kept_by_first l server now (state_after l m.trail).clock es ((state_after l m.trail).server_at server) (m.site_at server) m.is_dead_at (h.sites server) starts)
+    (λ starts. rounds_kept_by_later l server now (state_after l m.trail).clock es ((state_after l m.trail).server_at server) (m.site_at server) m.is_dead_at (h.sites server) starts)

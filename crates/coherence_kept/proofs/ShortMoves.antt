@@ -1,26 +1,19 @@
 -- Coherence and fronts, for the moves that put and take nothing: a tick, a look, and a node or an application server that goes.
-use Rattle.std.proofs.Common.{◌≡◌, ℕ, Bool, true, false, if◌then◌else◌, List, [], ◌∷◌, ◌++◌, refl, sym, subst, ◌==◌}
-use Rattle.std.proofs.lemmas.Bool.{false≢true}
+use Rattle.std.proofs.Common.{◌≡◌, ℕ, Bool, true, false, List, refl}
 use Rattle.plain_orders.specs.declared.act.Act.{Act}
-use Rattle.plain_orders.specs.declared.act.Act.TheVariants as act
 use Rattle.plain_orders.specs.declared.layout.Layout.{Layout}
-use Rattle.plain_orders.specs.declared.question.Question.TheVariants.{Get as GetQuestion}
-use Rattle.plain_orders.specs.declared.via.Via.TheVariants.{Cached}
-use Rattle.plain_orders.specs.PairMap.{value_at}
-use Rattle.plain_runs.specs.Plain.{Plain, Server, Known, put, start, order_at}
+use Rattle.plain_runs.specs.Plain.{Plain, Server, put, order_at}
 use Rattle.plain_runs.specs.Run.{state_after}
-use Rattle.plain_runs.specs.Step.{after}
-use Rattle.plain_runs.proofs.RunLemmas.{after_all-more}
 use Rattle.app_job.specs.Sites.{Site as Target}
-use Rattle.end_words.specs.Runs.{pairs_of}
 use Rattle.cluster_runs.specs.declared.move_outs.MoveOuts.{MoveOuts}
-use Rattle.cluster_runs.specs.Machine.{Machine, Site, with_acts}
+use Rattle.cluster_runs.specs.Machine.{Machine, Site}
 use Rattle.cluster_runs.specs.Goes.{TickGoes, LookGoes, DieGoes, HaltGoes, dies, halted_site}
 use Rattle.cluster_invariant.specs.Coherence.{CoherenceHolds, NodeHeld}
 use Rattle.cluster_invariant.specs.Fronts.{FrontsHold}
 use Rattle.cluster_invariant.specs.Holds.{SiteHolds, Holds}
-use Rattle.cluster_invariant.proofs.Small.{at_places, some_kept}
-use Rattle.cluster_invariant.proofs.Frame.{kept_by_tick, others_left}
+use Rattle.cluster_invariant.proofs.Small.{some_kept}
+use Rattle.cluster_invariant.proofs.SiteMoves.{kept_by_look, kept_by_death, kept_by_halt}
+use Rattle.cluster_invariant.proofs.Frame.{kept_by_tick}
 use Rattle.link_kept.proofs.Later.{front_same}
 use Rattle.coherence_kept.proofs.CoherenceLater.{held_same}
 use Rattle.coherence_kept.proofs.FrontsLater.{same_taken, fronts_later}
@@ -42,49 +35,32 @@ pub coherence_kept_by_tick : (l : Layout) (m new : Machine) (now : ℕ) (outs : 
 coherence_kept_by_tick l m new now outs written h goes d =
     both_of l d new.is_dead_at ((state_after l new.trail).server_at d) (new.site_at d) ((kept_by_tick l m new now outs written h goes).sites d)
 
--- what jobs know is of neither
-known_both : (v : Server) (x : Site) (dead : ℕ → Bool) (known : ℕ → Known) → BothHold v x dead → BothHold (record v { known_at = known }) x dead
-known_both v x dead known is = (record { lanes = is.0.lanes; node = is.0.node }, record { apps = is.1.apps; shown = is.1.shown })
+-- both, as a part of the invariant
+abbrev pub BothPart : (ℕ → Bool) → ℕ → Server → Site → Type 0
+BothPart dead d v x = BothHold v x dead
 
--- A look keeps both.
+-- as the invariant has them everywhere
+pub both_before : (l : Layout) (m : Machine) → Holds l m → AllCoherent l (state_after l m.trail) m
+both_before l m h d = both_of l d m.is_dead_at ((state_after l m.trail).server_at d) (m.site_at d) (h.sites d)
+
+-- A look keeps both: what jobs know is of neither.
 pub coherence_kept_by_look : (l : Layout) (m : Machine) (app job line : ℕ) (at : Target) (outs : MoveOuts) (written : List Act) (new : Machine)
     → Holds l m → LookGoes m app job line at outs written new → AllCoherent l (state_after l new.trail) new
 coherence_kept_by_look l m app job line at outs written new h goes =
-    subst (λ (n : Machine). AllCoherent l (state_after l n.trail) n) (sym goes.after)
-    (subst (λ (ws : List Act). (d : ℕ) → BothHold ((state_after l (m.trail ++ ws)).server_at d) (m.site_at d) m.is_dead_at) (sym goes.acts)
-    (subst (λ (q : Plain). (d : ℕ) → BothHold (q.server_at d) (m.site_at d) m.is_dead_at) (sym (after_all-more l start m.trail look)) each))
+    kept_by_look BothPart l m app job line at outs written new goes (both_before l m h)
+    (λ knows. (record { lanes = its.coherence.lanes; node = its.coherence.node }, record { apps = its.fronts.apps; shown = its.fronts.shown }))
   where
-    p : Plain
-    p = state_after l m.trail
-
-    look : Act
-    look = act.Read job line at.server goes.front.n Cached (GetQuestion at.key (value_at (pairs_of goes.run) at.key))
-
-    before : (d : ℕ) → BothHold (p.server_at d) (m.site_at d) m.is_dead_at
-    before d = both_of l d m.is_dead_at (p.server_at d) (m.site_at d) (h.sites d)
-
-    each : (d : ℕ) → BothHold ((after l p look).server_at d) (m.site_at d) m.is_dead_at
-    each d =
-        at_places (λ (e : ℕ) (v : Server). BothHold v (m.site_at e) m.is_dead_at) p.server_at at.server _
-        (known_both (p.server_at at.server) (m.site_at at.server) m.is_dead_at _ (before at.server)) (λ e other. before e) d
+    its : SiteHolds l at.server m.is_dead_at ((state_after l m.trail).server_at at.server) (m.site_at at.server)
+    its = h.sites at.server
 
 -- An application server that goes keeps both.
 pub coherence_kept_by_die : (l : Layout) (m : Machine) (app : ℕ) (outs : MoveOuts) (written : List Act) (new : Machine)
     → Holds l m → DieGoes m app outs written new → AllCoherent l (state_after l new.trail) new
-coherence_kept_by_die l m app outs written new h goes =
-    subst (λ (n : Machine). AllCoherent l (state_after l n.trail) n) (sym goes.after)
-    (subst (λ (ws : List Act). AllCoherent l (state_after l (m.trail ++ ws)) (with_acts ws (dies app m))) (sym goes.acts)
-    (subst (λ (q : Plain). AllCoherent l q (with_acts (act.Died app ∷ []) (dies app m))) (sym (after_all-more l start m.trail (act.Died app))) each))
+coherence_kept_by_die l m app outs written new h goes = kept_by_death BothPart l m app outs written new goes each
   where
-    alive : (a : ℕ) → put m.is_dead_at app true a ≡ false → m.is_dead_at a ≡ false
-    alive a = go (a == app)
-      where
-        go : (b : Bool) → (if b then true else m.is_dead_at a) ≡ false → m.is_dead_at a ≡ false
-        go true is = absurd (false≢true (sym is))
-        go false is = is
-
-    each : AllCoherent l (state_after l m.trail) (dies app m)
-    each d = (
+    each : ((a : ℕ) → put m.is_dead_at app true a ≡ false → m.is_dead_at a ≡ false) → (d : ℕ)
+        → BothHold ((state_after l m.trail).server_at d) ((dies app m).site_at d) (put m.is_dead_at app true)
+    each alive d = (
       record {
         lanes = (h.sites d).coherence.lanes;
         node =
@@ -101,10 +77,7 @@ coherence_kept_by_die l m app outs written new h goes =
 -- A halt keeps both.
 pub coherence_kept_by_halt : (l : Layout) (m : Machine) (server : ℕ) (outs : MoveOuts) (written : List Act) (new : Machine)
     → Holds l m → HaltGoes m server outs written new → AllCoherent l (state_after l new.trail) new
-coherence_kept_by_halt l m server outs written new h goes =
-    subst (λ (n : Machine). AllCoherent l (state_after l n.trail) n) (sym goes.after)
-    (others_left l (state_after l m.trail) (state_after l m.trail) m server (halted_site x) (λ d v z. BothHold v z m.is_dead_at)
-    (λ d. both_of l d m.is_dead_at ((state_after l m.trail).server_at d) (m.site_at d) (h.sites d)) (λ e other. refl) here)
+coherence_kept_by_halt l m server outs written new h goes = kept_by_halt BothPart l m server outs written new goes (both_before l m h) here
   where
     x : Site
     x = m.site_at server

@@ -1,9 +1,8 @@
 -- The part on what is on its way, for a start of a data server: its node has nothing yet, and its order is a new one.
-use Rattle.std.proofs.Common.{◌≡◌, ◌≢◌, ◌≤◌, ◌<◌, ℕ, ◌+◌, ◌-◌, Bool, true, false, if◌then◌else◌, List, [], ◌∷◌, ◌++◌, length, drop, take, map, Option, Some, None, is_some, option_map, refl, sym, ◌∙◌, ap, subst, arith}
-use Rattle.std.specs.Prelude.{IfSome, IsSomeAnd, ◌==◌}
+use Rattle.std.proofs.Common.{◌≡◌, ◌≤◌, ◌<◌, ℕ, ◌+◌, Bool, false, List, [], ◌∷◌, ◌++◌, length, drop, take, map, Option, Some, None, is_some, option_map, refl, sym, ◌∙◌, ap, subst, arith}
+use Rattle.std.specs.Prelude.{IfSome, IsSomeAnd}
 use Rattle.std.specs.List.{AllByRecursion, list_any, flat_map, find}
-use Rattle.std.proofs.lemmas.Bool.{eqb-true, eq-eqb, ne_eqb, false≢true, ltb-false}
-use Rattle.std.proofs.lemmas.List.{length-append, get_or_append_left, length-take-le}
+use Rattle.std.proofs.lemmas.Bool.{false≢true, ltb-false}
 use Rattle.std.proofs.Math.Seq.{drop-append_seam, drop-nil}
 use Rattle.plain_orders.specs.declared.entry.Entry.{Entry}
 use Rattle.plain_orders.specs.declared.entry.Entry.TheVariants.{Epoch}
@@ -41,18 +40,19 @@ use Rattle.cluster_runs.specs.Machine.{Site, End}
 use Rattle.cluster_runs.specs.Connections.{link_in}
 use Rattle.cluster_runs.specs.Goes.{begun_site, past_with}
 use Rattle.plain_orders.specs.declared.layout.Layout.{Layout}
+use Rattle.cluster_invariant.specs.Holds.{SiteHolds}
 use Rattle.cluster_invariant.specs.Orders.{OrderIs, OrdersAgree}
-use Rattle.cluster_invariant.specs.Ends.{EndsAre}
 use Rattle.cluster_invariant.specs.Dials.{DialsAre, ConnectionIs, CarriesOf, FirstIs}
 use Rattle.cluster_invariant.specs.Link.{LinkHolds, NodeLink, WindowIs, JoinedWay, AskedWay, GreetedWay, WithSession, DownBy, is_window_of, whose}
 use Rattle.cluster_invariant.specs.Served.{IsServed, AllWait, has_one_each, HasLearnt}
 use Rattle.cluster_invariant.specs.Waiting.{ReplyWaits, conns_in}
 use Rattle.cluster_invariant.specs.Words.{IsFront, all_differ, downs_left, stays_at}
 use Rattle.cluster_invariant.proofs.Small.{of_some, some_kept}
-use Rattle.cluster_invariant.proofs.Written.{next_place}
+use Rattle.cluster_invariant.proofs.PastOrders.{crashed_current, crashed_left, crashed_newest, crashed_order, crashed_stays, stays_within}
+use Rattle.cluster_invariant.proofs.SiteMoves.{LaterStart}
 use Rattle.link_kept.proofs.Later.{Later, front_same}
 use Rattle.link_kept.proofs.AppLater.{same_lane, app_later}
-use Rattle.link_kept.proofs.ShortMoves.{app_quiet, some_both, count_same, quietly_same, order_now, stays_within}
+use Rattle.link_kept.proofs.ShortMoves.{app_quiet, some_both, count_same, quietly_same}
 
 -- a node that starts
 
@@ -120,21 +120,6 @@ node_empty w y dead es number n none e = record {
 
 -- a later start
 
--- an order that there was is as it was
-crashed_order : (v : Server) (clock round kept k : ℕ) → k ≤ current v → order_at (crashed clock round v kept) k ≡ order_at v k
-crashed_order v clock round kept k low =
-    get_or_append_left (v.past ++ v.order ∷ []) ((take kept v.order ++ Epoch (last_epoch (take kept v.order) + 1) ∷ []) ∷ []) [] k
-    (omega (arith, low, length-append v.past (v.order ∷ [])))
-
-crashed_current : (v : Server) (clock round kept : ℕ) → current (crashed clock round v kept) ≡ current v + 1
-crashed_current v clock round kept = omega (arith, length-append v.past (v.order ∷ []))
-
-past_stays : (v : Server) (k : ℕ) → k ≢ current v → stays_at v k ≡ epoch_place (order_at v (k + 1)) - 1
-past_stays v k other = ap (λ (b : Bool). if b then v.synced else epoch_place (order_at v (k + 1)) - 1) (ne_eqb k (current v) other)
-
-now_stays : (v : Server) → stays_at v (current v) ≡ v.synced
-now_stays v = ap (λ (b : Bool). if b then v.synced else epoch_place (order_at v (current v + 1)) - 1) (eq-eqb (current v) (current v) refl)
-
 -- what stays of the epochs is in what a start keeps
 abbrev pub EpochsStay : Server → ℕ → Type 0
 EpochsStay v kept = (j : ℕ) → j ≤ current v → epoch_place (order_at v j) ≤ stays_at v j → last_epoch (order_at v j) ≤ last_epoch (take kept v.order)
@@ -145,8 +130,8 @@ later_crashed x v clock round kept agree low within epochs = record {
   there = omega (arith, crashed_current v clock round kept);
   goes_on = λ k under. subst (λ (es : List Entry). IsFront (order_at v k) es) (sym (crashed_order v clock round kept k under)) (front_same (order_at v k));
   within = stays_within v agree;
-  stays = λ k under. more k under (k == current v) refl;
-  left = λ k under. left k under;
+  stays = λ k under. crashed_stays v clock round kept k low within under;
+  left = λ k under. crashed_left v clock round kept k under;
   last = λ k under. ap last_epoch (crashed_order v clock round kept k under);
   place = λ k under. ap epoch_place (crashed_order v clock round kept k under);
   met = λ s. refl;
@@ -159,32 +144,6 @@ later_crashed x v clock round kept agree low within epochs = record {
     w : Server
     w = crashed clock round v kept
 
-    apart : (k : ℕ) → k ≤ current v → k ≢ current w
-    apart k under same = absurd (omega (arith, under, same, crashed_current v clock round kept))
-
-    left : (k : ℕ) → k < current v → stays_at w k ≡ stays_at v k
-    left k under =
-        past_stays w k (apart k (omega (arith, under)))
-        ∙ ap (λ (es : List Entry). epoch_place es - 1) (crashed_order v clock round kept (k + 1) (omega (arith, under)))
-        ∙ sym (past_stays v k (λ same. absurd (omega (arith, same, under))))
-
-    newest : order_at w (current v + 1) ≡ take kept v.order ++ Epoch (last_epoch (take kept v.order) + 1) ∷ []
-    newest = ap (order_at w) (sym (crashed_current v clock round kept)) ∙ order_now w
-
-    at_kept : stays_at w (current v) ≡ kept
-    at_kept =
-        past_stays w (current v) (apart (current v) (omega arith)) ∙ ap (λ (es : List Entry). epoch_place es - 1) newest
-        ∙ omega (arith, next_place (last_epoch (take kept v.order) + 1) 0 0 (take kept v.order), length-take-le kept v.order within)
-
-    more : (k : ℕ) → k ≤ current v → (b : Bool) → (k == current v) ≡ b → stays_at v k ≤ stays_at w k
-    more k under true same =
-        subst (λ (n : ℕ). stays_at v n ≤ stays_at w n) (sym (eqb-true k (current v) same)) (omega (arith, now_stays v, at_kept, low))
-    more k under false other =
-        subst (λ (n : ℕ). stays_at v k ≤ n) (sym (left k (below (λ same. false≢true (sym other ∙ eq-eqb k (current v) same))))) (omega arith)
-      where
-        below : k ≢ current v → k < current v
-        below other = omega (arith, under, other)
-
     newer : (i j : ℕ) → j ≤ current v → current v < i → i ≤ current w → epoch_place (order_at v j) ≤ stays_at v j → last_epoch (order_at v j) < last_epoch (order_at w i)
     newer i j under past there stays =
         let here : i ≡ current v + 1 = omega (arith, past, there, crashed_current v clock round kept) in
@@ -192,7 +151,7 @@ later_crashed x v clock round kept agree low within epochs = record {
           arith,
           epochs j under stays,
           ap (λ (k : ℕ). last_epoch (order_at w k)) here,
-          ap last_epoch newest,
+          ap last_epoch (crashed_newest v clock round kept),
           last_epoch-push (take kept v.order) (Epoch (last_epoch (take kept v.order) + 1)),
         )
 
@@ -206,18 +165,17 @@ its_there v x app number c s k made its =
     go (Some f) taken is = subst (λ (n : ℕ). n ≤ current v) is taken.there
 
 -- A later start keeps it.
-pub link_kept_by_later : (l : Layout) (d now clock : ℕ) (es : List Entry) (v : Server) (x : Site) (dead : ℕ → Bool) → OrderIs l d v x → LinkHolds v x dead
-    → EndsAre v x dead → DialsAre v x dead → OrdersAgree v → v.opened ≡ true → es ≡ take (length es) v.order → v.synced ≤ length es
-    → length es ≤ length v.order → EpochsStay v (length es) → LinkHolds (crashed clock l.times.round v (length es)) (begun_site l d now es x) dead
-link_kept_by_later l d now clock es v x dead order link ends dials agree opened front low within epochs = record {
-  lanes = λ s k. link.lanes s k;
+pub link_kept_by_later : (l : Layout) (d now clock : ℕ) (es : List Entry) (v : Server) (x : Site) (dead : ℕ → Bool) → SiteHolds l d dead v x → LaterStart v x es
+    → EpochsStay v (length es) → LinkHolds (crashed clock l.times.round v (length es)) (begun_site l d now es x) dead
+link_kept_by_later l d now clock es v x dead its starts epochs = record {
+  lanes = λ s k. its.link.lanes s k;
   node =
-      node_empty w y dead es (last_epoch es + 1) (started d l.times es now) (λ s. order.to_come s (past_with x.order x.past) (omega arith))
+      node_empty w y dead es (last_epoch es + 1) (started d l.times es now) (λ s. its.order.to_come s (past_with x.order x.past) (omega arith))
       (started_empty d l.times es now);
   apps =
       λ app alive.
-      app_quiet v w x y dead (later_crashed x v clock l.times.round (length es) agree low within epochs) (λ s k. same_lane (x.lane_at s k)) link ends dials app alive
-      (x.end_at app) refl refl (quietly_same ((x.end_at app).connection_at (x.end_at app).state.dial)) (λ c e q made s k left its is at here. absurd (gone app c s k made its here))
+      app_quiet v w x y dead (later_crashed x v clock l.times.round (length es) starts.agree starts.low starts.within epochs) (λ s k. same_lane (x.lane_at s k)) its.link its.ends its.dials app alive
+      (x.end_at app) refl refl (quietly_same ((x.end_at app).connection_at (x.end_at app).state.dial)) (λ c e q made s k left carries is at here. absurd (gone app c s k made carries here))
       (count_same x y (λ s k. refl) (x.end_at app).state.line (x.end_at app).state.session (x.end_at app).told);
 }
   where
@@ -227,12 +185,9 @@ link_kept_by_later l d now clock es v x dead order link ends dials agree opened 
     y : Site
     y = begun_site l d now es x
 
-    next : past_with x.order x.past ≡ current v + 1
-    next = ap (λ (o : Option (List Entry)). past_with o x.past) (order.disk ∙ ap (λ (b : Bool). if b then Some v.order else None) opened) ∙ omega (arith, order.past)
-
     gone : (app : ℕ) (c : Connection) (s k : ℕ) → ConnectionIs v x app (x.end_at app).state.dial c → c.its ≡ Some (record { session = s; order = k })
         → k ≡ past_with x.order x.past → ⊥
-    gone app c s k made its here = absurd (omega (arith, its_there v x app (x.end_at app).state.dial c s k made its, here, next))
+    gone app c s k made carries here = absurd (omega (arith, its_there v x app (x.end_at app).state.dial c s k made carries, here, starts.next))
 
 -- the first start
 

@@ -16,7 +16,7 @@ use Rattle.data_rules.specs.Places.{epoch_place_from}
 use Rattle.cluster_invariant.specs.Words.{stays_at}
 use Rattle.cluster_invariant.proofs.OrdersStay.{orders_agree, stays_synced, front_stays}
 use Rattle.link_kept.proofs.BeginMoves.{EpochsStay}
-use Rattle.link_kept.proofs.ShortMoves.{order_now}
+use Rattle.cluster_invariant.proofs.PastOrders.{order_now}
 
 -- no Epoch is below the last one before it
 rises : (es : List Entry) (e : Entry) → MayFollow es e → last_epoch es ≤ last_epoch (es ++ e ∷ [])

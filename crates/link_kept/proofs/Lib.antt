@@ -18,7 +18,6 @@ pub mod OrderGrows
 pub mod StepFits
 pub mod ServerMoves
 pub mod BeginMoves
-pub mod LinkBegins
 pub mod CancelWaits
 pub mod CloseRequests
 pub mod HelloRequests

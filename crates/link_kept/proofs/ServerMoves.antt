@@ -1,16 +1,11 @@
 -- The windows and lanes of a data server, and what it has of its sessions, after each move of it.
-use Rattle.std.proofs.Common.{◌≡◌, ◌≤◌, ◌<◌, ℕ, Bool, if◌then◌else◌, List, [], ◌∷◌, ◌++◌, length, Option, Some, None, refl, sym, ◌∙◌, ap, subst, arith}
-use Rattle.std.specs.Prelude.{get_or}
-use Rattle.std.proofs.lemmas.Bool.{ne_eqb}
-use Rattle.std.proofs.lemmas.List.{length-append, get_or-append-add}
+use Rattle.std.proofs.Common.{◌≡◌, ◌≤◌, ◌<◌, ℕ, List, length, Option, Some, None, refl, sym, ◌∙◌, ap, subst, arith}
+use Rattle.std.proofs.lemmas.List.{length-append}
 use Rattle.plain_orders.specs.declared.act.Act.{Act}
 use Rattle.plain_orders.specs.declared.entry.Entry.{Entry}
-use Rattle.plain_orders.specs.declared.entry.Entry.TheVariants.{Epoch, Opened, Closed, Update, Commit, Rollback}
 use Rattle.plain_orders.specs.declared.layout.Layout.{Layout}
-use Rattle.plain_orders.specs.Ordered.{IsOrdered, MayFollow}
-use Rattle.plain_orders.specs.Sessions.{app_in, app_from, app_after}
-use Rattle.plain_orders.proofs.OrderLemmas.{ordered_induction}
-use Rattle.plain_runs.specs.Plain.{Server, current, order_at}
+use Rattle.plain_orders.specs.Sessions.{app_in}
+use Rattle.plain_runs.specs.Plain.{Server, order_at}
 use Rattle.plain_runs.specs.Run.{IsRun, state_after}
 use Rattle.plain_runs.proofs.OrderLaws.{orders_kept}
 use Rattle.data_rules.specs.DataState.{DataState}
@@ -33,6 +28,7 @@ use Rattle.cluster_invariant.specs.Words.{IsFront}
 use Rattle.cluster_invariant.specs.Holds.{SiteHolds, Holds}
 use Rattle.cluster_invariant.proofs.Small.{of_some, put_same}
 use Rattle.cluster_invariant.proofs.OrderMoves.{step_from}
+use Rattle.cluster_invariant.proofs.PastOrders.{order_now}
 use Rattle.cluster_invariant.proofs.PieceKinds.{Piece, makes}
 use Rattle.cluster_invariant.proofs.PieceMay.{Coming, begins}
 use Rattle.cluster_invariant.proofs.Pieces.{MayMake}
@@ -47,9 +43,6 @@ use Rattle.link_kept.proofs.StepFits.{ConnsKnow, LeftToOthers, fits_well}
 none_begun : (v : Server) (x : Site) (s k : ℕ) (o a : Option ℕ) → a ≡ None → LearntBy v x s k o a → o ≡ None
 none_begun v x s k None a none learnt = refl
 none_begun v x s k (Some dial) a none learnt = absurd (subst (λ (b : Option ℕ). LearntBy v x s k (Some dial) b) none learnt)
-
-order_now : (v : Server) → order_at v (current v) ≡ v.order
-order_now v = ap (λ (n : ℕ). get_or (v.past ++ v.order ∷ []) n []) (omega arith) ∙ get_or-append-add v.past (v.order ∷ []) 0 []
 
 -- Each move of a data server keeps its windows, the counts of its lanes, and what it has of its sessions.
 pub serves_kept_by_server : (l : Layout) (c : CoresState) (m : Machine) (server now : ℕ) (input : DataIn) (outs : MoveOuts) (written : List Act) (new : Machine)

@@ -1,39 +1,30 @@
 -- The part on what is on its way, for the moves that put and take nothing: a tick, a look, and a node or an application server that goes.
-use Rattle.std.proofs.Common.{◌≡◌, ◌≢◌, ◌≤◌, ◌<◌, ℕ, ◌+◌, Bool, true, false, List, [], ◌∷◌, length, ◌++◌, ◌-◌, Option, Some, None, option_map, if◌then◌else◌, refl, sym, ◌∙◌, ap, subst, arith, ◌==◌}
-use Rattle.std.specs.Prelude.{IfSome, IsSomeAnd, get_or}
-use Rattle.std.proofs.lemmas.List.{get_or-append-add}
-use Rattle.std.proofs.lemmas.Bool.{eqb-true, eq-eqb, false≢true}
+use Rattle.std.proofs.Common.{◌≡◌, ◌≤◌, ℕ, Bool, true, false, List, Option, Some, None, option_map, if◌then◌else◌, refl, sym, ap, subst, arith, ◌==◌}
+use Rattle.std.specs.Prelude.{IfSome, IsSomeAnd}
+use Rattle.std.proofs.lemmas.Bool.{false≢true}
 use Rattle.plain_orders.specs.declared.act.Act.{Act}
-use Rattle.plain_orders.specs.declared.act.Act.TheVariants as act
 use Rattle.plain_orders.specs.declared.layout.Layout.{Layout}
-use Rattle.plain_orders.specs.declared.question.Question.TheVariants.{Get as GetQuestion}
-use Rattle.plain_orders.specs.declared.via.Via.TheVariants.{Cached}
-use Rattle.plain_orders.specs.PairMap.{value_at}
-use Rattle.plain_runs.specs.Plain.{Plain, Server, Known, put, start, current, order_at}
-use Rattle.plain_orders.specs.declared.entry.Entry.{Entry}
-use Rattle.data_rules.specs.Places.{epoch_place}
+use Rattle.plain_runs.specs.Plain.{Plain, Server, Known, put, current, order_at}
 use Rattle.app_rules.specs.declared.line.Line.{Line}
 use Rattle.app_rules.specs.declared.line.Line.TheVariants.{Apart, Trying, Greeting, Asking, Joined}
 use Rattle.app_rules.specs.AppState.{Session}
 use Rattle.plain_runs.specs.Run.{state_after}
-use Rattle.plain_runs.specs.Step.{after}
-use Rattle.plain_runs.proofs.RunLemmas.{after_all-more}
 use Rattle.app_job.specs.Sites.{Site as Target}
-use Rattle.end_words.specs.Runs.{pairs_of}
 use Rattle.data_rules.specs.DataState.{DataState}
 use Rattle.cluster_runs.specs.declared.move_outs.MoveOuts.{MoveOuts}
 use Rattle.cluster_runs.specs.Sent.{Connection, FirstTaken, Lane, Place}
-use Rattle.cluster_runs.specs.Machine.{Machine, Site, End, with_acts}
+use Rattle.cluster_runs.specs.Machine.{Machine, Site, End}
 use Rattle.cluster_runs.specs.Connections.{app_leaves, leaves_linked}
 use Rattle.cluster_runs.specs.Goes.{TickGoes, LookGoes, DieGoes, HaltGoes, dies, halted_site}
 use Rattle.cluster_invariant.specs.Orders.{OrdersAgree}
 use Rattle.cluster_invariant.specs.Ends.{EndsAre, AppTold, ToldPlace}
 use Rattle.cluster_invariant.specs.Dials.{DialsAre, ConnectionIs, FirstIs}
 use Rattle.cluster_invariant.specs.Link.{LinkHolds, NodeLink, AppWay, DownBy, DownWhole}
-use Rattle.cluster_invariant.specs.Words.{stays_at}
-use Rattle.cluster_invariant.specs.Holds.{Holds}
-use Rattle.cluster_invariant.proofs.Small.{some_kept, at_places}
-use Rattle.cluster_invariant.proofs.Frame.{kept_by_tick, others_left}
+use Rattle.cluster_invariant.specs.Holds.{Holds, SiteHolds}
+use Rattle.cluster_invariant.proofs.Small.{some_kept}
+use Rattle.cluster_invariant.proofs.Frame.{kept_by_tick}
+use Rattle.cluster_invariant.proofs.PastOrders.{stays_within}
+use Rattle.cluster_invariant.proofs.SiteMoves.{kept_by_death, kept_by_halt, kept_by_look}
 use Rattle.link_kept.proofs.Later.{Later, front_same}
 use Rattle.link_kept.proofs.AppLater.{WholeStays, CountStays, LaneLater, same_lane, down_later, app_later}
 use Rattle.link_kept.proofs.NodeBeside.{Quiet, Quietly, quiet_untold, some_quiet, with_ends, node_beside}
@@ -42,30 +33,14 @@ use Rattle.link_kept.proofs.NodeBeside.{Quiet, Quietly, quiet_untold, some_quiet
 abbrev pub LinksHold : Layout → Plain → Machine → Type 0
 LinksHold l p m = (d : ℕ) → LinkHolds (p.server_at d) (m.site_at d) m.is_dead_at
 
+-- the same, as a part of the invariant
+abbrev pub LinksPart : (ℕ → Bool) → ℕ → Server → Site → Type 0
+LinksPart dead d v x = LinkHolds v x dead
+
 -- A tick keeps it.
 pub link_kept_by_tick : (l : Layout) (m new : Machine) (now : ℕ) (outs : MoveOuts) (written : List Act) → Holds l m → TickGoes m now outs written new
     → LinksHold l (state_after l new.trail) new
 link_kept_by_tick l m new now outs written h goes d = ((kept_by_tick l m new now outs written h goes).sites d).link
-
--- the current order is the last one
-pub order_now : (v : Server) → order_at v (current v) ≡ v.order
-order_now v = ap (λ (n : ℕ). get_or (v.past ++ v.order ∷ []) n []) (omega arith) ∙ get_or-append-add v.past (v.order ∷ []) 0 []
-
--- what of an order stays is in it
-pub stays_within : (v : Server) → OrdersAgree v → (k : ℕ) → k ≤ current v → stays_at v k ≤ length (order_at v k)
-stays_within v agree k low = go (k == current v) refl
-  where
-    here : k ≡ current v → v.synced ≤ length (order_at v k)
-    here same = subst (λ (n : ℕ). v.synced ≤ length (order_at v n)) (sym same) (subst (λ (es : List Entry). v.synced ≤ length es) (sym (order_now v)) agree.within)
-
-    go : (b : Bool) → (k == current v) ≡ b → (if b then v.synced else epoch_place (order_at v (k + 1)) - 1) ≤ length (order_at v k)
-    go true same = here (eqb-true k (current v) same)
-    go false other =
-        subst (λ (b : Bool). (if b then v.synced else epoch_place (order_at v (k + 1)) - 1) ≤ length (order_at v k)) other
-        (agree.kept k (below (λ same. false≢true (sym other ∙ eq-eqb k (current v) same)))).within
-      where
-        below : k ≢ current v → k < current v
-        below apart = omega (arith, low, apart)
 
 -- What jobs know, and what isn't of orders, changes nothing of them.
 pub later_known : (x : Site) (v : Server) (known : ℕ → Known) → OrdersAgree v → Later x v (record v { known_at = known })
@@ -171,32 +146,24 @@ quietly_mapped g q (Some c) = q c
 pub link_kept_by_look : (l : Layout) (m : Machine) (app job line : ℕ) (at : Target) (outs : MoveOuts) (written : List Act) (new : Machine)
     → Holds l m → ((d : ℕ) → OrdersAgree ((state_after l m.trail).server_at d)) → LookGoes m app job line at outs written new → LinksHold l (state_after l new.trail) new
 link_kept_by_look l m app job line at outs written new h agree goes =
-    subst (λ (n : Machine). LinksHold l (state_after l n.trail) n) (sym goes.after)
-    (subst (λ (ws : List Act). (d : ℕ) → LinkHolds ((state_after l (m.trail ++ ws)).server_at d) (m.site_at d) m.is_dead_at) (sym goes.acts)
-    (subst (λ (q : Plain). (d : ℕ) → LinkHolds (q.server_at d) (m.site_at d) m.is_dead_at) (sym (after_all-more l start m.trail look)) each))
+    kept_by_look LinksPart l m app job line at outs written new goes (λ d. (h.sites d).link)
+    (λ knows.
+    link_beside v (record v { known_at = knows }) x x.end_at m.is_dead_at m.is_dead_at (later_known x v knows (agree at.server)) refl its.order.past its.link its.ends
+    its.dials (λ a n. quietly_same ((x.end_at a).connection_at n)) (λ a. refl) (λ a. refl) (λ a alive. alive))
   where
-    p : Plain
-    p = state_after l m.trail
+    v : Server
+    v = (state_after l m.trail).server_at at.server
 
-    look : Act
-    look = act.Read job line at.server goes.front.n Cached (GetQuestion at.key (value_at (pairs_of goes.run) at.key))
+    x : Site
+    x = m.site_at at.server
 
-    known : (d : ℕ) (knows : ℕ → Known) → LinkHolds (record (p.server_at d) { known_at = knows }) (m.site_at d) m.is_dead_at
-    known d knows =
-        link_beside (p.server_at d) (record (p.server_at d) { known_at = knows }) (m.site_at d) (m.site_at d).end_at m.is_dead_at m.is_dead_at
-        (later_known (m.site_at d) (p.server_at d) knows (agree d)) refl (h.sites d).order.past (h.sites d).link (h.sites d).ends (h.sites d).dials
-        (λ a n. quietly_same (((m.site_at d).end_at a).connection_at n)) (λ a. refl) (λ a. refl) (λ a alive. alive)
-
-    each : (d : ℕ) → LinkHolds ((after l p look).server_at d) (m.site_at d) m.is_dead_at
-    each d = at_places (λ (e : ℕ) (v : Server). LinkHolds v (m.site_at e) m.is_dead_at) p.server_at at.server _ (known at.server _) (λ e other. (h.sites e).link) d
+    its : SiteHolds l at.server m.is_dead_at v x
+    its = h.sites at.server
 
 -- An application server that goes keeps it.
 pub link_kept_by_die : (l : Layout) (m : Machine) (app : ℕ) (outs : MoveOuts) (written : List Act) (new : Machine)
     → Holds l m → ((d : ℕ) → OrdersAgree ((state_after l m.trail).server_at d)) → DieGoes m app outs written new → LinksHold l (state_after l new.trail) new
-link_kept_by_die l m app outs written new h agree goes =
-    subst (λ (n : Machine). LinksHold l (state_after l n.trail) n) (sym goes.after)
-    (subst (λ (ws : List Act). LinksHold l (state_after l (m.trail ++ ws)) (with_acts ws (dies app m))) (sym goes.acts)
-    (subst (λ (q : Plain). LinksHold l q (with_acts (act.Died app ∷ []) (dies app m))) (sym (after_all-more l start m.trail (act.Died app))) each))
+link_kept_by_die l m app outs written new h agree goes = kept_by_death LinksPart l m app outs written new goes each
   where
     leaves : ℕ → Connection → Connection
     leaves a c = if a == app then app_leaves c else c
@@ -208,18 +175,12 @@ link_kept_by_die l m app outs written new h agree goes =
         go true = record { ups = refl; ups_taken = refl; downs = refl; downs_taken = refl; its = refl; knew = refl; first = refl; data_left = λ is. is }
         go false = quiet_same c
 
-    alive : (a : ℕ) → put m.is_dead_at app true a ≡ false → m.is_dead_at a ≡ false
-    alive a = go (a == app)
-      where
-        go : (b : Bool) → (if b then true else m.is_dead_at a) ≡ false → m.is_dead_at a ≡ false
-        go true is = absurd (false≢true (sym is))
-        go false is = is
-
     ends : ℕ → ℕ → End
     ends d a = record ((m.site_at d).end_at a) { connection_at = λ n. option_map (leaves a) (((m.site_at d).end_at a).connection_at n) }
 
-    each : LinksHold l (state_after l m.trail) (dies app m)
-    each d =
+    each : ((a : ℕ) → put m.is_dead_at app true a ≡ false → m.is_dead_at a ≡ false) → (d : ℕ)
+        → LinkHolds ((state_after l m.trail).server_at d) ((dies app m).site_at d) (put m.is_dead_at app true)
+    each alive d =
         link_beside ((state_after l m.trail).server_at d) ((state_after l m.trail).server_at d) (m.site_at d) (ends d) m.is_dead_at (put m.is_dead_at app true)
         (later_known (m.site_at d) ((state_after l m.trail).server_at d) ((state_after l m.trail).server_at d).known_at (agree d)) refl (h.sites d).order.past
         (h.sites d).link (h.sites d).ends (h.sites d).dials
@@ -228,10 +189,7 @@ link_kept_by_die l m app outs written new h agree goes =
 -- A halt keeps it.
 pub link_kept_by_halt : (l : Layout) (m : Machine) (server : ℕ) (outs : MoveOuts) (written : List Act) (new : Machine)
     → Holds l m → ((d : ℕ) → OrdersAgree ((state_after l m.trail).server_at d)) → HaltGoes m server outs written new → LinksHold l (state_after l new.trail) new
-link_kept_by_halt l m server outs written new h agree goes =
-    subst (λ (n : Machine). LinksHold l (state_after l n.trail) n) (sym goes.after)
-    (others_left l (state_after l m.trail) (state_after l m.trail) m server (halted_site x) (λ d v z. LinkHolds v z m.is_dead_at) (λ d. (h.sites d).link)
-    (λ e other. refl) here)
+link_kept_by_halt l m server outs written new h agree goes = kept_by_halt LinksPart l m server outs written new goes (λ d. (h.sites d).link) here
   where
     x : Site
     x = m.site_at server
