@@ -14,9 +14,12 @@ pub mod PiecesOfReplies
 pub mod PiecesOfRounds
 pub mod PiecesOfMessages
 pub mod ConnRoles
+pub mod Parts
+pub mod RequestParts
 pub mod PiecesOfCloses
 pub mod PiecesOfFirsts
 pub mod PiecesOfTicks
+pub mod RoundBefore
 pub mod PiecesOfSteps
 pub mod PieceDeeds
 pub mod StepEnds

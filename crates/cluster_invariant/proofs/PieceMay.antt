@@ -1,5 +1,5 @@
 -- What is known where a step of a data server makes a small change.
-use Rattle.std.proofs.Common.{◌≡◌, ◌≤◌, ◌<◌, ◌⊎◌, ℕ, Bool, true, false, List, ◌∷◌, ◌++◌, length, Option, Some, None, is_some}
+use Rattle.std.proofs.Common.{◌≡◌, ◌≢◌, ◌≤◌, ◌<◌, ◌⊎◌, ℕ, Bool, true, false, List, ◌∷◌, ◌++◌, length, filter, Option, Some, None, is_some}
 use Rattle.std.specs.Prelude.{Ok, nat_lt, pos}
 use Rattle.std.specs.List.{AllByRecursion, list_any}
 use Rattle.plain_orders.specs.declared.causes.ShutCause.{ShutCause}
@@ -22,7 +22,7 @@ use Rattle.link_window.specs.declared.window.Taken.TheVariants.{Fresh, Repeat}
 use Rattle.lock_table.specs.declared.rows.Request.{Request}
 use Rattle.lock_table.specs.declared.rows.Who.{Who}
 use Rattle.plain_orders.specs.declared.mode.Mode.{Mode}
-use Rattle.lock_table.specs.LockWords.{holds_it, granted_with, waiting_with}
+use Rattle.lock_table.specs.LockWords.{holds_it, granted_with, is_other_ticket, waiting_with}
 use Rattle.ecp_messages.specs.declared.about.About.TheVariants.{Synced}
 use Rattle.ecp_messages.specs.declared.up.Up.{Up}
 use Rattle.ecp_messages.specs.declared.up.Up.TheVariants.{Hello, Recover, Update, Add, Fetch, Ask, Unlock, Cancel, Commit, Rollback, Sync, Done, Claim, Bare}
@@ -45,6 +45,7 @@ use Rattle.data_rules.specs.Messages.{is_awaited, is_refused}
 use Rattle.data_rules.specs.Callers.{dial_of}
 use Rattle.data_rules.specs.Frames.{kind_of}
 use Rattle.data_rules.specs.Saving.{cause_of, has_item_of, hears_tick, part_saved, writes_synced}
+use Rattle.cluster_invariant.specs.Served.{has_one_ticket}
 use Rattle.cluster_invariant.proofs.PieceKinds.{Ending, There, Here, LockCall, Asks, Unlocks, Withdraws, GivesBack, ForgetsTicket, Claims, Cancels, Releases}
 
 -- what comes to a data server that was in this state, and when
@@ -103,6 +104,12 @@ pub record Came (t : Coming) (conn : ℕ) (m : Up) : Type 0 where
   pub its : t.input ≡ data_in.Frame conn up
   pub says : up.message ≡ m
 
+-- it came on a new connection, its dial is no less than those before it, and the order is as it was
+pub record Firstly (t : Coming) (conn app dial : ℕ) (b : Sofar) : Type 0 where
+  pub was_new : role_of t.old conn ≡ Some New
+  pub later : dial_of t.old app ≤ dial
+  pub same : b.state.order ≡ t.old.order
+
 -- a Recover of the application server's session came
 pub record RecoverCame (t : Coming) (conn app session : ℕ) (b : Sofar) : Type 0 where
   pub epoch : ℕ
@@ -110,6 +117,7 @@ pub record RecoverCame (t : Coming) (conn app session : ℕ) (b : Sofar) : Type 
   pub dial : ℕ
   pub came : Came t conn (Recover app session epoch taken dial)
   pub its : app_in b.state.order session ≡ Some app
+  pub firstly : Firstly t conn app dial b
 
 -- a first frame named this dial
 pub record NamesDial (t : Coming) (app dial conn : ℕ) : Type 0 where
@@ -273,10 +281,17 @@ pub record FetchesMay (t : Coming) (session : ℕ) (run : Run) (block : List ℕ
 
 -- putting
 
--- the round is over, and the session is the live one of its application server
-pub record PutsNormalMay (app session : ℕ) (b : Sofar) : Type 0 where
+-- where a round is on it was on before, and no application server has another live session than it had
+pub record RoundWas (t : Coming) (d : DataState) : Type 0 where
+  pub in_round : is_some d.round ≡ true → is_some t.old.round ≡ true
+  pub has : is_some d.round ≡ true → (app session : ℕ) → live_session d.order app ≡ Some session → live_session t.old.order app ≡ Some session
+
+-- the round that was on is over, and the session is the live one of its application server, as it was before
+pub record PutsNormalMay (t : Coming) (app session : ℕ) (b : Sofar) : Type 0 where
   pub over : b.state.round ≡ None
   pub has : live_session b.state.order app ≡ Some session
+  pub in_round : is_some t.old.round ≡ true
+  pub was : live_session t.old.order app ≡ Some session
 
 -- a save covers an item of the live session
 pub record PutsAckMay (t : Coming) (session : ℕ) (b : Sofar) : Type 0 where
@@ -366,6 +381,19 @@ pub record ClaimsMay (t : Coming) (who : Who) (key : List ℕ) (mode : Mode) (nu
   pub awaited : is_awaited b.state who.session ≡ true
   pub alone : is_refused b.state who key mode ≡ false
 
+-- of the requests that wait only such stand behind as are of other sessions
+pub record IsLast (r : Request) (rs : List Request) : Type 0 where
+  pub before : List Request
+  pub behind : List Request
+  pub its : rs ≡ before ++ behind
+  pub others : AllByRecursion (λ q. is_other_ticket r.who.session r.ticket q ≡ true) before
+  pub none : AllByRecursion (λ q. q.who.session ≢ r.who.session) (filter (is_other_ticket r.who.session r.ticket) behind)
+
+-- its session was closed, and requests of that go the latest first
+pub record CancelsMay (t : Coming) (r : Request) (b : Sofar) : Type 0 where
+  pub closed : live b.state.order r.who.session ≡ false
+  pub last : has_one_ticket t.old.locks.requests ≡ true → IsLast r b.state.locks.requests
+
 -- a save covers the session's Close
 pub record ReleasesMay (t : Coming) (session : ℕ) (b : Sofar) : Type 0 where
   pub upto : ℕ
@@ -380,7 +408,7 @@ CallsMay t (Withdraws r session ticket) b = WithdrawsMay t r session ticket b
 CallsMay t (GivesBack r) b = GivesBackMay t r true b
 CallsMay t (ForgetsTicket r) b = GivesBackMay t r false b
 CallsMay t (Claims who key mode number at) b = ClaimsMay t who key mode number at b
-CallsMay t (Cancels r) b = live b.state.order r.who.session ≡ false
+CallsMay t (Cancels r) b = CancelsMay t r b
 CallsMay t (Releases session) b = ReleasesMay t session b
 
 -- a tick that the end outlasts

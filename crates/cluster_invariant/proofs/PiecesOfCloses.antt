@@ -4,6 +4,7 @@ use Rattle.std.specs.Prelude.{◌==◌}
 use Rattle.std.specs.List.{AllByRecursion, find}
 use Rattle.std.specs.Option.{option_map}
 use Rattle.std.proofs.lemmas.Bool.{eqb-true, eq-eqb}
+use Rattle.std.proofs.lemmas.List.{reverse-append, reverse-reverse}
 use Rattle.std.proofs.lemmas.List.Elements.{filter-append}
 use Rattle.plain_orders.specs.declared.causes.ShutCause.{ShutCause}
 use Rattle.plain_orders.specs.declared.causes.ShutCause.TheVariants.{Trouble, Replaced, Round}
@@ -27,7 +28,10 @@ use Rattle.data_rules.specs.Entering.{appends}
 use Rattle.data_rules.specs.Granting.{grants, grants_one, locks_become, with_locks}
 use Rattle.data_rules.specs.Conns.{with_event, with_role_if, is_conn, role_in, drops_conn}
 use Rattle.data_rules.specs.Closing.{silenced, cancels_one, cancels, turns_away, waits_for_reset, closes}
+use Rattle.cluster_invariant.specs.Served.{has_one_ticket}
 use Rattle.cluster_invariant.proofs.AllLists.{all_reversed, all_passed, all_follow}
+use Rattle.cluster_invariant.proofs.Parts.{IsPart, part_same, part_then, part_left, part_front}
+use Rattle.cluster_invariant.proofs.RequestParts.{cancels_part, part_tickets, before_last, is_last, still_last}
 use Rattle.cluster_invariant.proofs.PutLaws.{only_locks, only_cancels, appends_state}
 use Rattle.cluster_invariant.proofs.PieceKinds.{Closes, Cancels, Locks as CallsLocks, Replies, closing_on, parts_from, event_of, with_close, shuts}
 use Rattle.cluster_invariant.proofs.PieceMay.{Coming, ClosesMay}
@@ -95,12 +99,31 @@ parts_pass (Round time) o s = closing_passes o s
 
 -- requests of a session that was closed go
 cancel_pieces : (t : Coming) (s : ℕ) (rs : List Request) (b : Sofar) → AllByRecursion (λ r. r.who.session ≡ s) rs → live b.state.order s ≡ false
+    → IsPart (filter (is_request_of s) b.state.locks.requests) (reverse rs)
+    → (has_one_ticket t.old.locks.requests ≡ true → has_one_ticket (reverse rs) ≡ true)
     → Pieced t b (cancels rs b)
-cancel_pieces t s [] b its closed = no_piece t b
-cancel_pieces t s (r ∷ rs) b its closed =
-    one_then t (CallsLocks (Cancels r)) b _ (subst (λ (n : ℕ). live b.state.order n ≡ false) (sym its.0) closed)
+cancel_pieces t s [] b its closed part one = no_piece t b
+cancel_pieces t s (r ∷ rs) b its closed part one =
+    one_then t (CallsLocks (Cancels r)) b _
+    (record {
+      closed = subst (λ (n : ℕ). live b.state.order n ≡ false) (sym its.0) closed;
+      last = λ o. is_last r (reverse rs) b.state.locks.requests (before_last (reverse rs) r (one_now o)) part_now;
+    })
     (cancel_pieces t s rs (cancels_one r b) its.1
-    (ap (λ (d : DataState). live d.order s) (only_locks (without_request b.state.locks r.who.session r.ticket (length b.state.order)) b).state ∙ closed))
+    (ap (λ (d : DataState). live d.order s) (only_locks (without_request b.state.locks r.who.session r.ticket (length b.state.order)) b).state ∙ closed)
+    (subst (λ (n : ℕ). IsPart (filter (is_request_of n) (cancels_one r b).state.locks.requests) (reverse rs)) its.0 (still_last r (reverse rs) b part_now))
+    (λ o. part_tickets (reverse rs) (reverse rs ++ r ∷ []) (part_front (reverse rs) (r ∷ [])) (one_now o)))
+  where
+    turned : reverse (r ∷ rs) ≡ reverse rs ++ r ∷ []
+    turned = reverse-append (r ∷ []) rs
+
+    one_now : has_one_ticket t.old.locks.requests ≡ true → has_one_ticket (reverse rs ++ r ∷ []) ≡ true
+    one_now o = sym (ap has_one_ticket turned) ∙ one o
+
+    part_now : IsPart (filter (is_request_of r.who.session) b.state.locks.requests) (reverse rs ++ r ∷ [])
+    part_now =
+        subst (λ (n : ℕ). IsPart (filter (is_request_of n) b.state.locks.requests) (reverse rs ++ r ∷ [])) (sym its.0)
+        (subst (IsPart (filter (is_request_of s) b.state.locks.requests)) turned part)
 
 -- those of the session, the latest first
 requests_of : (s : ℕ) (rs : List Request) → AllByRecursion (λ r. r.who.session ≡ s) (reverse (filter (is_request_of s) rs))
@@ -160,6 +183,10 @@ pub close_conns : (s : ℕ) (cause : ShutCause) (b : Sofar) → (with_close s ca
 close_conns s cause b =
     ap (λ (d : DataState). d.conns) (appends_state (Closed s) (becomes (silenced s) (writes (act.Shut b.state.server s cause) b))).state
 
+close_locks : (s : ℕ) (cause : ShutCause) (b : Sofar) → (with_close s cause b).state.locks ≡ b.state.locks
+close_locks s cause b =
+    ap (λ (d : DataState). d.locks) (appends_state (Closed s) (becomes (silenced s) (writes (act.Shut b.state.server s cause) b))).state
+
 -- the requests of a session that is closed
 abbrev pub requests_at : ℕ → ShutCause → Sofar → List Request
 requests_at s cause b = reverse (filter (is_request_of s) (with_close s cause b).state.locks.requests)
@@ -175,6 +202,22 @@ closed_order s cause b =
 pub closed_conns : (s : ℕ) (cause : ShutCause) (b : Sofar) → (closed_at s cause b).state.conns ≡ b.state.conns
 closed_conns s cause b =
     ap (λ (d : DataState). d.conns) (only_cancels (requests_at s cause b) (with_close s cause b)).state ∙ close_conns s cause b
+
+turned_locks : (cause : ShutCause) (o : Option ℕ) (s at : ℕ) (b : Sofar) → (turns_away cause o s at b).state.locks ≡ b.state.locks
+turned_locks (Trouble time) None s at b = refl
+turned_locks (Trouble time) (Some conn) s at b = refl
+turned_locks Replaced None s at b = refl
+turned_locks Replaced (Some conn) s at b = refl
+turned_locks (Round time) None s at b = refl
+turned_locks (Round time) (Some conn) s at b = refl
+
+-- what is left of the requests where a session is closed
+pub closes_part : (s : ℕ) (cause : ShutCause) (b : Sofar) → IsPart (closes s cause b).state.locks.requests b.state.locks.requests
+closes_part s cause b =
+    subst (λ (l : Locks). IsPart l.requests b.state.locks.requests)
+    (sym (turned_locks cause (conn_of b.state s) s (length b.state.order + 1) (closed_at s cause b)))
+    (subst (λ (l : Locks). IsPart (closed_at s cause b).state.locks.requests l.requests) (close_locks s cause b)
+    (cancels_part (requests_at s cause b) (with_close s cause b)))
 
 module _ (t : Coming) (s app : ℕ) (b : Sofar) where
   -- the connection of the session awaits its Reset
@@ -201,21 +244,32 @@ module _ (t : Coming) (s app : ℕ) (b : Sofar) where
   turned_pieces (Round time) = reset_pieces (Round time) (conn_of b.state s) refl
 
   -- A session is closed, and its end is told.
-  pub closes_pieces : (cause : ShutCause) → ClosesMay t s app cause b → Pieced t b (becomes (with_event app t.now (event_of cause)) (closes s cause b))
-  closes_pieces cause may =
+  pub closes_pieces : (cause : ShutCause) → ClosesMay t s app cause b → IsPart b.state.locks.requests t.old.locks.requests
+      → Pieced t b (becomes (with_event app t.now (event_of cause)) (closes s cause b))
+  closes_pieces cause may from =
       one_then t (Closes s app cause) b _ may
       (and_then t (shuts s app cause t.now b) (cancels (requests_at s cause b) (shuts s app cause t.now b)) _
       (cancel_pieces t s (requests_at s cause b) (shuts s app cause t.now b) (requests_of s (with_close s cause b).state.locks.requests)
       (ap (λ (es : List Entry). live es s) ((parts_pass cause (conn_of b.state s) s).order (with_close s cause b) ∙ close_order s cause b)
-      ∙ closed_dead b.state.order s))
+      ∙ closed_dead b.state.order s)
+      (subst (IsPart (filter (is_request_of s) (shuts s app cause t.now b).state.locks.requests)) (sym (reverse-reverse asked))
+      (subst (λ (l : Locks). IsPart (filter (is_request_of s) l.requests) asked)
+      (sym ((parts_pass cause (conn_of b.state s) s).locks (with_close s cause b))) (part_same asked)))
+      (λ one. ap has_one_ticket (reverse-reverse asked)
+      ∙ part_tickets asked t.old.locks.requests
+      (part_then asked (with_close s cause b).state.locks.requests t.old.locks.requests (part_left (is_request_of s) (with_close s cause b).state.locks.requests)
+      (subst (λ (l : Locks). IsPart l.requests t.old.locks.requests) (sym (close_locks s cause b)) from)) one))
       (subst (λ (x : Sofar). Pieced t x (becomes (with_event app t.now (event_of cause)) (closes s cause b)))
       (cancels_pass (λ x. becomes (with_event app t.now (event_of cause)) (parts_from cause (conn_of b.state s) s x))
       (passes_then (parts_from cause (conn_of b.state s) s) (becomes (with_event app t.now (event_of cause))) (parts_pass cause (conn_of b.state s) s)
       (event_passes app t.now cause))
       (requests_at s cause b) (with_close s cause b))
       (turned_pieces cause)))
+    where
+      asked : List Request
+      asked = filter (is_request_of s) (with_close s cause b).state.locks.requests
 
-is_some_map : {X Y : Type 0} (f : X → Y) (o : Option X) → is_some (option_map f o) ≡ is_some o
+pub is_some_map : {X Y : Type 0} (f : X → Y) (o : Option X) → is_some (option_map f o) ≡ is_some o
 is_some_map f None = refl
 is_some_map f (Some x) = refl
 

@@ -13,19 +13,22 @@ use Rattle.ecp_messages.specs.declared.up.Up.{Up}
 use Rattle.ecp_messages.specs.declared.up.Up.TheVariants.{Hello, Recover}
 use Rattle.data_rules.specs.declared.rows.Conn.{Conn}
 use Rattle.data_rules.specs.declared.rows.Role.TheVariants.{New, Bound}
+use Rattle.data_rules.specs.DataState.{DataState}
 use Rattle.data_rules.specs.Puts.{Sofar, becomes, conn_of, number_of}
 use Rattle.data_rules.specs.Conns.{is_conn, role_in, role_of, drops_conn}
 use Rattle.data_rules.specs.Callers.{dial_of, with_dial, replaces, is_let_in, calls, goes_on, resumes, comes_again, TakesHello, TakesRecover, TakesResume, TakesReturn, TakesGone}
 use Rattle.cluster_invariant.specs.Words.{all_differ}
 use Rattle.cluster_invariant.proofs.ConnRoles.{dropped, dropped_conns, dropped_order, dropped_round, new_stays}
+use Rattle.cluster_invariant.proofs.Parts.{IsPart, part_same}
 use Rattle.cluster_invariant.proofs.PiecesOfCloses.{role_given, closed_at, closed_order, closed_conns, closed_round, closes_pieces}
 use Rattle.cluster_invariant.proofs.PieceKinds.{Dials, Waits, Opens, Resumes, GoesOn, ComesAgain, AwaitsReset}
-use Rattle.cluster_invariant.proofs.PieceMay.{Coming, begins, Came, RecoverCame}
+use Rattle.cluster_invariant.proofs.PieceMay.{Coming, begins, Came, Firstly, RecoverCame}
 use Rattle.cluster_invariant.proofs.Pieces.{Pieced, one_piece, one_then, then_one, and_then, by_after}
 
 -- a first frame comes on a new connection, and nothing was made yet
 pub record FirstCame (t : Coming) (conn : ℕ) (m : Up) (b : Sofar) : Type 0 where
   pub first : b ≡ begins t
+  pub state : b.state ≡ t.old
   pub came : Came t conn m
   pub is_new : role_of b.state conn ≡ Some New
   pub differ : all_differ (map number_of b.state.conns) ≡ true
@@ -65,15 +68,15 @@ let_in t conn app s b differ new has = record {
 }
 
 replaced_pieces : (t : Coming) (conn app dial : ℕ) (b : Sofar) → Came t conn (Hello app dial) → all_differ (map number_of b.state.conns) ≡ true
-    → role_of b.state conn ≡ Some New
+    → role_of b.state conn ≡ Some New → IsPart b.state.locks.requests t.old.locks.requests
     → Pieced t b (is_let_in (is_some b.state.round) app conn t.now (replaces (live_session b.state.order app) app t.now b))
-replaced_pieces t conn app dial b came differ new = go (live_session b.state.order app) refl
+replaced_pieces t conn app dial b came differ new from = go (live_session b.state.order app) refl
   where
     go : (o : Option ℕ) → live_session b.state.order app ≡ o → Pieced t b (is_let_in (is_some b.state.round) app conn t.now (replaces o app t.now b))
     go None free = let_in_pieces t conn app dial came (is_some b.state.round) b (record { is_new = new; free = free; round = refl })
     go (Some s) has =
         and_then t b (replaces (Some s) app t.now b) _
-        (closes_pieces t s app b shuts.Replaced (record { has = has; why = record { conn = conn; dial = dial; came = came; is_new = new } }))
+        (closes_pieces t s app b shuts.Replaced (record { has = has; why = record { conn = conn; dial = dial; came = came; is_new = new } }) from)
         (let_in_pieces t conn app dial came (is_some b.state.round) (replaces (Some s) app t.now b) (let_in t conn app s b differ new has))
 
 -- A Hello whose dial is no less than those before it.
@@ -89,7 +92,8 @@ hello_pieces t conn app dial b it c takes =
       is_new = it.is_new;
       later = takes.later;
     })
-    (replaced_pieces t conn app dial (becomes (with_dial app dial) b) it.came it.differ it.is_new))
+    (replaced_pieces t conn app dial (becomes (with_dial app dial) b) it.came it.differ it.is_new
+    (subst (λ (d : DataState). IsPart b.state.locks.requests d.locks.requests) it.state (part_same b.state.locks.requests))))
 
 -- a Recover
 
@@ -106,12 +110,33 @@ dial_pieces t conn app s epoch taken dial b it later =
       later = later;
     })
 
+-- it is the first frame of its connection
+firstly : (t : Coming) (conn app dial : ℕ) (m : Up) (b c : Sofar) → FirstCame t conn m b → dial_of b.state app ≤ dial → c.state.order ≡ b.state.order
+    → Firstly t conn app dial c
+firstly t conn app dial m b c it later same = record {
+  was_new = sym (ap (λ (d : DataState). role_of d conn) it.state) ∙ it.is_new;
+  later = subst (λ (d : DataState). dial_of d app ≤ dial) it.state later;
+  same = same ∙ ap (λ (d : DataState). d.order) it.state;
+}
+
 -- the session has its connection
 resumed_pieces : (t : Coming) (conn app s epoch taken dial : ℕ) (b : Sofar) → FirstCame t conn (Recover app s epoch taken dial) b → dial_of b.state app ≤ dial
     → app_in b.state.order s ≡ Some app → live b.state.order s ≡ true → epoch ≤ last_epoch b.state.order → Pieced t b (resumes app s dial conn t.now b)
 resumed_pieces t conn app s epoch taken dial b it later its is_live begun =
     then_one t (Resumes app s conn) b (becomes (with_dial app dial) b) (dial_pieces t conn app s epoch taken dial b it later)
-    (record { came = record { epoch = epoch; taken = taken; dial = dial; came = it.came; its = its }; is_new = it.is_new; is_live = is_live; begun = begun })
+    (record {
+      came = record {
+        epoch = epoch;
+        taken = taken;
+        dial = dial;
+        came = it.came;
+        its = its;
+        firstly = firstly t conn app dial (Recover app s epoch taken dial) b (becomes (with_dial app dial) b) it later refl;
+      };
+      is_new = it.is_new;
+      is_live = is_live;
+      begun = begun;
+    })
 
 there : (o : Option Conn) → option_map role_in o ≡ Some New → is_some o ≡ true
 there None new = absurd cc
@@ -137,8 +162,15 @@ module _ (t : Coming) (conn app s epoch taken dial : ℕ) (b : Sofar) (it : Firs
   bound : role_of after.state conn ≡ Some (Bound s)
   bound = resumed_role t conn app s dial b it.differ it.is_new
 
-  abbrev came_after : app_in b.state.order s ≡ Some app → RecoverCame t conn app s after
-  came_after its = record { epoch = epoch; taken = taken; dial = dial; came = it.came; its = ap (λ (es : List Entry). app_in es s) same_order ∙ its }
+  abbrev came_after : app_in b.state.order s ≡ Some app → dial_of b.state app ≤ dial → RecoverCame t conn app s after
+  came_after its later = record {
+    epoch = epoch;
+    taken = taken;
+    dial = dial;
+    came = it.came;
+    its = ap (λ (es : List Entry). app_in es s) same_order ∙ its;
+    firstly = firstly t conn app dial (Recover app s epoch taken dial) b after it later same_order;
+  }
 
   resume_pieces : TakesResume b conn t.now app s epoch taken dial c → Pieced t b c
   resume_pieces takes =
@@ -147,7 +179,7 @@ module _ (t : Coming) (conn app s epoch taken dial : ℕ) (b : Sofar) (it : Firs
       (resumed_pieces t conn app s epoch taken dial b it takes.later takes.its takes.is_live (le_of_eq takes.same))
       (record {
         app = app;
-        came = came_after takes.its;
+        came = came_after takes.its takes.later;
         counted = refl;
         bound = bound;
         is_live = ap (λ (es : List Entry). live es s) same_order ∙ takes.is_live;
@@ -161,7 +193,7 @@ module _ (t : Coming) (conn app s epoch taken dial : ℕ) (b : Sofar) (it : Firs
       (resumed_pieces t conn app s epoch taken dial b it takes.later takes.its takes.is_live (le_of_lt takes.older))
       (record {
         app = app;
-        came = came_after takes.its;
+        came = came_after takes.its takes.later;
         bound = bound;
         is_live = ap (λ (es : List Entry). live es s) same_order ∙ takes.is_live;
         older = subst (λ (es : List Entry). epoch < last_epoch es) (sym same_order) takes.older;
@@ -175,7 +207,14 @@ module _ (t : Coming) (conn app s epoch taken dial : ℕ) (b : Sofar) (it : Firs
       (dial_pieces t conn app s epoch taken dial b it takes.later)
       (record {
         app = app;
-        came = record { epoch = epoch; taken = taken; dial = dial; came = it.came; its = takes.its };
+        came = record {
+          epoch = epoch;
+          taken = taken;
+          dial = dial;
+          came = it.came;
+          its = takes.its;
+          firstly = firstly t conn app dial (Recover app s epoch taken dial) b (becomes (with_dial app dial) b) it takes.later refl;
+        };
         is_new = it.is_new;
         is_closed = takes.is_closed;
         begun = takes.begun;

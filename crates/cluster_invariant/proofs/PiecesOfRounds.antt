@@ -9,6 +9,7 @@ use Rattle.link_states.specs.declared.link_event.LinkEvent.TheVariants.{RoundOve
 use Rattle.ecp_messages.specs.declared.down.Down.TheVariants.{Normal}
 use Rattle.ecp_messages.specs.declared.front.Front.{Front}
 use Rattle.data_rules.specs.DataState.{DataState}
+use Rattle.recovery_round.specs.RoundWords.{Round}
 use Rattle.data_rules.specs.declared.rows.Caller.{Caller}
 use Rattle.data_rules.specs.declared.rows.LiveEnd.{LiveEnd}
 use Rattle.data_rules.specs.declared.rows.Says.TheVariants.{NewWelcome}
@@ -18,7 +19,7 @@ use Rattle.data_rules.specs.Opening.{bound, opens, opens_all, breaks_unless, com
 use Rattle.cluster_invariant.proofs.Aside.{IsAside, aside_then, aside_none, puts_aside, head_same, appends_aside}
 use Rattle.cluster_invariant.proofs.PutLaws.{OnlyWindows, only_none, only_then, only_puts, appends_state}
 use Rattle.cluster_invariant.proofs.PieceKinds.{PutsNormal, OpensNext, RoundEnds, next_caller, end_back, ends_back, round_over}
-use Rattle.cluster_invariant.proofs.PieceMay.{Coming}
+use Rattle.cluster_invariant.proofs.PieceMay.{Coming, RoundWas}
 use Rattle.cluster_invariant.proofs.Pieces.{Pieced, no_piece, one_then, and_then, by_after}
 
 -- the ends
@@ -137,13 +138,16 @@ opens_round app conn now b =
 
 -- the pieces
 
-normal_pieces : (t : Coming) (xs : List LiveEnd) (b : Sofar) → b.state.round ≡ None
+normal_pieces : (t : Coming) (xs : List LiveEnd) (b : Sofar) → b.state.round ≡ None → is_some t.old.round ≡ true
+    → ((app session : ℕ) → live_session b.state.order app ≡ Some session → live_session t.old.order app ≡ Some session)
     → AllByRecursion (λ x. live_session b.state.order x.app ≡ Some x.session) xs → Pieced t b (normals xs b)
-normal_pieces t [] b over has = no_piece t b
-normal_pieces t (x ∷ xs) b over has =
-    one_then t (PutsNormal x.app x.session) b _ (record { over = over; has = has.0 })
+normal_pieces t [] b over in_round was has = no_piece t b
+normal_pieces t (x ∷ xs) b over in_round was has =
+    one_then t (PutsNormal x.app x.session) b _ (record { over = over; has = has.0; in_round = in_round; was = was x.app x.session has.0 })
     (normal_pieces t xs (puts x.session (Normal (head_of b.state x.session)) b)
-    (ap (λ (d : DataState). d.round) (only_puts x.session (Normal (head_of b.state x.session)) b).state ∙ over)
+    (ap (λ (d : DataState). d.round) (only_puts x.session (Normal (head_of b.state x.session)) b).state ∙ over) in_round
+    (subst (λ (es : List Entry). (app session : ℕ) → live_session es app ≡ Some session → live_session t.old.order app ≡ Some session)
+    (sym (ap (λ (d : DataState). d.order) (only_puts x.session (Normal (head_of b.state x.session)) b).state)) was)
     (subst (λ (es : List Entry). AllByRecursion (λ y. live_session es y.app ≡ Some y.session) xs)
     (sym (ap (λ (d : DataState). d.order) (only_puts x.session (Normal (head_of b.state x.session)) b).state)) has.1))
 
@@ -185,12 +189,14 @@ ends_told xs now b =
     ∙ ap (normals xs) (ends_callers [] xs now (back_written b))
     ∙ normals_callers [] xs (ends_back xs now (back_written b))
 
-round_pieces : (t : Coming) (b : Sofar) → is_round_over b.state b.state.round ≡ true → Pieced t b (round_ends b.state.callers t.now b)
-round_pieces t b over =
+round_pieces : (t : Coming) (b : Sofar) → RoundWas t b.state → is_round_over b.state b.state.round ≡ true → Pieced t b (round_ends b.state.callers t.now b)
+round_pieces t b was over =
     one_then t RoundEnds b _ over
     (by_after t (round_over t.now b) _ _ (ap (opens_all b.state.callers t.now) (ends_told ends t.now b))
     (and_then t (round_over t.now b) (normals ends (round_over t.now b)) _
-    (normal_pieces t ends (round_over t.now b) (aside.round (back_written b))
+    (normal_pieces t ends (round_over t.now b) (aside.round (back_written b)) (was.in_round is_on)
+    (subst (λ (es : List Entry). (app session : ℕ) → live_session es app ≡ Some session → live_session t.old.order app ≡ Some session)
+    (sym (aside.order (back_written b))) (was.has is_on))
     (subst (λ (es : List Entry). AllByRecursion (λ x. live_session es x.app ≡ Some x.session) ends) (sym (aside.order (back_written b)))
     (ends_have all_apps b.state.order)))
     (open_pieces t b.state.callers (normals ends (round_over t.now b))
@@ -204,10 +210,17 @@ round_pieces t b over =
     aside : IsAside (ends_back ends t.now)
     aside = ends_aside ends t.now
 
+    is_on : is_some b.state.round ≡ true
+    is_on = on b.state.round over
+      where
+        on : (o : Option Round) → is_round_over b.state o ≡ true → is_some o ≡ true
+        on None is = is
+        on (Some r) is = refl
+
 -- A round that is over ends.
-pub rounds_pieces : (t : Coming) (b : Sofar) → Pieced t b (rounds t.now b)
-rounds_pieces t b = go (is_round_over b.state b.state.round) refl
+pub rounds_pieces : (t : Coming) (b : Sofar) → RoundWas t b.state → Pieced t b (rounds t.now b)
+rounds_pieces t b was = go (is_round_over b.state b.state.round) refl
   where
     go : (over : Bool) → is_round_over b.state b.state.round ≡ over → Pieced t b (round_ends_if over t.now b)
-    go true over = round_pieces t b over
+    go true over = round_pieces t b was over
     go false over = no_piece t b

@@ -35,13 +35,15 @@ use Rattle.data_rules.specs.Step.{FrameStep, DataMay, DataStep, made, saved}
 use Rattle.cluster_invariant.specs.Words.{all_differ}
 use Rattle.cluster_invariant.proofs.AllLists.{all_follow, all_both, all_passed, all_filtered}
 use Rattle.cluster_invariant.proofs.PutLaws.{only_locks, only_puts, only_flushed}
+use Rattle.cluster_invariant.proofs.Parts.{part_same}
+use Rattle.cluster_invariant.proofs.RoundBefore.{round_same, round_before}
 use Rattle.cluster_invariant.proofs.PiecesOfReplies.{flush_pieces, bares_role_pieces}
 use Rattle.cluster_invariant.proofs.PiecesOfRounds.{rounds_pieces}
 use Rattle.cluster_invariant.proofs.PiecesOfMessages.{fresh_pieces}
 use Rattle.cluster_invariant.proofs.PiecesOfFirsts.{hello_pieces, recover_pieces}
 use Rattle.cluster_invariant.proofs.PiecesOfTicks.{tick_pieces}
 use Rattle.cluster_invariant.proofs.PieceKinds.{Ending, There, Here, Accepts, Forgets, Breaks, Acknowledges, PutsAck, Locks, Releases, cuts_if}
-use Rattle.cluster_invariant.proofs.PieceMay.{Coming, EndsBy, OnBound, begins, synced_to}
+use Rattle.cluster_invariant.proofs.PieceMay.{Coming, EndsBy, OnBound, RoundWas, begins, synced_to}
 use Rattle.cluster_invariant.proofs.Pieces.{Pieced, no_piece, one_piece, one_then, and_then, by_after}
 
 -- a connection goes
@@ -74,6 +76,7 @@ gone_pieces t ending conn b first ends = go (role_of b.state conn) refl
 -- what a frame comes to, on a data server whose connections have different numbers
 record FrameAt (t : Coming) (conn : ℕ) (f : UpFrame) (b : Sofar) : Type 0 where
   first : b ≡ begins t
+  state : b.state ≡ t.old
   came : t.input ≡ data_in.Frame conn f
   differ : all_differ (map number_of b.state.conns) ≡ true
 
@@ -87,11 +90,11 @@ module _ (t : Coming) (conn : ℕ) (f : UpFrame) (b : Sofar) (at : FrameAt t con
   first_pieces : role_of b.state conn ≡ Some New → (m : Up) → f.message ≡ m → TakesFirst m b conn t.now c → Pieced t b c
   first_pieces new (up.Hello app dial) says (inl takes) =
       hello_pieces t conn app dial b
-      (record { first = at.first; came = record { up = f; its = at.came; says = says }; is_new = new; differ = at.differ }) c takes
+      (record { first = at.first; state = at.state; came = record { up = f; its = at.came; says = says }; is_new = new; differ = at.differ }) c takes
   first_pieces new (up.Hello app dial) says (inr ends) = end_pieces ends.ended
   first_pieces new (up.Recover app s epoch taken dial) says (inl takes) =
       recover_pieces t conn app s epoch taken dial b
-      (record { first = at.first; came = record { up = f; its = at.came; says = says }; is_new = new; differ = at.differ }) c takes
+      (record { first = at.first; state = at.state; came = record { up = f; its = at.came; says = says }; is_new = new; differ = at.differ }) c takes
   first_pieces new (up.Recover app s epoch taken dial) says (inr ends) = end_pieces ends.ended
   first_pieces new (up.Update w job txn op) says ends = end_pieces ends
   first_pieces new (up.Add w job key amount) says ends = end_pieces ends
@@ -141,16 +144,21 @@ module _ (t : Coming) (conn : ℕ) (f : UpFrame) (b : Sofar) (at : FrameAt t con
   role_pieces (Some (Closing s)) role takes = closing_pieces (kind_of f.message) takes
 
 -- what follows each frame
-settled_pieces : (t : Coming) (conn : ℕ) (b : Sofar) → Pieced t b (settled conn t.now b)
-settled_pieces t conn b =
-    and_then t b (rounds t.now b) _ (rounds_pieces t b)
+settled_pieces : (t : Coming) (conn : ℕ) (b : Sofar) → RoundWas t b.state → Pieced t b (settled conn t.now b)
+settled_pieces t conn b before =
+    and_then t b (rounds t.now b) _ (rounds_pieces t b before)
     (and_then t (rounds t.now b) (flushed (rounds t.now b)) _ (flush_pieces t (rounds t.now b))
     (bares_role_pieces t (role_of (flushed (rounds t.now b)).state conn) (flushed (rounds t.now b))))
 
 frame_pieces : (t : Coming) (conn : ℕ) (f : UpFrame) (b : Sofar) → FrameAt t conn f b → (c : Sofar) → FrameStep b t.now conn f c → Pieced t b c
 frame_pieces t conn f b at c steps =
     by_after t b c (settled conn t.now steps.taken) steps.after
-    (and_then t b steps.taken _ (role_pieces t conn f b at steps.taken (role_of b.state conn) refl steps.takes) (settled_pieces t conn steps.taken))
+    (go (role_pieces t conn f b at steps.taken (role_of b.state conn) refl steps.takes))
+  where
+    go : Pieced t b steps.taken → Pieced t b (settled conn t.now steps.taken)
+    go taken =
+        and_then t b steps.taken _ taken
+        (settled_pieces t conn steps.taken (round_before t b steps.taken taken (subst (RoundWas t) (sym at.state) (round_same t t.old refl refl))))
 
 -- saves
 
@@ -211,15 +219,13 @@ synced_state upto b = ap (λ (d : DataState). record d { synced = upto }) (go (n
 saved_pieces : (old : DataState) (now upto : ℕ)
     → Pieced (record { old = old; now = now; input = data_in.Saved upto }) (synced_to upto (begun old)) (saved upto now (begun old))
 saved_pieces old now upto =
-    and_then t b (releases_all closed b) _ (releases_pieces t upto refl closed b (closed_there (part_saved old upto)))
+    go (and_then t b (releases_all closed b) _ (releases_pieces t upto refl closed b (closed_there (part_saved old upto)))
     (and_then t (releases_all closed b) (flushed (releases_all closed b)) _ (flush_pieces t (releases_all closed b))
-    (and_then t (flushed (releases_all closed b)) (acks acked (flushed (releases_all closed b))) _
     (acks_pieces t upto refl acked (flushed (releases_all closed b))
     (subst (λ (es : List Entry). AllByRecursion (λ s. (live es s ≡ true) × (has_item_of (part_saved old upto) s ≡ true)) acked)
     (sym (ap (λ (d : DataState). d.order) (only_flushed (releases_all closed b)).state ∙ releases_order closed b
     ∙ ap (λ (d : DataState). d.order) (synced_state upto (begun old))))
-    (savers_live old.order (part_saved old upto))))
-    (rounds_pieces t (acks acked (flushed (releases_all closed b))))))
+    (savers_live old.order (part_saved old upto))))))
   where
     t : Coming
     t = record { old = old; now = now; input = data_in.Saved upto }
@@ -232,6 +238,13 @@ saved_pieces old now upto =
 
     acked : List ℕ
     acked = savers old.order (part_saved old upto)
+
+    go : Pieced t b (acks acked (flushed (releases_all closed b))) → Pieced t b (rounds now (acks acked (flushed (releases_all closed b))))
+    go first =
+        and_then t b (acks acked (flushed (releases_all closed b))) _ first
+        (rounds_pieces t (acks acked (flushed (releases_all closed b)))
+        (round_before t b (acks acked (flushed (releases_all closed b))) first
+        (subst (RoundWas t) (sym (synced_state upto (begun old))) (round_same t (record old { synced = upto }) refl refl))))
 
 -- all inputs
 
@@ -246,7 +259,7 @@ pub step_pieces : (old : DataState) (now : ℕ) (input : DataIn) (outs : DataOut
     → Pieced (record { old = old; now = now; input = input }) (begins (record { old = old; now = now; input = input })) (made new outs)
 step_pieces old now (data_in.Frame conn f) outs new from may steps =
     frame_pieces (record { old = old; now = now; input = data_in.Frame conn f }) conn f (begun old)
-    (record { first = refl; came = refl; differ = from.differ }) (made new outs) steps
+    (record { first = refl; state = refl; came = refl; differ = from.differ }) (made new outs) steps
 step_pieces old now (data_in.Connected conn) outs new from may steps =
     by_after (record { old = old; now = now; input = data_in.Connected conn }) (begun old) (made new outs) _ steps
     (one_piece (record { old = old; now = now; input = data_in.Connected conn }) (Accepts conn) (begun old)
@@ -256,6 +269,6 @@ step_pieces old now (data_in.Broken conn) outs new from may steps =
     (gone_pieces (record { old = old; now = now; input = data_in.Broken conn }) There conn (begun old) refl refl)
 step_pieces old now data_in.Tick outs new from may steps =
     by_after (record { old = old; now = now; input = data_in.Tick }) (begun old) (made new outs) _ steps
-    (tick_pieces (record { old = old; now = now; input = data_in.Tick }) refl (begun old) from.ordered)
+    (tick_pieces (record { old = old; now = now; input = data_in.Tick }) refl (begun old) from.ordered (part_same old.locks.requests))
 step_pieces old now (data_in.Saved upto) outs new from may steps =
     by_after (record { old = old; now = now; input = data_in.Saved upto }) (synced_to upto (begun old)) (made new outs) _ steps (saved_pieces old now upto)

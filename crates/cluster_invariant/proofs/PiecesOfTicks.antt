@@ -24,7 +24,8 @@ use Rattle.data_rules.specs.Opening.{with_end, ends_among, live_ends}
 use Rattle.data_rules.specs.Messages.{is_awaited}
 use Rattle.data_rules.specs.Saving.{cause_of, is_free, hears_tick, closes_late, ticks_end, ticks_one, ticks, ticks_all}
 use Rattle.cluster_invariant.proofs.AllLists.{all_follow, all_both}
-use Rattle.cluster_invariant.proofs.PiecesOfCloses.{closes_pieces, closes_order}
+use Rattle.cluster_invariant.proofs.Parts.{IsPart, part_same, part_then}
+use Rattle.cluster_invariant.proofs.PiecesOfCloses.{closes_pieces, closes_order, closes_part}
 use Rattle.cluster_invariant.proofs.PiecesOfRounds.{ends_have}
 use Rattle.cluster_invariant.proofs.PieceKinds.{Ticks}
 use Rattle.cluster_invariant.proofs.PieceMay.{Coming}
@@ -52,13 +53,16 @@ has_still es x y other has =
 -- an end ticks, and others keep their sessions
 record TickedOne (t : Coming) (x : LiveEnd) (b c : Sofar) : Type 0 where
   by : Pieced t b c
+  part : IsPart c.state.locks.requests b.state.locks.requests
   keeps : (y : LiveEnd) → IsOther x y → Has b.state.order y → Has c.state.order y
 
-module _ (t : Coming) (tick : t.input ≡ data_in.Tick) (x : LiveEnd) (b : Sofar) (has : Has b.state.order x) where
+module _ (t : Coming) (tick : t.input ≡ data_in.Tick) (x : LiveEnd) (b : Sofar) (has : Has b.state.order x)
+    (from : IsPart b.state.locks.requests t.old.locks.requests) where
   -- the end outlasts it
   outlasts : data_next b.state.times t.now (link_of b.state x.app) Ticked ≡ link_of b.state x.app → TickedOne t x b (becomes (with_event x.app t.now Ticked) b)
   outlasts same = record {
     by = one_piece t (Ticks x.app x.session) b (record { came = tick; has = has; same = same });
+    part = part_same b.state.locks.requests;
     keeps = λ y other its. its;
   }
 
@@ -75,7 +79,8 @@ module _ (t : Coming) (tick : t.input ≡ data_in.Tick) (x : LiveEnd) (b : Sofar
           free = ap (λ (l : DataLink). data_next b.state.times t.now l Ticked) its ∙ ap (λ (y : Bool). if y then Free else Trouble broke) late;
           its_cause = sym (ap (λ (l : DataLink). cause_of l t.now) its);
         };
-      });
+      }) from;
+      part = closes_part x.session (shuts.Trouble t.now) b;
       keeps = λ y other its. subst (λ (es : List Entry). Has es y) (sym (closes_order x.session (shuts.Trouble t.now) b))
           (has_still b.state.order x y other its);
     }
@@ -94,7 +99,8 @@ module _ (t : Coming) (tick : t.input ≡ data_in.Tick) (x : LiveEnd) (b : Sofar
           free = ap (λ (l : DataLink). data_next b.state.times t.now l Ticked) its ∙ ap (λ (y : Bool). if y then Free else Recovering due) late;
           its_cause = sym (ap (λ (l : DataLink). cause_of l t.now) its);
         };
-      });
+      }) from;
+      part = closes_part x.session (shuts.Round t.now) b;
       keeps = λ y other its. subst (λ (es : List Entry). Has es y) (sym (closes_order x.session (shuts.Round t.now) b))
           (has_still b.state.order x y other its);
     }
@@ -112,20 +118,23 @@ module _ (t : Coming) (tick : t.input ≡ data_in.Tick) (x : LiveEnd) (b : Sofar
   ticks_end_one : (hears : Bool) → hears_tick (link_of b.state x.app) (is_awaited b.state x.session) ≡ hears
       → TickedOne t x b (ticks_end hears x.app x.session t.now b)
   ticks_end_one true hears = by_link hears (link_of b.state x.app) refl
-  ticks_end_one false deaf = record { by = no_piece t b; keeps = λ y other its. its }
+  ticks_end_one false deaf = record { by = no_piece t b; part = part_same b.state.locks.requests; keeps = λ y other its. its }
 
 ticks_pieces : (t : Coming) → t.input ≡ data_in.Tick → (xs : List LiveEnd) (b : Sofar) → AreApart xs → AllByRecursion (Has b.state.order) xs
-    → Pieced t b (ticks xs t.now b)
-ticks_pieces t tick [] b apart has = no_piece t b
-ticks_pieces t tick (x ∷ xs) b apart has =
-    go (ticks_one x t.now b) (ticks_end_one t tick x b has.0 (hears_tick (link_of b.state x.app) (is_awaited b.state x.session)) refl)
+    → IsPart b.state.locks.requests t.old.locks.requests → Pieced t b (ticks xs t.now b)
+ticks_pieces t tick [] b apart has from = no_piece t b
+ticks_pieces t tick (x ∷ xs) b apart has from =
+    go (ticks_one x t.now b) (ticks_end_one t tick x b has.0 from (hears_tick (link_of b.state x.app) (is_awaited b.state x.session)) refl)
     (ticks_pieces t tick xs (ticks_one x t.now b))
   where
-    go : (c : Sofar) → TickedOne t x b c → (AreApart xs → AllByRecursion (Has c.state.order) xs → Pieced t c (ticks xs t.now c)) → Pieced t b (ticks xs t.now c)
+    go : (c : Sofar) → TickedOne t x b c
+        → (AreApart xs → AllByRecursion (Has c.state.order) xs → IsPart c.state.locks.requests t.old.locks.requests → Pieced t c (ticks xs t.now c))
+        → Pieced t b (ticks xs t.now c)
     go c first more =
         and_then t b c (ticks xs t.now c) first.by
         (more apart.1 (all_follow (λ y. IsOther x y × Has b.state.order y) (Has c.state.order) (λ y both. first.keeps y both.0 both.1) xs
-        (all_both (IsOther x) (Has b.state.order) xs apart.0 has.1)))
+        (all_both (IsOther x) (Has b.state.order) xs apart.0 has.1))
+        (part_then c.state.locks.requests b.state.locks.requests t.old.locks.requests first.part from))
 
 -- the ends are told apart by their application servers
 high_ends : (es : List Entry) (apps : List ℕ) (n : ℕ) → AllByRecursion (λ a. n ≤ a) apps → AllByRecursion (λ (x : LiveEnd). n ≤ x.app) (ends_among apps es)
@@ -165,6 +174,8 @@ ends_apart es ordered a (suc n) = go (live_session es a) refl (ends_apart es ord
     )
 
 -- A tick at all that have a live session.
-pub tick_pieces : (t : Coming) → t.input ≡ data_in.Tick → (b : Sofar) → IsOrdered b.state.order → Pieced t b (ticks_all t.now b)
-tick_pieces t tick b ordered =
+pub tick_pieces : (t : Coming) → t.input ≡ data_in.Tick → (b : Sofar) → IsOrdered b.state.order → IsPart b.state.locks.requests t.old.locks.requests
+    → Pieced t b (ticks_all t.now b)
+tick_pieces t tick b ordered from =
     ticks_pieces t tick (live_ends b.state.order) b (ends_apart b.state.order ordered 0 APP_LIMIT) (ends_have (range_with_len 0 APP_LIMIT) b.state.order)
+    from

@@ -89,6 +89,8 @@ pub record NodeWindows (x : Site) (n : DataState) : Type 0 where
   -- a live session's is as its lane is
   pub each : (session : ℕ) → live n.order session ≡ true
       → WindowIs (window_of n session) (x.lane_at session x.past).down (x.lane_at session x.past).down_taken (x.lane_at session x.past).up_taken
+  -- one without a window didn't learn of this order
+  pub none : (session : ℕ) → live n.order session ≡ true → list_any (is_window_of session) n.windows ≡ false → (x.lane_at session x.past).began ≡ None
 
 -- upwards
 

@@ -2,7 +2,7 @@
 use Rattle.std.specs.Prelude.{◌≡◌, ⊤, ℕ, Bool, true, false, ◌&&◌, not, List, [], ◌∷◌, ◌++◌, drop, None}
 use Rattle.std.specs.List.{list_any, AllByRecursion}
 use Rattle.plain_orders.specs.Entries.{live}
-use Rattle.lock_table.specs.LockWords.{waits, is_same_who}
+use Rattle.lock_table.specs.LockWords.{waits, is_same_who, is_ticket}
 use Rattle.lock_table.specs.declared.rows.Who.{Who}
 use Rattle.lock_table.specs.declared.rows.Hold.{Hold}
 use Rattle.lock_table.specs.declared.rows.Request.{Request}
@@ -33,6 +33,11 @@ is_of_who who r = is_same_who r.who who
 abbrev pub has_one_each : List Request → Bool
 has_one_each [] = true
 has_one_each (r ∷ rs) = not (list_any (is_of_who r.who) rs) && has_one_each rs
+
+-- no session has two requests with one ticket
+abbrev pub has_one_ticket : List Request → Bool
+has_one_ticket [] = true
+has_one_ticket (r ∷ rs) = not (list_any (is_ticket r.who.session r.ticket) rs) && has_one_ticket rs
 
 -- Notes and waiting requests are of live sessions that learnt of the current order; holds and granted tickets may be of one that was closed
 -- since; and no session that didn't learn of it has an item that isn't synced.

@@ -81,7 +81,7 @@ pub record Grew (d : ℕ) (b c : Sofar) : Type 0 where
 
 -- several steps
 
-numbered_joined : {M : Type 0} (n : ℕ) (xs ys : List M) → numbered_from n (xs ++ ys) ≡ numbered_from n xs ++ numbered_from (n + length xs) ys
+pub numbered_joined : {M : Type 0} (n : ℕ) (xs ys : List M) → numbered_from n (xs ++ ys) ≡ numbered_from n xs ++ numbered_from (n + length xs) ys
 numbered_joined n [] ys = ap (λ k. numbered_from k ys) (omega arith)
 numbered_joined n (x ∷ xs) ys = ap (λ zs. (n + 1, x) ∷ zs) (numbered_joined (n + 1) xs ys ∙ ap (λ k. numbered_from (n + 1) xs ++ numbered_from k ys) (omega arith))
 
@@ -139,7 +139,7 @@ end_then p q e f g x y = record {
 }
 
 -- whether the Welcome was taken stays
-joined_stays : (link : AppLink) (l m : Line) → LineGrows link l m → is_joined m ≡ is_joined l
+pub joined_stays : (link : AppLink) (l m : Line) → LineGrows link l m → is_joined m ≡ is_joined l
 joined_stays link l m (inl same) = ap is_joined same
 joined_stays link l m (inr begins) = ap is_joined begins.trying ∙ sym (ap is_joined begins.apart)
 
@@ -374,7 +374,7 @@ piece_grows (Tries d) b may normal k = tries_grows (is_apart (end_at b.state d).
 piece_grows (Notes d n) b may normal k =
     grew_quiet k b (sets d (noted_by n) b)
     (at_end (λ e. EndGrows [] (end_at b.state k) e) d k (with_session (noted_by n) (end_at b.state d)) b.state
-    (λ same. subst (λ i. EndGrows [] (end_at b.state i) (with_session (noted_by n) (end_at b.state d))) (sym same) (end_of [] (noted_by n) (end_at b.state d) (notes_grow n (end_at b.state d).session may)))
+    (λ same. subst (λ i. EndGrows [] (end_at b.state i) (with_session (noted_by n) (end_at b.state d))) (sym same) (end_of [] (noted_by n) (end_at b.state d) (notes_grow n (end_at b.state d).session may.0)))
     (end_same (end_at b.state k)))
     refl refl
 piece_grows (Tickets d) b may normal k =

@@ -9,6 +9,7 @@ use Rattle.plain_orders.specs.declared.mode.Mode.{Mode}
 use Rattle.plain_orders.specs.declared.op.Op.{Op}
 use Rattle.ecp_messages.specs.declared.up.Up.{Up}
 use Rattle.ecp_messages.specs.declared.up.Up.TheVariants as up
+use Rattle.link_states.specs.declared.app_link.AppLink.{AppLink}
 use Rattle.app_rules.specs.AppState.{AppState, AppEnd, Session}
 use Rattle.app_rules.specs.Works.{Sofar, writes, tries, tries_if, tells_if, sets, becomes, puts, end_at, with_end, with_session, with_window, is_normal, is_joined, is_apart}
 use Rattle.end_words.specs.Windows.{with_sent}
@@ -82,6 +83,19 @@ NoteMay (Lowers job mode key) s = Unit {0}
 NoteMay (Uses runs) s = AllByRecursion (λ r. IsAmong r s.cache) runs
 NoteMay (Leaves job) s = Unit {0}
 
+-- a job asks for a lock while the link is Normal
+abbrev pub NoteOn : Note → AppLink → Type 0
+NoteOn (Queues w m job) link = Unit {0}
+NoteOn (QueuesLate w m job op) link = Unit {0}
+NoteOn (QueuesOwed w m job) link = Unit {0}
+NoteOn (Fetches job key) link = Unit {0}
+NoteOn (Asks ticket job mode key) link = is_normal link ≡ true
+NoteOn (Syncs ticket job) link = Unit {0}
+NoteOn (Holds job mode key at) link = Unit {0}
+NoteOn (Lowers job mode key) link = Unit {0}
+NoteOn (Uses runs) link = Unit {0}
+NoteOn (Leaves job) link = Unit {0}
+
 -- an act that a job's step writes
 abbrev pub IsOfJob : Act → Type 0
 IsOfJob (act.Opened d entries) = ⊥
@@ -140,7 +154,7 @@ HasSession e = (is_normal e.link ≡ true) ⊎ (is_some e.session ≡ true)
 abbrev pub MayMake : JobPiece → Sofar → Type 0
 MayMake (Writes a) b = IsOfJob a
 MayMake (Tries d) b = is_free (end_at b.state d).link ≡ true
-MayMake (Notes d n) b = IfSome (end_at b.state d).session (NoteMay n)
+MayMake (Notes d n) b = IfSome (end_at b.state d).session (NoteMay n) × NoteOn n (end_at b.state d).link
 MayMake (Tickets d) b = Unit {0}
 MayMake (Puts d m) b = IsPutByJob m × HasSession (end_at b.state d)
 

@@ -42,7 +42,7 @@ use Rattle.app_rules.specs.Reading.Walked.{Needs, Finds, Ends}
 use Rattle.app_rules.specs.Locking.{with_ticket, asks, by_grant, waits_grant, is_due, locks_by, locks_now, ask_of_job, gives_up_if, holds_it, holds_back_if, unlocks_held, with_ask, with_held, without_held, is_lane}
 use Rattle.app_rules.specs.Ending.{HowEnded, end_item, end_message, end_notes, puts_end, puts_ends, unlocks_back, ends_txn, living, living_backs, levels, awaits_put, after_put, ends_when, are_up, has_room, ends_by, awaits_ends, hears_ends, answers_ends, writes_ends, is_up_at, is_up_back, is_up_end, is_told_end, commit_at, is_inner, syncs, by_sync, by_synced, sync_of_job, begins_ends, with_txn, with_sync}
 use Rattle.app_rules.specs.JobStep.{NextsFree, NextsUp, Does, Turns, JobStep, ended, kept, left_at, left_by, is_waiting, work_of}
-use Rattle.cluster_steps.proofs.JobPieces.{Note, NoteMay, GoesOn, IsAmong, IsPutByJob, IsOfJob, noted_by, goes_same, goes_by, goes_then, stays_up, session_stays}
+use Rattle.cluster_steps.proofs.JobPieces.{Note, NoteMay, NoteOn, GoesOn, IsAmong, IsPutByJob, IsOfJob, noted_by, goes_same, goes_by, goes_then, stays_up, session_stays}
 use Rattle.cluster_steps.proofs.UsedRuns.{used_all, walked_all, all_among}
 use Rattle.cluster_steps.proofs.JobPieces.Note.{Queues, QueuesLate, QueuesOwed, Fetches, Asks, Syncs, Holds, Lowers, Uses, Leaves}
 use Rattle.cluster_steps.proofs.JobPieces.JobPiece.{Writes, Tries, Notes, Tickets, Puts}
@@ -55,8 +55,8 @@ any_note P each (Some s) = each s
 write_goes : (a : Act) (b : Sofar) → IsOfJob a → GoesOn b (writes a b)
 write_goes a b may = goes_by (Writes a) b may
 
-note_goes : (d : ℕ) (n : Note) (b : Sofar) → ((s : Session) → NoteMay n s) → GoesOn b (sets d (noted_by n) b)
-note_goes d n b may = goes_by (Notes d n) b (any_note (NoteMay n) may (end_at b.state d).session)
+note_goes : (d : ℕ) (n : Note) (b : Sofar) → ((s : Session) → NoteMay n s) → NoteOn n (end_at b.state d).link → GoesOn b (sets d (noted_by n) b)
+note_goes d n b may on = goes_by (Notes d n) b (any_note (NoteMay n) may (end_at b.state d).session, on)
 
 put_goes : (d : ℕ) (m : Up) (b : Sofar) → IsPutByJob m → is_normal (end_at b.state d).link ≡ true → GoesOn b (puts d m b)
 put_goes d m b may up = goes_by (Puts d m) b (may, inl up)
@@ -101,9 +101,9 @@ own_goes false f w goes = goes
 
 -- items
 
-issue_goes : (d : ℕ) (a : Act) (m : Up) (n : Note) (b : Sofar) → IsOfJob a → ((s : Session) → NoteMay n s) → IsPutByJob m → is_normal (end_at b.state d).link ≡ true
-    → GoesOn b (puts d m (sets d (noted_by n) (writes a b)))
-issue_goes d a m n b of_job noted put up = go (goes_then (write_goes a b of_job) (note_goes d n (writes a b) noted))
+issue_goes : (d : ℕ) (a : Act) (m : Up) (n : Note) (b : Sofar) → IsOfJob a → ((s : Session) → NoteMay n s) → NoteOn n (end_at b.state d).link → IsPutByJob m
+    → is_normal (end_at b.state d).link ≡ true → GoesOn b (puts d m (sets d (noted_by n) (writes a b)))
+issue_goes d a m n b of_job noted on put up = go (goes_then (write_goes a b of_job) (note_goes d n (writes a b) noted on))
   where
     go : GoesOn b (sets d (noted_by n) (writes a b)) → GoesOn b (puts d m (sets d (noted_by n) (writes a b)))
     go g = goes_then g (put_goes d m (sets d (noted_by n) (writes a b)) put (stays_up g d up))
@@ -111,12 +111,12 @@ issue_goes d a m n b of_job noted put up = go (goes_then (write_goes a b of_job)
 queue_goes : (d : ℕ) (op : Op) (w : Work) → is_up w d ≡ true → GoesOn w.ends (queues d op w).work.ends
 queue_goes d op w up =
     issue_goes d (act.Issue w.job.index w.at.line d (next_w w d) (items.Op op)) (ups.Update (next_w w d) w.job.index (txn_now w.job) op)
-    (QueuesLate (next_w w d) (ups.Update (next_w w d) w.job.index (txn_now w.job) op) w.job.index op) w.ends tt (λ s. tt) tt up
+    (QueuesLate (next_w w d) (ups.Update (next_w w d) w.job.index (txn_now w.job) op) w.job.index op) w.ends tt (λ s. tt) tt tt up
 
 add_goes : (d : ℕ) (key : List ℕ) (amount : ℤ) (w : Work) → is_up w d ≡ true → GoesOn w.ends (adds d key amount w).ends
 add_goes d key amount w up =
     issue_goes d (act.Issue w.job.index w.at.line d (next_w w d) (items.Op (ops.Add key amount))) (ups.Add (next_w w d) w.job.index key amount)
-    (QueuesOwed (next_w w d) (ups.Add (next_w w d) w.job.index key amount) w.job.index) w.ends tt (λ s. tt) tt up
+    (QueuesOwed (next_w w d) (ups.Add (next_w w d) w.job.index key amount) w.job.index) w.ends tt (λ s. tt) tt tt up
 
 sum_goes : (m : About) (d at : ℕ) (sum : ℤ) (w : Work) → GoesOn w.ends (says_sum m d at sum w).work.ends
 sum_goes Counted d at sum w = write_goes _ w.ends tt
@@ -138,7 +138,7 @@ adds_goes (Some n) d key amount w up = told_goes (told_at w d n) d w
 
 fetch_goes : (b : Bool) (d : ℕ) (key : List ℕ) (w : Work) → is_up w d ≡ true → GoesOn w.ends (fetches_unless b d key w).ends
 fetch_goes true d key w up = goes_same w.ends
-fetch_goes false d key w up = go (note_goes d (Fetches w.job.index key) w.ends (λ s. tt))
+fetch_goes false d key w up = go (note_goes d (Fetches w.job.index key) w.ends (λ s. tt) tt)
   where
     go : GoesOn w.ends (sets d (with_fetch w.job.index key) w.ends) → GoesOn w.ends (fetches_unless false d key w).ends
     go g = goes_then g (put_goes d (ups.Fetch key) (sets d (with_fetch w.job.index key) w.ends) tt (stays_up g d up))
@@ -148,7 +148,7 @@ waits_goes d key w up = fetch_goes (is_fetching w d key) d key w up
 
 -- the runs of a session, as they were used
 cache_goes : (d : ℕ) (f : List Run → List Run) (b : Sofar) → ((rs : List Run) → AllByRecursion (λ r. IsAmong r rs) (f rs)) → GoesOn b (sets d (with_cache (f (session_at b.state d).cache)) b)
-cache_goes d f b among = goes_by (Notes d (Uses (f (session_at b.state d).cache))) b (go (end_at b.state d).session)
+cache_goes d f b among = goes_by (Notes d (Uses (f (session_at b.state d).cache))) b (go (end_at b.state d).session, tt)
   where
     go : (o : Option Session) → IfSome o (NoteMay (Uses (f (unwrap_or o no_session).cache)))
     go None = tt
@@ -212,7 +212,7 @@ nexts_goes false parent sub w t up h = by_work t _ w.ends h (state_goes parent.s
 
 ask_goes : (d : ℕ) (mode : Mode) (key : List ℕ) (w : Work) → is_up w d ≡ true → GoesOn w.ends (asks d mode key w).ends
 ask_goes d mode key w up =
-    go (goes_then (goes_by (Tickets d) w.ends tt) (note_goes d (Asks ((end_at w.ends.state d).ticket + 1) w.job.index mode key) (becomes d with_ticket w.ends) (λ s. tt)))
+    go (goes_then (goes_by (Tickets d) w.ends tt) (note_goes d (Asks ((end_at w.ends.state d).ticket + 1) w.job.index mode key) (becomes d with_ticket w.ends) (λ s. tt) (stays_up (goes_by (Tickets d) w.ends tt) d up)))
   where
     v : Sofar
     v = sets d (with_ask ((end_at w.ends.state d).ticket + 1) w.job.index mode key) (becomes d with_ticket w.ends)
@@ -245,7 +245,7 @@ due_goes false d mode key w = goes_same w.ends
 
 grant_goes : (o : Option ℕ) (d : ℕ) (mode : Mode) (key : List ℕ) (wait : Option ℕ) (now : ℕ) (w : Work) → GoesOn w.ends (by_grant o d mode key wait now w).work.ends
 grant_goes (Some at) d mode key wait now w =
-    goes_then (note_goes d (Holds w.job.index mode key at) w.ends (λ s. tt)) (write_goes _ (sets d (with_held w.job.index mode key at) w.ends) tt)
+    goes_then (note_goes d (Holds w.job.index mode key at) w.ends (λ s. tt) tt) (write_goes _ (sets d (with_held w.job.index mode key at) w.ends) tt)
 grant_goes None d mode key wait now w = due_goes (is_due wait w.at.first now) d mode key w
 
 lock_goes : (o : Option Asked) (d : ℕ) (mode : Mode) (key : List ℕ) (wait : Option ℕ) (now : ℕ) (w : Work) → is_up w d ≡ true → GoesOn w.ends (locks_by o d mode key wait now w).work.ends
@@ -262,7 +262,7 @@ any_there of test e empty found = go e.session found
 -- what is given up was held, so there is a session
 gives_goes : (b : Bool) (d : ℕ) (mode : Mode) (key : List ℕ) (w : Work) → holds_it w d mode key ≡ b → GoesOn w.ends (gives_up_if b d mode key w).ends
 gives_goes true d mode key w held =
-    goes_then (goes_then (note_goes d (Lowers w.job.index mode key) w.ends (λ s. tt)) (write_goes (act.GiveUp w.job.index w.at.line d mode key) (sets d (without_held w.job.index mode key) w.ends) tt))
+    goes_then (goes_then (note_goes d (Lowers w.job.index mode key) w.ends (λ s. tt) tt) (write_goes (act.GiveUp w.job.index w.at.line d mode key) (sets d (without_held w.job.index mode key) w.ends) tt))
     (goes_by (Puts d (ups.Unlock w.job.index mode key)) (writes (act.GiveUp w.job.index w.at.line d mode key) (sets d (without_held w.job.index mode key) w.ends)) (tt, inr there))
   where
     there : is_some (end_at (sets d (without_held w.job.index mode key) w.ends).state d).session ≡ true
@@ -288,8 +288,8 @@ put_by_end false n job txn wanted = tt
 -- the note of an end, by whether its answer is wanted
 end_goes : (wanted : Bool) (d n job : ℕ) (a : Act) (m : Up) (b : Sofar) → IsOfJob a → IsPutByJob m → is_normal (end_at b.state d).link ≡ true
     → GoesOn b (puts d m (sets d (λ s. end_notes wanted n m job (with_item n m job s)) (writes a b)))
-end_goes true d n job a m b of_job put up = issue_goes d a m (QueuesOwed n m job) b of_job (λ s. tt) put up
-end_goes false d n job a m b of_job put up = issue_goes d a m (Queues n m job) b of_job (λ s. tt) put up
+end_goes true d n job a m b of_job put up = issue_goes d a m (QueuesOwed n m job) b of_job (λ s. tt) tt put up
+end_goes false d n job a m b of_job put up = issue_goes d a m (Queues n m job) b of_job (λ s. tt) tt put up
 
 -- all these connections are Normal
 abbrev AreUp : List ℕ → Sofar → Type 0
@@ -372,7 +372,7 @@ commit_goes false sync w = by_ends_goes w.at.ends _ w
 
 syncs_go : (d : ℕ) (w : Work) → is_up w d ≡ true → GoesOn w.ends (syncs d w).ends
 syncs_go d w up =
-    go (goes_then (goes_by (Tickets d) w.ends tt) (note_goes d (Syncs ((end_at w.ends.state d).ticket + 1) w.job.index) (becomes d with_ticket w.ends) (λ s. tt)))
+    go (goes_then (goes_by (Tickets d) w.ends tt) (note_goes d (Syncs ((end_at w.ends.state d).ticket + 1) w.job.index) (becomes d with_ticket w.ends) (λ s. tt) tt))
   where
     v : Sofar
     v = sets d (with_sync ((end_at w.ends.state d).ticket + 1) w.job.index) (becomes d with_ticket w.ends)
@@ -453,7 +453,7 @@ turns_go None command now w t h = does_go command now w t h
 
 left_goes : (job : ℕ) (ds : List ℕ) (b : Sofar) → GoesOn b (left_at job ds b)
 left_goes job [] b = goes_same b
-left_goes job (d ∷ ds) b = goes_then (note_goes d (Leaves job) b (λ s. tt)) (left_goes job ds (sets d (left_by job) b))
+left_goes job (d ∷ ds) b = goes_then (note_goes d (Leaves job) b (λ s. tt) tt) (left_goes job ds (sets d (left_by job) b))
 
 over_goes : (b : Bool) (w : Work) → GoesOn w.ends (kept b w).ends
 over_goes true w = goes_same w.ends

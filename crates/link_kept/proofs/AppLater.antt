@@ -27,6 +27,13 @@ use Rattle.link_kept.proofs.Later.{Later, front_same, front_then, counts_front, 
 
 -- lanes
 
+-- what comes downwards of a lane goes on
+pub record LaneGoes (a b : Lane) : Type 0 where
+  pub began : b.began ≡ a.began
+  pub up_taken : a.up_taken ≤ b.up_taken
+  pub down : IsFront a.down b.down
+  pub down_taken : b.down_taken ≡ a.down_taken
+
 -- a lane that a data server's move lets go on
 pub record LaneLater (a b : Lane) : Type 0 where
   pub began : b.began ≡ a.began
@@ -37,6 +44,9 @@ pub record LaneLater (a b : Lane) : Type 0 where
 
 pub same_lane : (a : Lane) → LaneLater a a
 same_lane a = record { began = refl; up = refl; up_taken = omega arith; down = front_same a.down; down_taken = refl }
+
+pub lane_goes_on : (a b : Lane) → LaneLater a b → LaneGoes a b
+lane_goes_on a b l = record { began = l.began; up_taken = l.up_taken; down = l.down; down_taken = l.down_taken }
 
 numbered_append : {M : Type 0} (n : ℕ) (xs ys : List M) → (k : ℕ) × (numbered_from n (xs ++ ys) ≡ numbered_from n xs ++ numbered_from k ys)
 numbered_append n [] ys = (n, refl)
@@ -53,7 +63,7 @@ behind_front n a b low front =
     )
 
 -- the next messages of a lane are so when it goes on
-pub next_later : (a b : Lane) (xs : List (ℕ × Down)) → a.down_taken ≤ length a.down → LaneLater a b → IsFront xs (numbered_behind a.down_taken a.down)
+pub next_later : (a b : Lane) (xs : List (ℕ × Down)) → a.down_taken ≤ length a.down → LaneGoes a b → IsFront xs (numbered_behind a.down_taken a.down)
     → IsFront xs (numbered_behind b.down_taken b.down)
 next_later a b xs low goes front =
     front_then xs (numbered_behind a.down_taken a.down) (numbered_behind b.down_taken b.down) front
@@ -83,7 +93,7 @@ ends_later may es fs a b s (f ∷ []) goes low is = (is.0, reset_later es fs a b
 ends_later may es fs a b s (f ∷ g ∷ left) goes low is = is
 
 pub way_later : (es fs : List Entry) (a b s : ℕ) (lane later : Lane) (may : Bool) (left : List DownFrame) → IsFront es fs → a ≤ b
-    → lane.down_taken ≤ length lane.down → LaneLater lane later → DownWay es a s lane may left → DownWay fs b s later may left
+    → lane.down_taken ≤ length lane.down → LaneGoes lane later → DownWay es a s lane may left → DownWay fs b s later may left
 way_later es fs a b s lane later may left goes low counts g way = record {
   its = way.its;
   ends = way.ends;
@@ -131,11 +141,11 @@ le_or_above n m = go (nat_lt m n) refl
     go false is = inl (ltb-false m n is)
 
 -- a session that was entered and not met, in an order that goes on
-pub unmet_later : (v w : Server) (x y : Site) → Later x v w → ((s k : ℕ) → LaneLater (x.lane_at s k) (y.lane_at s k)) → (app told s k : ℕ) → (s ≤ stays_at v k) ⊎ (k ≡ current v) → Unmet v x app told s k → Unmet w y app told s k
+pub unmet_later : (v w : Server) (x y : Site) → Later x v w → ((s k : ℕ) → LaneGoes (x.lane_at s k) (y.lane_at s k)) → (app told s k : ℕ) → (s ≤ stays_at v k) ⊎ (k ≡ current v) → Unmet v x app told s k → Unmet w y app told s k
 unmet_later v w x y later lanes app told s k why u = record {
   there = omega (arith, u.there, later.there);
   above = u.above;
-  unmet = later.met s ∙ u.unmet;
+  unmet = later.met s u.unmet;
   entered = known why ∙ u.entered;
   opened =
       subst (λ (xs : List Entry). entry_at xs s ≡ Some (Opened s app)) (sym (later.goes_on k u.there).1)
@@ -152,7 +162,7 @@ unmet_later v w x y later lanes app told s k why u = record {
     known (inl stays) = later.entered s k u.there stays
     known (inr same) = later.entered_here s (low same)
 
-module _ (v w : Server) (x y : Site) (later : Later x v w) (lanes : (s k : ℕ) → LaneLater (x.lane_at s k) (y.lane_at s k))
+module _ (v w : Server) (x y : Site) (later : Later x v w) (lanes : (s k : ℕ) → LaneGoes (x.lane_at s k) (y.lane_at s k))
     (counts : (s k : ℕ) → LaneCounts (x.lane_at s k)) where
   module _ (c d : Connection) (untold : Untold c d) (whole : WholeStays x y c d) where
     joined_later : (e : AppEnd) (s : Session) (k : ℕ) → k ≤ current v → JoinedWay v x e s k c → JoinedWay w y e s k d

@@ -92,6 +92,7 @@ node_empty w y dead es number n none e = record {
         λ s lives.
         subst (λ (z : Lane). WindowIs (window_of n s) z.down z.down_taken z.up_taken) (sym (none s))
         (subst (λ (ws : List SessionWindow). WindowIs (window_in ws s) [] 0 0) (sym e.windows) nothing);
+    none = λ s lives gone. ap (λ (z : Lane). z.began) (none s);
   };
   ups = λ s conn role. absurd (no_role conn role);
   greets = λ s conn role. absurd (no_role conn role);
@@ -134,7 +135,7 @@ later_crashed x v clock round kept agree low within epochs = record {
   left = λ k under. crashed_left v clock round kept k under;
   last = λ k under. ap last_epoch (crashed_order v clock round kept k under);
   place = λ k under. ap epoch_place (crashed_order v clock round kept k under);
-  met = λ s. refl;
+  met = λ s is. is;
   entered = λ s k under stays. refl;
   entered_here = λ s under. refl;
   newer = λ i j under past there stays. newer i j under past there stays;

@@ -80,12 +80,14 @@ no_notes lane_of es s (y ∷ ys) unlearnt served = go (y.session == s) refl (no_
 pub windows_begin : (lane_of : ℕ → Lane) (d : DataState) → all_differ (map whose d.windows) ≡ true
     → ((s : ℕ) → list_any (is_window_of s) d.windows ≡ true → live d.order s ≡ true)
     → ((s : ℕ) → live d.order s ≡ true → WindowIs (window_of d s) (lane_of s).down (lane_of s).down_taken (lane_of s).up_taken)
+    → ((s : ℕ) → live d.order s ≡ true → list_any (is_window_of s) d.windows ≡ false → (lane_of s).began ≡ None)
     → ((s : ℕ) → LaneCounts (lane_of s)) → WindowsGo (live d.order) lane_of d.windows d.order
-windows_begin lane_of d differ lives each counts = record {
+windows_begin lane_of d differ lives each none counts = record {
   differ = differ;
   lives = lives;
   each = λ s is. grown s (each s is);
   newly = λ s is before. absurd (true≢false (sym is ∙ before));
+  none = none;
 }
   where
     grown : (s : ℕ) → WindowIs (window_of d s) (lane_of s).down (lane_of s).down_taken (lane_of s).up_taken → Grown (lane_of s) (window_of d s)

@@ -57,7 +57,8 @@ pub record Later (x : Site) (v w : Server) : Type 0 where
   pub left : (k : ℕ) → k < current v → stays_at w k ≡ stays_at v k
   pub last : (k : ℕ) → k ≤ current v → last_epoch (order_at w k) ≡ last_epoch (order_at v k)
   pub place : (k : ℕ) → k ≤ current v → epoch_place (order_at w k) ≡ epoch_place (order_at v k)
-  pub met : (s : ℕ) → w.session_at s ≡ v.session_at s
+  -- none is met meanwhile
+  pub met : (s : ℕ) → v.session_at s ≡ None → w.session_at s ≡ None
   -- what was entered in an order that goes on is known still
   pub entered : (s k : ℕ) → k ≤ current v → s ≤ stays_at v k → w.entered_at s ≡ v.entered_at s
   pub entered_here : (s : ℕ) → s ≤ length (order_at v (current v)) → w.entered_at s ≡ v.entered_at s

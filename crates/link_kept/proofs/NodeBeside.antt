@@ -27,7 +27,7 @@ use Rattle.cluster_invariant.specs.Words.{ups_left, is_reset_frame}
 use Rattle.cluster_invariant.proofs.AllLists.{all_follow}
 use Rattle.cluster_invariant.proofs.Small.{some_kept}
 use Rattle.link_kept.proofs.Later.{Later}
-use Rattle.link_kept.proofs.AppLater.{Untold, unmet_later, same_lane}
+use Rattle.link_kept.proofs.AppLater.{Untold, unmet_later, same_lane, lane_goes_on}
 
 -- A connection as it was, but for which end left it.
 pub record Quiet (c d : Connection) : Type 0 where
@@ -129,7 +129,7 @@ module _ (v w : Server) (x : Site) (ends : ℕ → End) (dead gone : ℕ → Boo
 
   -- a session that was entered for an end that greets
   unmet_beside : (app told s k : ℕ) → k ≡ current v → Unmet v x app told s k → Unmet w (with_ends ends x) app told s k
-  unmet_beside app told s k here u = go (unmet_later v w x (with_ends ends x) later (λ q j. same_lane (x.lane_at q j)) app told s k (inr here) u)
+  unmet_beside app told s k here u = go (unmet_later v w x (with_ends ends x) later (λ q j. lane_goes_on (x.lane_at q j) (x.lane_at q j) (same_lane (x.lane_at q j))) app told s k (inr here) u)
     where
       go : Unmet w (with_ends ends x) app told s k → Unmet w (with_ends ends x) app told s k
       go is = is
@@ -202,7 +202,7 @@ module _ (v w : Server) (x : Site) (ends : ℕ → End) (dead gone : ℕ → Boo
   -- The half of a running node, of which nothing is changed.
   pub node_beside : x.past ≡ current v → NodeLink v x dead n → NodeLink w (with_ends ends x) gone n
   node_beside here l = record {
-    windows = record { differ = l.windows.differ; lives = l.windows.lives; each = l.windows.each };
+    windows = record { differ = l.windows.differ; lives = l.windows.lives; each = l.windows.each; none = l.windows.none };
     ups =
         λ s conn role.
         some_kept (UpWayBy x dead s) (UpWayBy (with_ends ends x) gone s) (ups_by s) (link_of x conn) (l.ups s conn role);

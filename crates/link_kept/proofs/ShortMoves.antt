@@ -26,7 +26,7 @@ use Rattle.cluster_invariant.proofs.Frame.{kept_by_tick}
 use Rattle.cluster_invariant.proofs.PastOrders.{stays_within}
 use Rattle.cluster_invariant.proofs.SiteMoves.{kept_by_death, kept_by_halt, kept_by_look}
 use Rattle.link_kept.proofs.Later.{Later, front_same}
-use Rattle.link_kept.proofs.AppLater.{WholeStays, CountStays, LaneLater, same_lane, down_later, app_later}
+use Rattle.link_kept.proofs.AppLater.{WholeStays, CountStays, LaneLater, same_lane, lane_goes_on, down_later, app_later}
 use Rattle.link_kept.proofs.NodeBeside.{Quiet, Quietly, quiet_untold, some_quiet, with_ends, node_beside}
 
 -- what is on its way at each data server
@@ -52,7 +52,7 @@ later_known x v known agree = record {
   left = λ k low. refl;
   last = λ k low. refl;
   place = λ k low. refl;
-  met = λ s. refl;
+  met = λ s is. is;
   entered = λ s k low stays. refl;
   entered_here = λ s low. refl;
   newer = λ i j low past there stays. absurd (omega (arith, past, there));
@@ -93,7 +93,7 @@ app_quiet v w x y dead later lanes link ends dials app alive f state told quiet 
 
     down : (c d : Connection) → Quiet c d → DownBy e.state.line v x app e c × ConnectionIs v x app e.state.dial c → DownBy e.state.line w y app e d
     down c d q is =
-        down_later v w x y later lanes link.lanes c d (quiet_untold c d q) (whole c d q is.1) e.state.line app e (told_there v app e (ends.told app alive))
+        down_later v w x y later (λ s k. lane_goes_on (x.lane_at s k) (y.lane_at s k) (lanes s k)) link.lanes c d (quiet_untold c d q) (whole c d q is.1) e.state.line app e (told_there v app e (ends.told app alive))
         (firsts_there v x app e.state.dial c is.1) same is.0
 
 -- where lanes stay as they are, counts do

@@ -29,7 +29,7 @@ use Rattle.cluster_runs.specs.Sent.{Lane}
 use Rattle.cluster_runs.specs.Machine.{Site}
 use Rattle.cluster_invariant.specs.Words.{is_begun}
 use Rattle.cluster_invariant.proofs.PieceKinds.{LockCall, Asks, Unlocks, Withdraws, GivesBack, ForgetsTicket, Claims, Cancels, Releases, Piece, Accepts, Forgets, Breaks, Dials, Waits, Opens, OpensNext, Resumes, GoesOn, ComesAgain, AwaitsReset, Closes, Acknowledges, Takes, TakesDone, Enters, Fetches, PutsNormal, PutsAck, Replies, Leaves, Bares, Locks, RoundEnds, Ticks}
-use Rattle.cluster_invariant.proofs.PieceMay.{Coming, Message, Asked, AnswersBy, RepliesMay, ComesAgainMay, PutsNormalMay, CallsMay, ClaimsMay, item_of}
+use Rattle.cluster_invariant.proofs.PieceMay.{Coming, Message, Asked, AnswersBy, RepliesMay, ComesAgainMay, PutsNormalMay, CallsMay, CancelsMay, ClaimsMay, item_of}
 use Rattle.cluster_invariant.proofs.Pieces.{MayMake}
 use Rattle.link_kept.proofs.LockWaits.{IsAlone}
 use Rattle.link_kept.proofs.LockSessions.{RequestsOf}
@@ -51,10 +51,10 @@ pub record ConnsKnow (lane_of : ℕ → Lane) (t : Coming) (b : Sofar) : Type 0 
 -- What is left to other parts: that a session that comes again didn't learn of the order; that each learnt of it where a round is over; that a job asks once; that a claim is of a job that doesn't ask; and that requests of a session that was closed go the latest first.
 pub record LeftToOthers (lane_of : ℕ → Lane) (t : Coming) (E : Sofar → Type 0) : Type 0 where
   pub again : (session conn kept : ℕ) (b : Sofar) → E b → ComesAgainMay t session conn kept b → (lane_of session).began ≡ None
-  pub normal : (app session : ℕ) (b : Sofar) → E b → PutsNormalMay app session b → Served lane_of b.state.order session
+  pub normal : (app session : ℕ) (b : Sofar) → E b → PutsNormalMay t app session b → Served lane_of b.state.order session
   pub asks : (r : Request) (b : Sofar) → E b → Asked t r.who.session (up.Ask r.ticket r.who.job r.mode r.name) b → IsAlone r.who b.state.locks.requests
   pub claims : (who : Who) (key : List ℕ) (mode : Mode) (number at : ℕ) (b : Sofar) → E b → ClaimsMay t who key mode number at b → IsAlone who b.state.locks.requests
-  pub cancels : (r : Request) (b : Sofar) → E b → live b.state.order r.who.session ≡ false
+  pub cancels : (r : Request) (b : Sofar) → E b → CancelsMay t r b
       → RequestsOf (λ s. live b.state.order s ≡ true) (without_request b.state.locks r.who.session r.ticket (length b.state.order)).grants
 
 -- an answer is to a numbered message

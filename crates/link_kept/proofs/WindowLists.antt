@@ -42,6 +42,16 @@ set_others (x ∷ xs) s q w apart = go (x.session == s) (set_others xs s q w apa
     go true more = refl
     go false more = ap (λ (b : Bool). (x.session == q) || b) more
 
+-- one that is set is there
+pub set_there : (ws : List SessionWindow) (s : ℕ) (w : Window Down) → list_any (is_window_of s) (set_window ws s w) ≡ true
+set_there [] s w = ap (λ (b : Bool). b || false) (eq-eqb s s refl)
+set_there (x ∷ xs) s w = go (x.session == s) refl (set_there xs s w)
+  where
+    go : (b : Bool) → (x.session == s) ≡ b → list_any (is_window_of s) (set_window xs s w) ≡ true
+        → list_any (is_window_of s) (if b then record x { window = w } ∷ xs else x ∷ set_window xs s w) ≡ true
+    go true same more = ap (λ (b : Bool). b || list_any (is_window_of s) xs) same
+    go false other more = ap (λ (b : Bool). b || list_any (is_window_of s) (set_window xs s w)) other ∙ more
+
 -- each number comes once
 
 not_left : (a b : Bool) → (not a && b) ≡ true → a ≡ false
@@ -88,6 +98,19 @@ gone_elsewhere (x ∷ xs) s q apart = go (x.session == s) refl (gone_elsewhere x
     go true same more =
         more ∙ sym (ap (λ (b : Bool). if b then x.window else window_in xs q) (ne_eqb x.session q (λ is. apart (sym is ∙ eqb-true x.session s same))))
     go false other more = ap (λ (l : Window Down). if x.session == q then x.window else l) more
+
+-- whether one of another session is there
+pub gone_others : (ws : List SessionWindow) (s q : ℕ) → q ≢ s → list_any (is_window_of q) (filter (is_window_elsewhere s) ws) ≡ list_any (is_window_of q) ws
+gone_others [] s q apart = refl
+gone_others (x ∷ xs) s q apart = go (x.session == s) refl (gone_others xs s q apart)
+  where
+    go : (b : Bool) → (x.session == s) ≡ b → list_any (is_window_of q) (filter (is_window_elsewhere s) xs) ≡ list_any (is_window_of q) xs
+        → list_any (is_window_of q) (cond (not b) (x ∷ filter (is_window_elsewhere s) xs) (filter (is_window_elsewhere s) xs))
+        ≡ ((x.session == q) || list_any (is_window_of q) xs)
+    go true same more =
+        more
+        ∙ sym (ap (λ (b : Bool). b || list_any (is_window_of q) xs) (ne_eqb x.session q (λ is. apart (sym is ∙ eqb-true x.session s same))))
+    go false other more = ap (λ (b : Bool). (x.session == q) || b) more
 
 -- what is there after it was there before, and of another session
 pub gone_there : (ws : List SessionWindow) (s q : ℕ) → list_any (is_window_of q) (filter (is_window_elsewhere s) ws) ≡ true

@@ -21,7 +21,7 @@ use Rattle.cluster_invariant.specs.Link.{LaneCounts, is_numbered_down, is_window
 use Rattle.cluster_invariant.specs.Words.{all_differ, is_begun}
 use Rattle.cluster_invariant.proofs.AllLists.{all_filtered}
 use Rattle.cluster_invariant.proofs.PutLaws.{windows_put, puts_state, only_puts}
-use Rattle.link_kept.proofs.WindowLists.{set_here, set_elsewhere, set_others, set_differ, gone_elsewhere, gone_there, gone_differ, none_there}
+use Rattle.link_kept.proofs.WindowLists.{set_here, set_elsewhere, set_others, set_there, set_differ, gone_elsewhere, gone_others, gone_there, gone_differ, none_there}
 
 -- one window
 
@@ -102,6 +102,8 @@ pub record WindowsGo (was : ℕ → Bool) (lane_of : ℕ → Lane) (ws : List Se
   pub each : (s : ℕ) → live es s ≡ true → Grown (lane_of s) (window_in ws s)
   -- one that wasn't live before didn't learn of the order
   pub newly : (s : ℕ) → live es s ≡ true → was s ≡ false → (lane_of s).began ≡ None
+  -- nor did a live one without a window
+  pub none : (s : ℕ) → live es s ≡ true → list_any (is_window_of s) ws ≡ false → (lane_of s).began ≡ None
 
 -- of the state that a step has come to
 abbrev pub WindowsGoOn : (ℕ → Bool) → (ℕ → Lane) → Sofar → Type 0
@@ -129,8 +131,14 @@ set_go was lane_of ws es s w is g h = record {
   lives = λ q there. lives q there (same_or q s);
   each = λ q lives. each q lives (same_or q s);
   newly = h.newly;
+  none = λ q lives gone. none q lives gone (same_or q s);
 }
   where
+    none : (q : ℕ) → live es q ≡ true → list_any (is_window_of q) (set_window ws s w) ≡ false → (q ≡ s) ⊎ (q ≢ s) → (lane_of q).began ≡ None
+    none q lives gone (inl same) =
+        absurd (true≢false (sym (set_there ws s w) ∙ ap (λ (n : ℕ). list_any (is_window_of n) (set_window ws s w)) (sym same) ∙ gone))
+    none q lives gone (inr apart) = h.none q lives (sym (set_others ws s q w apart) ∙ gone)
+
     lives : (q : ℕ) → list_any (is_window_of q) (set_window ws s w) ≡ true → (q ≡ s) ⊎ (q ≢ s) → live es q ≡ true
     lives q there (inl same) = ap (live es) same ∙ is
     lives q there (inr apart) = h.lives q (sym (set_others ws s q w apart) ∙ there)
@@ -238,6 +246,7 @@ still_windows was lane_of ws es e is h = record {
   lives = λ s there. still_live es e s is ∙ h.lives s there;
   each = λ s lives. h.each s (sym (still_live es e s is) ∙ lives);
   newly = λ s lives before. h.newly s (sym (still_live es e s is) ∙ lives) before;
+  none = λ s lives gone. h.none s (sym (still_live es e s is) ∙ lives) gone;
 }
 
 -- a session that opens, of which nothing was put in this order
@@ -248,8 +257,13 @@ open_windows was lane_of ws es s app counts unlearnt closed h = record {
   lives = λ q there. open_live es s app q (h.lives q there);
   each = λ q lives. each q (open_or es s app q lives);
   newly = λ q lives before. newly q before (open_or es s app q lives);
+  none = λ q lives gone. unlearnt_all q gone (open_or es s app q lives);
 }
   where
+    unlearnt_all : (q : ℕ) → list_any (is_window_of q) ws ≡ false → (q ≡ s) ⊎ (live es q ≡ true) → (lane_of q).began ≡ None
+    unlearnt_all q gone (inl same) = subst (λ (n : ℕ). (lane_of n).began ≡ None) (sym same) unlearnt
+    unlearnt_all q gone (inr is) = h.none q is gone
+
     none : list_any (is_window_of s) ws ≡ false
     none = go (list_any (is_window_of s) ws) refl
       where
@@ -278,4 +292,7 @@ close_windows was lane_of ws es s h = record {
       let at : (q ≢ s) × (live es q ≡ true) = close_live es s q lives in
       subst (λ (w : Window Down). Grown (lane_of q) w) (sym (gone_elsewhere ws s q at.0)) (h.each q at.1);
   newly = λ q lives before. let at : (q ≢ s) × (live es q ≡ true) = close_live es s q lives in h.newly q at.1 before;
+  none =
+      λ q lives gone.
+      let at : (q ≢ s) × (live es q ≡ true) = close_live es s q lives in h.none q at.1 (sym (gone_others ws s q at.0) ∙ gone);
 }

@@ -108,7 +108,7 @@ windows_kept_by_step x old now input outs new h noted from may steps S gives kee
     counts s = h.lanes s x.past
 
     begun_go : WindowsGo (live old.order) lane_of old.windows old.order
-    begun_go = windows_begin lane_of old h.windows.differ h.windows.lives h.windows.each counts
+    begun_go = windows_begin lane_of old h.windows.differ h.windows.lives h.windows.each h.windows.none counts
 
     goes : WindowsGoOn (live old.order) lane_of (made new outs) × S (made new outs)
     goes =
@@ -126,6 +126,7 @@ windows_kept_by_step x old now input outs new h noted from may steps S gives kee
             λ s lives.
             subst (λ (z : Lane). WindowIs (window_of new s) z.down z.down_taken z.up_taken) (sym (ap (y.lane_at s) g.past ∙ g.here s))
             (window_after lane_of counts old new outs.frames begun_go h.windows.each noted goes.0 s lives);
+        none = λ s lives gone. ap (λ (z : Lane). z.began) (ap (y.lane_at s) g.past ∙ g.here s) ∙ goes.0.none s lives gone;
       };
     }
       where
