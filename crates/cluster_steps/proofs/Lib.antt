@@ -9,5 +9,6 @@ pub mod FrameCases
 pub mod InputEnds
 pub mod AppSites
 pub mod JobActs
+pub mod InputsBring
 pub mod Outcomes
 pub mod FrameAlone

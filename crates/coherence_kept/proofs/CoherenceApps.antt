@@ -45,7 +45,8 @@ use Rattle.cluster_invariant.proofs.OrdersStay.{orders_agree}
 use Rattle.cluster_invariant.proofs.Small.{some_kept}
 use Rattle.cluster_steps.proofs.AppSites.{SameBeside, site_beside, app_ends}
 use Rattle.cluster_steps.proofs.FrameCases.{LineHas}
-use Rattle.cluster_steps.proofs.Outcomes.{EndKept, SessionKept, WelcomeTold, InputTold, input_told}
+use Rattle.cluster_steps.proofs.InputsBring.{WelcomeTold}
+use Rattle.cluster_steps.proofs.Outcomes.{EndKept, SessionKept, InputTold, input_told}
 use Rattle.ends_kept.proofs.MetTold.{new_on, epoch_on, EpochOn}
 use Rattle.ends_kept.proofs.OrderApps.{no_news, takes_its}
 use Rattle.ends_kept.proofs.PairTables.{line_has}

@@ -3,6 +3,7 @@ pub mod PairActs
 pub mod TablesKept
 pub mod TablesMoves
 pub mod TakenDown
+pub mod NextDown
 pub mod EpochBegun
 pub mod MetTold
 pub mod AppRuns

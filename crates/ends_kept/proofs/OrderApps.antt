@@ -39,7 +39,8 @@ use Rattle.cluster_invariant.proofs.OrderBeside.{SameOrders, rows_same, leaves_o
 use Rattle.cluster_invariant.proofs.OrderKept.{order_kept_beside}
 use Rattle.cluster_invariant.proofs.OrderMoves.{OrdersHold}
 use Rattle.cluster_steps.proofs.AppSites.{SameBeside, site_beside, app_ends}
-use Rattle.cluster_steps.proofs.Outcomes.{EndKept, SessionKept, WelcomeTold, InputTold, input_told}
+use Rattle.cluster_steps.proofs.InputsBring.{WelcomeTold}
+use Rattle.cluster_steps.proofs.Outcomes.{EndKept, SessionKept, InputTold, input_told}
 use Rattle.ends_kept.proofs.MetTold.{new_on, epoch_on, EpochOn}
 use Rattle.ends_kept.proofs.PairTables.{line_has}
 use Rattle.ends_kept.proofs.TablesMoves.{app_may}

@@ -29,7 +29,8 @@ use Rattle.cluster_invariant.specs.Holds.{Holds}
 use Rattle.cluster_invariant.specs.Link.{NewWelcomeOn}
 use Rattle.cluster_steps.proofs.AppSites.{app_ends}
 use Rattle.cluster_steps.proofs.FrameCases.{LineHas}
-use Rattle.cluster_steps.proofs.Outcomes.{EndKept, WelcomeTold, InputTold, input_told}
+use Rattle.cluster_steps.proofs.InputsBring.{WelcomeTold}
+use Rattle.cluster_steps.proofs.Outcomes.{EndKept, InputTold, input_told}
 use Rattle.ends_kept.proofs.MetTold.{new_on, epoch_on, EpochOn}
 use Rattle.ends_kept.proofs.OrderApps.{no_news, takes_its}
 use Rattle.ends_kept.proofs.PairTables.{line_has}

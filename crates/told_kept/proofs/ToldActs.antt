@@ -24,7 +24,7 @@ use Rattle.cluster_steps.proofs.EndSteps.{Here}
 use Rattle.cluster_steps.proofs.FrameCases.{LineHas, frame_came}
 use Rattle.cluster_steps.proofs.FrameEnds.{FrameCame, NumberedCame, ended_acts}
 use Rattle.cluster_steps.proofs.InputEnds.{ConnectedCame, connected_came, failed_acts, failed_came, broken_came, joined_came, ticked_acts, ticked_here, lost_if, trouble_here}
-use Rattle.cluster_steps.proofs.Outcomes.{WelcomeTold}
+use Rattle.cluster_steps.proofs.InputsBring.{WelcomeTold}
 use Rattle.told_kept.proofs.SameSessions.{leaves_told}
 
 abbrev pub TellNothing : List Act → Type 0

@@ -40,7 +40,8 @@ use Rattle.cluster_invariant.proofs.Small.{at_places, of_some, put_same, put_oth
 use Rattle.cluster_steps.proofs.AppSites.{site_ends, end_has_state, app_ends}
 use Rattle.cluster_steps.proofs.EndSteps.{session_put}
 use Rattle.cluster_steps.proofs.FrameCases.{LineHas}
-use Rattle.cluster_steps.proofs.Outcomes.{EndKept, WelcomeTold, InputTold, input_told, end_same}
+use Rattle.cluster_steps.proofs.InputsBring.{WelcomeTold}
+use Rattle.cluster_steps.proofs.Outcomes.{EndKept, InputTold, input_told, end_same}
 use Rattle.ends_kept.proofs.EpochBegun.{begun_is}
 use Rattle.ends_kept.proofs.MetTold.{new_on, epoch_on, EpochOn, no_session_of}
 use Rattle.ends_kept.proofs.OrderApps.{no_news, takes_told, takes_its}
