@@ -21,7 +21,7 @@ use Rattle.app_rules.specs.Works.{Sofar, end_at}
 use Rattle.cluster_steps.proofs.EndSteps.{session_put}
 use Rattle.cluster_steps.proofs.FrameCases.{LineHas}
 use Rattle.cluster_steps.proofs.FrameEnds.{Delivered, TookFresh}
-use Rattle.cluster_steps.proofs.InputsBring.{EndStill, FreshTaken, InputBrings, SessionStill, WelcomeTold, input_brings}
+use Rattle.cluster_steps.proofs.InputsBring.{Brings, EndStays, EndStill, FreshTaken, InputBrings, SessionStill, WelcomeTold, end_still, input_brings}
 use Rattle.cluster_steps.proofs.JobEnds.{Grew, SessionsGrow}
 
 -- a session goes on, or is lost
@@ -103,15 +103,23 @@ InputTold (app_in.Broken d) k now b c = EndKept (end_at b.state k) (end_at c.sta
 InputTold (app_in.Join d) k now b c = EndKept (end_at b.state k) (end_at c.state k)
 InputTold app_in.Tick k now b c = EndKept (end_at b.state k) (end_at c.state k)
 
+brings_tell : (frame : DownFrame) (d k now : ℕ) (b c : Sofar) → k ≡ d → Brings frame.message d now frame b c → InputTold (app_in.Frame d frame) k now b c
+brings_tell frame d k now b c same (inl x) =
+    inl (subst (λ (n : ℕ). EndKept (end_at b.state n) (end_at c.state n)) (sym same) (end_kept (end_at b.state d) (end_at c.state d) x))
+brings_tell frame d k now b c same (inr (inl x)) =
+    inl (subst (λ (n : ℕ). EndKept (end_at b.state n) (end_at c.state n)) (sym same) (taken_kept frame.message d now frame b c x))
+brings_tell frame d k now b c same (inr (inr x)) = inr (same, x)
+
+stays_kept : (e f : AppEnd) → EndStays e f → EndKept e f
+stays_kept e f x = end_kept e f (end_still e f x)
+
 tells : (input : AppIn) (k now : ℕ) (b c : Sofar) → InputBrings input k now b c → InputTold input k now b c
-tells (app_in.Frame d frame) k now b c (inl x) = inl (end_kept (end_at b.state k) (end_at c.state k) x)
-tells (app_in.Frame d frame) k now b c (inr (inl x)) =
-    inl (subst (λ (n : ℕ). EndKept (end_at b.state n) (end_at c.state n)) (sym x.0) (taken_kept frame.message d now frame b c x.1))
-tells (app_in.Frame d frame) k now b c (inr (inr x)) = inr x
-tells (app_in.Connected d) k now b c x = end_kept (end_at b.state k) (end_at c.state k) x
-tells (app_in.NoWay d before later) k now b c x = end_kept (end_at b.state k) (end_at c.state k) x
-tells (app_in.Broken d) k now b c x = end_kept (end_at b.state k) (end_at c.state k) x
-tells (app_in.Join d) k now b c x = end_kept (end_at b.state k) (end_at c.state k) x
+tells (app_in.Frame d frame) k now b c (inl x) = inl (stays_kept (end_at b.state k) (end_at c.state k) x)
+tells (app_in.Frame d frame) k now b c (inr x) = brings_tell frame d k now b c x.0 x.1
+tells (app_in.Connected d) k now b c x = stays_kept (end_at b.state k) (end_at c.state k) x
+tells (app_in.NoWay d before later) k now b c x = stays_kept (end_at b.state k) (end_at c.state k) x
+tells (app_in.Broken d) k now b c x = stays_kept (end_at b.state k) (end_at c.state k) x
+tells (app_in.Join d) k now b c x = stays_kept (end_at b.state k) (end_at c.state k) x
 tells app_in.Tick k now b c x = end_kept (end_at b.state k) (end_at c.state k) x
 
 -- Each input.

@@ -11,7 +11,10 @@ pub mod StepHeld
 pub mod CoherenceJobs
 pub mod CoherenceApps
 pub mod CachedRuns
+pub mod FrontsEnds
 pub mod FrontsJobs
+pub mod FrontTakes
+pub mod FrontsApps
 pub mod ServerHeld
 pub mod ServerClosed
 pub mod WindowHeld
