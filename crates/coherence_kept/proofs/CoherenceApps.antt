@@ -68,7 +68,7 @@ record NewHeader (v : Server) (x : Site) (o : Option Place) (front : Front) : Ty
   unlearnt : (x.lane_at session order).began ≡ None
 
 -- the header of a new session, of which nothing counts
-open_header : (es : List Entry) (stays session : ℕ) (front : Front) → front.n ≤ length es → count es session ≡ 0 → front.w ≡ 0 → front.s ≡ 0
+pub open_header : (es : List Entry) (stays session : ℕ) (front : Front) → front.n ≤ length es → count es session ≡ 0 → front.w ≡ 0 → front.s ≡ 0
     → IsHeader es stays session front
 open_header es stays session front within unused counted synced = record {
   within = within;
@@ -236,7 +236,7 @@ module _ (v : Server) (x : Site) (counts : (s k : ℕ) → LaneCounts (x.lane_at
 
 -- the moves
 
-told_where : (b : Bool) (m : Option Down) (n : ℕ) (e : End) → b ≡ true → (told_by b m n e).told ≡ its_of (e.connection_at n)
+pub told_where : (b : Bool) (m : Option Down) (n : ℕ) (e : End) → b ≡ true → (told_by b m n e).told ≡ its_of (e.connection_at n)
 told_where true m n e is = refl
 told_where false m n e is = absurd (false≢true is)
 

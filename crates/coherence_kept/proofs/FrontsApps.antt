@@ -15,7 +15,9 @@ use Rattle.ecp_messages.specs.declared.down.Down.TheVariants.{Welcome, Reset, Bl
 use Rattle.ecp_messages.specs.declared.front.Front.{Front}
 use Rattle.ecp_messages.specs.declared.up.Up.{Up}
 use Rattle.ecp_messages.specs.declared.up.UpFrame.{UpFrame}
-use Rattle.app_rules.specs.AppState.{Session}
+use Rattle.app_rules.specs.AppState.{AppEnd, Session}
+use Rattle.app_rules.specs.Downs.{took}
+use Rattle.app_rules.specs.Works.{Sofar}
 use Rattle.app_rules.specs.Delivering.{with_answer}
 use Rattle.app_rules.specs.Looks.{Shown, ShowsMessage, shown_front}
 use Rattle.cluster_runs.specs.Goes.{at_told}
@@ -25,7 +27,8 @@ use Rattle.cluster_runs.specs.Sent.{Lane, Place, downs_taken}
 use Rattle.cluster_invariant.specs.Coherence.{IsHeader, front_of}
 use Rattle.cluster_invariant.specs.Fronts.{FrontIs, ShownIs, Stands, last_front}
 use Rattle.cluster_invariant.specs.Words.{IsFront}
-use Rattle.cluster_steps.proofs.FrameEnds.{Delivered}
+use Rattle.cluster_steps.proofs.EndSteps.{session_put}
+use Rattle.cluster_steps.proofs.FrameEnds.{Delivered, TookFresh}
 use Rattle.coherence_kept.proofs.FrontTakes.{RunsAfter, front_takes, shown_takes, take_more}
 use Rattle.coherence_kept.proofs.FrontsEnds.{FrontWith, ShownWith, TakenAt}
 use Rattle.coherence_kept.proofs.FrontsLater.{SameTaken, front_later, same_taken}
@@ -77,6 +80,21 @@ delivered_keeps (Answer front about job number at sum) s link times now t l put 
 delivered_keeps (Normal front) s link times now t l put h =
     (subst (λ (r : Session). Keeps s r) (sym h.0) (record { number = refl; epoch = refl; n = refl; w = refl; taken = refl }), ap (λ (r : Session). r.cache) h.0)
 delivered_keeps Bare s link times now t l put h = absurd h
+
+-- a fresh message that came
+pub fresh_takes : (m : Down) (d now seq ack : ℕ) (f : Front) (e : AppEnd) (b c : Sofar) → f ≡ front_of m → (x : TookFresh d now seq ack m f e b c)
+    → TakesOne m x.session (session_put x.since x.put x.after)
+fresh_takes m d now seq ack f e b c same x = go (delivered_keeps m (took seq ack f x.session) e.link b.state.times now x.after x.link x.put x.delivered)
+  where
+    go : Keeps (took seq ack f x.session) x.after × RunsAfter m x.session.cache x.after.cache → TakesOne m x.session (session_put x.since x.put x.after)
+    go k = record {
+      number = k.0.number;
+      epoch = k.0.epoch;
+      n = k.0.n ∙ ap (λ (g : Front). g.n) same;
+      w = k.0.w ∙ ap (λ (g : Front). g.w) same;
+      taken = k.0.taken;
+      runs = k.1;
+    }
 
 -- lanes
 

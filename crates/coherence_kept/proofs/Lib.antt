@@ -15,6 +15,9 @@ pub mod FrontsEnds
 pub mod FrontsJobs
 pub mod FrontTakes
 pub mod FrontsApps
+pub mod FrontsOwn
+pub mod FrontsInputs
+pub mod FrontsMoves
 pub mod ServerHeld
 pub mod ServerClosed
 pub mod WindowHeld

@@ -9,12 +9,12 @@ use Rattle.cluster_runs.specs.declared.move_outs.MoveOuts.{MoveOuts}
 use Rattle.cluster_runs.specs.Machine.{Machine}
 use Rattle.app_job.specs.declared.command.Command.{Command}
 use Rattle.app_rules.specs.declared.app_in.AppIn.{AppIn}
-use Rattle.data_rules.specs.declared.data_in.DataIn.{DataIn}
 use Rattle.cluster_runs.specs.CoresState.{CoresState, app_of_job}
 use Rattle.cluster_runs.specs.Moves.{Allowed}
 use Rattle.cluster_runs.specs.Mirrors.{Mirrors}
-use Rattle.cluster_runs.specs.declared.moves.Move.TheVariants.{App, Begin, Server, Step}
-use Rattle.cluster_runs.specs.Goes.{AppGoes, BeginGoes, DieGoes, HaltGoes, JobGoes, LookGoes, ServerGoes, TickGoes}
+use Rattle.cluster_runs.specs.declared.moves.Move.{Move}
+use Rattle.cluster_runs.specs.declared.moves.Move.TheVariants.{App, Begin, Step}
+use Rattle.cluster_runs.specs.Goes.{AppGoes, BeginGoes, DieGoes, Goes, HaltGoes, JobGoes, LookGoes, TickGoes}
 use Rattle.cluster_invariant.specs.Holds.{Holds}
 use Rattle.cluster_invariant.specs.Coherence.{CoherenceHolds}
 use Rattle.cluster_invariant.specs.Fronts.{FrontsHold}
@@ -64,13 +64,7 @@ InputsKeepPuts = (l : Layout) (c : CoresState) (m : Machine) (app now : ℕ) (in
 abbrev pub EachHasFronts : Layout → Machine → Type 0
 EachHasFronts l m = (d : ℕ) → FrontsHold ((state_after l m.trail).server_at d) (m.site_at d) m.is_dead_at
 
--- Each step of a data server keeps them.
-abbrev pub StepsKeepFronts : Type 0
-StepsKeepFronts = (l : Layout) (c : CoresState) (m : Machine) (server now : ℕ) (input : DataIn) (outs : MoveOuts) (written : List Act) (new : Machine)
-    → Holds l m → IsRun l m.trail → Mirrors c m → Allowed c (Server server now input) → ServerGoes m server now input outs written new → EachHasFronts l new
-
--- Each command of a job does.
-abbrev pub CommandsKeepFronts : Type 0
-CommandsKeepFronts = (l : Layout) (c : CoresState) (m : Machine) (job now line : ℕ) (command : Command) (outs : MoveOuts) (written : List Act) (new : Machine)
-    → Holds l m → IsRun l m.trail → Mirrors c m → Allowed c (Step job now line command) → JobGoes m (app_of_job m.layout job) job now line command outs written new
-    → EachHasFronts l new
+-- Each move keeps them.
+abbrev pub MovesKeepFronts : Type 0
+MovesKeepFronts = (l : Layout) (c : CoresState) (m : Machine) (move : Move) (outs : MoveOuts) (written : List Act) (new : Machine)
+    → Holds l m → IsRun l m.trail → Mirrors c m → Allowed c move → Goes m move outs written new → EachHasFronts l new

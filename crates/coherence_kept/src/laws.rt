@@ -1,8 +1,7 @@
 ghost use Rattle.coherence_kept.specs.CacheLaws.{CachedRunsAreTrue, PublishedRunsAreTrue};
 ghost use Rattle.coherence_kept.specs.RoundLaws.{DeathsKeepRounds, HaltsKeepRounds, LooksKeepRounds, StartsKeepRounds, TicksKeepRounds};
-ghost use Rattle.coherence_kept.specs.Laws.{CommandsKeepFronts, CommandsKeepPuts, DeathsKeepCoherence, HaltsKeepCoherence};
-ghost use Rattle.coherence_kept.specs.Laws.{InputsKeepPuts, LooksKeepCoherence};
-ghost use Rattle.coherence_kept.specs.Laws.{StartsKeepCoherence, StepsKeepFronts, TicksKeepCoherence};
+ghost use Rattle.coherence_kept.specs.Laws.{CommandsKeepPuts, DeathsKeepCoherence, HaltsKeepCoherence, InputsKeepPuts, LooksKeepCoherence};
+ghost use Rattle.coherence_kept.specs.Laws.{MovesKeepFronts, StartsKeepCoherence, TicksKeepCoherence};
 
 /// Where the invariant holds, ticks, looks, deaths, halts and starts keep what was put to each session coherent, and each
 /// application end's front and runs what came to it.
@@ -21,10 +20,10 @@ pub fn what_was_put_stays_coherent()
     ensures inputs { InputsKeepPuts }
 {}
 
-/// Where it holds, each step of a data server and each command of a job keep the fronts and runs of the application ends.
+/// Where it holds, each move keeps the fronts and runs of the application ends, and what they publish: a front is the
+/// header of the last message that was taken, and each run came in a Block and was met by no Drop since.
 pub fn fronts_are_kept()
-    ensures steps { StepsKeepFronts }
-    ensures commands { CommandsKeepFronts }
+    ensures { MovesKeepFronts }
 {}
 
 /// Ticks, looks, deaths, halts and starts keep what rounds put: to each session Normal once and as it awaits it, and from each what it sends again.
