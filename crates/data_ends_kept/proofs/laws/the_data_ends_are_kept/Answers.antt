@@ -1,7 +1,7 @@
-use Rattle.told_kept.proofs.NodeEndsFrames.{node_ends_kept_by_inputs}
-use Rattle.told_kept.proofs.NodeEndsJobs.{node_ends_kept_by_job}
-use Rattle.told_kept.proofs.NodeEndsMoves.{node_ends_kept_by_die, node_ends_kept_by_halt, node_ends_kept_by_looked, node_ends_kept_by_tick}
-use Rattle.told_kept.proofs.laws.the_data_ends_are_kept.Goals as goal
+use Rattle.data_ends_kept.proofs.NodeEndsFrames.{node_ends_kept_by_inputs}
+use Rattle.data_ends_kept.proofs.NodeEndsJobs.{node_ends_kept_by_job}
+use Rattle.data_ends_kept.proofs.NodeEndsMoves.{node_ends_kept_by_die, node_ends_kept_by_halt, node_ends_kept_by_looked, node_ends_kept_by_tick}
+use Rattle.data_ends_kept.proofs.laws.the_data_ends_are_kept.Goals as goal
 
 pub returns-clause-ticks : goal.returns-clause-ticks
 returns-clause-ticks c = node_ends_kept_by_tick

@@ -1,0 +1,11 @@
+pub mod AwaitedSessions
+pub mod NodeEndsBeside
+pub mod SameBreaks
+pub mod NodeEndsMoves
+pub mod NodeEndsSites
+pub mod NodeEndsJobs
+pub mod Unopened
+pub mod FreshLanes
+pub mod NodeEndsApps
+pub mod NodeEndsInputs
+pub mod NodeEndsFrames
