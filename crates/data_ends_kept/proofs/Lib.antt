@@ -1,4 +1,12 @@
 pub mod AwaitedSessions
+pub mod ConnLists
+pub mod PlainView
+pub mod LinksGo
+pub mod QuietPieces
+pub mod ConnPieces
+pub mod BreakPieces
+pub mod EntryPieces
+pub mod ClosePieces
 pub mod NodeEndsBeside
 pub mod SameBreaks
 pub mod NodeEndsMoves
@@ -9,3 +17,5 @@ pub mod FreshLanes
 pub mod NodeEndsApps
 pub mod NodeEndsInputs
 pub mod NodeEndsFrames
+pub mod NodeEndsStarts
+pub mod NodeEndsBegin

@@ -1,4 +1,4 @@
-ghost use Rattle.data_ends_kept.specs.Laws.{CommandsKeepDataEnds, DeathsKeepDataEnds, HaltsKeepDataEnds, InputsKeepDataEnds, LooksKeepDataEnds, MovesKeepUnopened, TicksKeepDataEnds};
+ghost use Rattle.data_ends_kept.specs.Laws.{CommandsKeepDataEnds, DeathsKeepDataEnds, HaltsKeepDataEnds, InputsKeepDataEnds, LooksKeepDataEnds, MovesKeepUnopened, StartsKeepDataEnds, TicksKeepDataEnds};
 
 /// Where the invariant holds, each move keeps that no data end broke before its data server's first start.
 pub fn none_broke_before_the_first_start()
@@ -14,4 +14,5 @@ pub fn the_data_ends_are_kept()
     ensures deaths { DeathsKeepDataEnds }
     ensures commands { CommandsKeepDataEnds }
     ensures inputs { InputsKeepDataEnds }
+    ensures starts { StartsKeepDataEnds }
 {}
