@@ -46,14 +46,18 @@ closed_callers causes.Replaced (Some conn) cs = filter (is_other_caller conn) cs
 closed_callers (causes.Round time) o cs = cs
 
 -- the state after a Close
-pub record ClosedBy (s app : ℕ) (cause : ShutCause) (link : DataLink) (n k : DataState) : Type 0 where
+pub record ClosedWith (s app : ℕ) (link : DataLink) (cs : List Conn) (waiting : List Caller) (n k : DataState) : Type 0 where
   pub server : k.server ≡ n.server
   pub order : k.order ≡ n.order ++ Closed s ∷ []
   pub synced : k.synced ≡ n.synced
   pub links : k.links ≡ set n.links app link
-  pub conns : k.conns ≡ closed_conns cause (conn_for s n.conns) s n.conns
-  pub callers : k.callers ≡ closed_callers cause (conn_for s n.conns) n.callers
+  pub conns : k.conns ≡ cs
+  pub callers : k.callers ≡ waiting
   pub round : k.round ≡ option_map (λ r. without r s) n.round
+
+-- the same, by the cause and the connection that the session had
+abbrev pub ClosedBy : ℕ → ℕ → ShutCause → DataLink → DataState → DataState → Type 0
+ClosedBy s app cause link n k = ClosedWith s app link (closed_conns cause (conn_for s n.conns) s n.conns) (closed_callers cause (conn_for s n.conns) n.callers) n k
 
 closed_differ : (cause : ShutCause) (o : Option ℕ) (s : ℕ) (cs : List Conn) → Differ cs → Differ (closed_conns cause o s cs)
 closed_differ (causes.Trouble time) None s cs h = h

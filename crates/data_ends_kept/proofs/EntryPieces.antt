@@ -99,6 +99,7 @@ trouble_apart v n app s broke has joined is = go (live_session n.order app) has 
 pub record Entered (e : Entry) (n k : DataState) : Type 0 where
   pub server : k.server ≡ n.server
   pub order : k.order ≡ n.order ++ e ∷ []
+  pub synced : k.synced ≡ n.synced
   pub links : k.links ≡ n.links
   pub conns : k.conns ≡ n.conns
   pub callers : k.callers ≡ n.callers
@@ -139,6 +140,7 @@ links_enters d v n k s e t item may joined h =
 pub record OpenedOn (app conn : ℕ) (link : DataLink) (n k : DataState) : Type 0 where
   pub server : k.server ≡ n.server
   pub order : k.order ≡ n.order ++ Opened (length n.order + 1) app ∷ []
+  pub synced : k.synced ≡ n.synced
   pub links : k.links ≡ set n.links app link
   pub conns : k.conns ≡ map (with_role_if conn (Bound (length n.order + 1))) n.conns
   pub callers : k.callers ≡ n.callers

@@ -7,6 +7,11 @@ pub mod ConnPieces
 pub mod BreakPieces
 pub mod EntryPieces
 pub mod ClosePieces
+pub mod PieceFacts
+pub mod RoundPieces
+pub mod CallersGo
+pub mod CallerPieces
+pub mod RoundOn
 pub mod NodeEndsBeside
 pub mod SameBreaks
 pub mod NodeEndsMoves
