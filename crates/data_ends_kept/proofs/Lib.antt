@@ -12,6 +12,9 @@ pub mod RoundPieces
 pub mod CallersGo
 pub mod CallerPieces
 pub mod RoundOn
+pub mod EndsGo
+pub mod EndsPieces
+pub mod EndsAlong
 pub mod NodeEndsBeside
 pub mod SameBreaks
 pub mod NodeEndsMoves

@@ -1,5 +1,5 @@
 -- A round that isn't over, in the midst of a step that ends none.
-use Rattle.std.proofs.Common.{◌≡◌, ◌≤◌, ◌||◌, ◌&&◌, ℕ, zero, suc, Bool, true, false, not, List, [], ◌∷◌, ◌++◌, length, drop, Option, Some, None, option_map, refl, sym, ◌∙◌, ap, subst, arith}
+use Rattle.std.proofs.Common.{◌≡◌, ◌≤◌, ◌||◌, ◌&&◌, ℕ, zero, suc, Bool, true, false, not, List, [], ◌∷◌, ◌++◌, length, drop, Option, Some, None, is_some, option_map, refl, sym, ◌∙◌, ap, subst, arith}
 use Rattle.std.specs.List.{list_any}
 use Rattle.std.proofs.lemmas.Bool.{false≢true}
 use Rattle.std.proofs.lemmas.List.{length-append}
@@ -53,6 +53,14 @@ pub on_beside : (n k : DataState) → k.synced ≡ n.synced → k.order ≡ n.or
 on_beside n k synced order round callers h = record {
   over = over_same n k synced order round ∙ h.over;
   calls = λ none. callers (h.calls (sym round ∙ none));
+  within = subst (λ (m : ℕ). m ≤ length k.order) (sym synced) (subst (λ (es : List Entry). n.synced ≤ length es) (sym order) h.within);
+}
+
+-- in a round more Hellos may wait
+pub on_in_round : (n k : DataState) → k.synced ≡ n.synced → k.order ≡ n.order → k.round ≡ n.round → is_some n.round ≡ true → RoundOn n → RoundOn k
+on_in_round n k synced order round some h = record {
+  over = over_same n k synced order round ∙ h.over;
+  calls = λ none. absurd (false≢true (sym (ap is_some (sym round ∙ none)) ∙ some));
   within = subst (λ (m : ℕ). m ≤ length k.order) (sym synced) (subst (λ (es : List Entry). n.synced ≤ length es) (sym order) h.within);
 }
 

@@ -191,8 +191,11 @@ module _ (l : Layout) (p : Plain) (d k now : ℕ) (es : List Entry) (cs : List C
           stays : (app : ℕ) → app ≢ a → (x : DataLink) → HasGone (view l p d k b.outs.acts) b.state now app x ⊎ (is_some (live_session es app) ≡ true) × ToCome (a ∷ apps) app x
               → HasGone (back_plain j a now (view l p d k b.outs.acts)) (with_event a now (RoundOver j) b.state) now app x ⊎ (is_some (live_session es app) ≡ true) × ToCome apps app x
           stays app differs x (inl y) =
-              inl (link_same (view l p d k b.outs.acts) (back_plain j a now (view l p d k b.outs.acts)) b.state (with_event a now (RoundOver j) b.state) app x
-              (λ broke at. back_other (view l p d k b.outs.acts) a now app j differs) refl refl (λ q at. refl) y.0, y.1)
+              inl (
+                link_same (view l p d k b.outs.acts) (back_plain j a now (view l p d k b.outs.acts)) b.state (with_event a now (RoundOver j) b.state) app x
+                    (λ broke at. back_other (view l p d k b.outs.acts) a now app j differs) refl refl (λ q at. refl) y.0,
+                y.1,
+              )
           stays app differs x (inr y) = inr (y.0, (y.1.0, (y.1.1.0, passed a apps app differs y.1.1.1)))
 
           go : (app : ℕ) → app < APP_LIMIT → (b2 : Bool) → eqb app a ≡ b2
