@@ -1,4 +1,5 @@
 pub mod PairTables
+pub mod ServerActs
 pub mod PairActs
 pub mod TablesKept
 pub mod TablesMoves

@@ -109,6 +109,11 @@ takes_told d (app_in.Broken k) n e = go (k == d)
 takes_told d (app_in.Join k) n e = refl
 takes_told d app_in.Tick n e = refl
 
+-- an end that was told something new has the place that its connection says
+pub told_new : (b : Bool) (m : Option Down) (n : ℕ) (e : End) → b ≡ true → (told_by b m n e).told ≡ its_of (e.connection_at n)
+told_new true m n e is = refl
+told_new false m n e is = absurd (false≢true is)
+
 -- a frame that was taken changes not whose messages the connection carries
 pub takes_its : (d : ℕ) (frame : DownFrame) (e : End) (y : Connection) → e.connection_at e.state.dial ≡ Some y → its_of ((app_takes d (app_in.Frame d frame) e.state.dial e).connection_at e.state.dial) ≡ y.its
 takes_its d frame e y is = ap (λ (b : Bool). its_of ((if b then at_number e.state.dial down_taken e else e).connection_at e.state.dial)) (eq-eqb d d refl) ∙ go (eqb e.state.dial e.state.dial) (eq-eqb e.state.dial e.state.dial refl)

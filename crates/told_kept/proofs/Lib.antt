@@ -9,14 +9,6 @@ pub mod ToldActs
 pub mod ToldMet
 pub mod ToldApps
 pub mod ToldMoves
-pub mod NodeEndsBeside
-pub mod SameBreaks
-pub mod NodeEndsMoves
-pub mod NodeEndsSites
-pub mod NodeEndsJobs
-pub mod Unopened
-pub mod FreshLanes
-pub mod NodeEndsApps
-pub mod NodeEndsInputs
-pub mod NodeEndsFrames
 pub mod TablesShort
+pub mod TablesServer
+pub mod TablesAll

@@ -28,14 +28,14 @@ abbrev TablesPart : (ℕ → Bool) → ℕ → Server → Site → Type 0
 TablesPart is_dead d v x = (app : ℕ) → is_dead app ≡ false → AppTables (v.pair_at app) (x.end_at app).state
 
 -- the same pairs
-abbrev SamePairs : Plain → Plain → Type 0
+abbrev pub SamePairs : Plain → Plain → Type 0
 SamePairs p q = (d : ℕ) → (q.server_at d).pair_at ≡ (p.server_at d).pair_at
 
 -- ends in the same state
 abbrev SameStates : Machine → Machine → Type 0
 SameStates m n = (d app : ℕ) → ((n.site_at d).end_at app).state ≡ ((m.site_at d).end_at app).state
 
-tables_same : (l : Layout) (p q : Plain) (m n : Machine) → SamePairs p q → SameStates m n → ((app : ℕ) → n.is_dead_at app ≡ false → m.is_dead_at app ≡ false)
+pub tables_same : (l : Layout) (p q : Plain) (m n : Machine) → SamePairs p q → SameStates m n → ((app : ℕ) → n.is_dead_at app ≡ false → m.is_dead_at app ≡ false)
     → TablesHold l p m → TablesHold l q n
 tables_same l p q m n pairs states alive h d app lives =
     subst (λ (e : AppEnd). AppTables ((q.server_at d).pair_at app) e) (sym (states d app))
@@ -48,13 +48,13 @@ pairs_at p q d v after same k =
     ∙ at_places (λ (e : ℕ) (u : Server). u.pair_at ≡ (p.server_at e).pair_at) p.server_at d v same (λ e other. refl) k
 
 -- a site that is changed at its node alone
-states_at : (m : Machine) (server : ℕ) (y : Site) → ((app : ℕ) → (y.end_at app).state ≡ ((m.site_at server).end_at app).state)
+pub states_at : (m : Machine) (server : ℕ) (y : Site) → ((app : ℕ) → (y.end_at app).state ≡ ((m.site_at server).end_at app).state)
     → (d app : ℕ) → ((put m.site_at server y d).end_at app).state ≡ ((m.site_at d).end_at app).state
 states_at m server y same d app =
     at_places (λ (e : ℕ) (x : Site). (x.end_at app).state ≡ ((m.site_at e).end_at app).state) m.site_at server y (same app) (λ e other. refl) d
 
 -- as the invariant has them
-before : (l : Layout) (m : Machine) → Holds l m → TablesHold l (state_after l m.trail) m
+pub before : (l : Layout) (m : Machine) → Holds l m → TablesHold l (state_after l m.trail) m
 before l m h d app lives = (h.sites d).ends.tables app lives
 
 -- A tick keeps them.

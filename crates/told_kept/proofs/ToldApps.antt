@@ -25,7 +25,7 @@ use Rattle.app_rules.proofs.StepLaws.{steps_at_one_end}
 use Rattle.cluster_runs.specs.CoresState.{CoresState}
 use Rattle.cluster_runs.specs.declared.move_outs.MoveOuts.{MoveOuts}
 use Rattle.cluster_runs.specs.declared.moves.Move.TheVariants.{App}
-use Rattle.cluster_runs.specs.Lanes.{told_by, is_told_new, its_of}
+use Rattle.cluster_runs.specs.Lanes.{is_told_new}
 use Rattle.cluster_runs.specs.Goes.{AppGoes, app_site, app_end, app_takes, input_site, with_state, message_from}
 use Rattle.cluster_runs.specs.Machine.{Machine, End, app_state, end_state}
 use Rattle.cluster_runs.specs.Mirrors.{Mirrors}
@@ -44,7 +44,7 @@ use Rattle.cluster_steps.proofs.InputsBring.{WelcomeTold}
 use Rattle.cluster_steps.proofs.Outcomes.{EndKept, InputTold, input_told, end_same}
 use Rattle.ends_kept.proofs.EpochBegun.{begun_is}
 use Rattle.ends_kept.proofs.MetTold.{new_on, epoch_on, EpochOn, no_session_of}
-use Rattle.ends_kept.proofs.OrderApps.{no_news, takes_told, takes_its}
+use Rattle.ends_kept.proofs.OrderApps.{told_new, no_news, takes_told, takes_its}
 use Rattle.ends_kept.proofs.PairTables.{line_has}
 use Rattle.ends_kept.proofs.TablesMoves.{app_may}
 use Rattle.ends_kept.proofs.TakenDown.{Taken, taken_down}
@@ -87,11 +87,6 @@ own_kept l m app d outs state shown message e w later mets kept same h =
   where
     old : End
     old = (m.site_at d).end_at app
-
--- an end that was told something new has the place that its connection says
-pub told_new : (b : Bool) (m : Option Down) (n : ℕ) (e : End) → b ≡ true → (told_by b m n e).told ≡ its_of (e.connection_at n)
-told_new true m n e is = refl
-told_new false m n e is = absurd (false≢true is)
 
 news_of_first : (o : Option Session) (t : Session) → is_some o ≡ false → is_told_new o (Some t) ≡ true
 news_of_first None t none = refl

@@ -34,49 +34,46 @@ use Rattle.cluster_steps.proofs.JobPieces.{IsOfJob, GoesOn}
 use Rattle.cluster_steps.proofs.JobPiecesOf.{job_goes}
 use Rattle.cluster_steps.proofs.Outcomes.{EndKept, end_same, command_told}
 use Rattle.ends_kept.proofs.OrderApps.{no_news}
+use Rattle.ends_kept.proofs.OrderJobs.{all_leave}
 use Rattle.ends_kept.proofs.TablesKept.{normal_has}
 use Rattle.told_kept.proofs.SameSessions.{leaves_told}
 use Rattle.told_kept.proofs.ToldBeside.{ToldAt, ToldHolds, told_beside}
 
-job_leaves : (a : Act) → IsOfJob a → (leaves_orders a ≡ true) × (leaves_told a ≡ true)
-job_leaves (Opened e entries) of_job = absurd of_job
-job_leaves (Enter e entry) of_job = absurd of_job
-job_leaves (Synced e n) of_job = absurd of_job
-job_leaves (Shut e session cause) of_job = absurd of_job
-job_leaves (Release e session) of_job = absurd of_job
-job_leaves (Met a e session) of_job = absurd of_job
-job_leaves (Told a e session epoch kept) of_job = absurd of_job
-job_leaves (Back e) of_job = absurd of_job
-job_leaves (Crash e kept) of_job = absurd of_job
-job_leaves (Issue job line e w item) of_job = (refl, refl)
-job_leaves (Read job line e at via question) of_job = (refl, refl)
-job_leaves (GrantAct e session job mode key at) of_job = absurd of_job
-job_leaves (Granted job line e at) of_job = (refl, refl)
-job_leaves (GiveUp job line e mode key) of_job = (refl, refl)
-job_leaves (Quit job line e mode key) of_job = (refl, refl)
-job_leaves (Free e session job mode key) of_job = absurd of_job
-job_leaves (Counted job line e at sum) of_job = (refl, refl)
-job_leaves (NotWhole job line e at) of_job = (refl, refl)
-job_leaves (Range job line e at) of_job = (refl, refl)
-job_leaves (Committed job line e at) of_job = (refl, refl)
-job_leaves (RolledBack job line e at) of_job = (refl, refl)
-job_leaves (Reached job line e at) of_job = (refl, refl)
-job_leaves (Level job line level) of_job = (refl, refl)
-job_leaves (Done job line) of_job = (refl, refl)
-job_leaves (Refused job line refusal) of_job = (refl, refl)
-job_leaves (Broke a e end time) of_job = absurd of_job
-job_leaves (Mended a e) of_job = absurd of_job
-job_leaves (Tick time) of_job = absurd of_job
-job_leaves (Lose a e loss) of_job = absurd of_job
-job_leaves (Died a) of_job = absurd of_job
-
-pub all_orders : (ws : List Act) → AllByRecursion IsOfJob ws → AllByRecursion (λ a. leaves_orders a ≡ true) ws
-all_orders [] of_job = tt
-all_orders (a ∷ ws) of_job = ((job_leaves a of_job.0).0, all_orders ws of_job.1)
+job_tells : (a : Act) → IsOfJob a → leaves_told a ≡ true
+job_tells (Opened e entries) of_job = absurd of_job
+job_tells (Enter e entry) of_job = absurd of_job
+job_tells (Synced e n) of_job = absurd of_job
+job_tells (Shut e session cause) of_job = absurd of_job
+job_tells (Release e session) of_job = absurd of_job
+job_tells (Met a e session) of_job = absurd of_job
+job_tells (Told a e session epoch kept) of_job = absurd of_job
+job_tells (Back e) of_job = absurd of_job
+job_tells (Crash e kept) of_job = absurd of_job
+job_tells (Issue job line e w item) of_job = refl
+job_tells (Read job line e at via question) of_job = refl
+job_tells (GrantAct e session job mode key at) of_job = absurd of_job
+job_tells (Granted job line e at) of_job = refl
+job_tells (GiveUp job line e mode key) of_job = refl
+job_tells (Quit job line e mode key) of_job = refl
+job_tells (Free e session job mode key) of_job = absurd of_job
+job_tells (Counted job line e at sum) of_job = refl
+job_tells (NotWhole job line e at) of_job = refl
+job_tells (Range job line e at) of_job = refl
+job_tells (Committed job line e at) of_job = refl
+job_tells (RolledBack job line e at) of_job = refl
+job_tells (Reached job line e at) of_job = refl
+job_tells (Level job line level) of_job = refl
+job_tells (Done job line) of_job = refl
+job_tells (Refused job line refusal) of_job = refl
+job_tells (Broke a e end time) of_job = absurd of_job
+job_tells (Mended a e) of_job = absurd of_job
+job_tells (Tick time) of_job = absurd of_job
+job_tells (Lose a e loss) of_job = absurd of_job
+job_tells (Died a) of_job = absurd of_job
 
 all_told : (ws : List Act) → AllByRecursion IsOfJob ws → AllByRecursion (λ a. leaves_told a ≡ true) ws
 all_told [] of_job = tt
-all_told (a ∷ ws) of_job = ((job_leaves a of_job.0).1, all_told ws of_job.1)
+all_told (a ∷ ws) of_job = (job_tells a of_job.0, all_told ws of_job.1)
 
 -- an end that is told nothing new has the place that it had
 pub told_same : (b : Bool) (m : Option Down) (n : ℕ) (e : End) → b ≡ false → (told_by b m n e).told ≡ e.told
@@ -137,5 +134,5 @@ told_kept_by_job l c m job now line command outs written new h shows allowed goe
     go : (d : ℕ) → Wrote (begun a) (made goes.state goes.app_outs) → ToldAt m.is_dead_at ((state_after l (m.trail ++ goes.app_outs.acts)).server_at d) (job_site app goes.app_outs goes.state d (m.site_at d))
     go d w =
         told_at_site l m app d goes.app_outs goes.state ((m.site_at d).end_at app).shown None ((m.site_at d).end_at app) h
-        (subst (λ (ws : List Act). AllByRecursion (λ y. leaves_orders y ≡ true) ws) (sym w.acts) (all_orders w.written w.of_job))
+        (subst (λ (ws : List Act). AllByRecursion (λ y. leaves_orders y ≡ true) ws) (sym w.acts) (all_leave w.written w.of_job))
         (subst (λ (ws : List Act). AllByRecursion (λ y. leaves_told y ≡ true) ws) (sym w.acts) (all_told w.written w.of_job)) (kept d) refl

@@ -102,7 +102,7 @@ leaves_same : (conns : List ℕ) (x : Site) → SameTold x (leaves_conns conns x
 leaves_same [] x app = (refl, refl)
 leaves_same (conn ∷ conns) x app = leaves_same conns (leaves_conn conn x) app
 
-server_same : (old : DataState) (now : ℕ) (input : DataIn) (outs : DataOuts) (new : DataState) (x : Site) → SameTold x (server_site old now input outs new x)
+pub server_same : (old : DataState) (now : ℕ) (input : DataIn) (outs : DataOuts) (new : DataState) (x : Site) → SameTold x (server_site old now input outs new x)
 server_same old now input outs new x app = go (leaves_same outs.cuts (hears_downs outs.frames (with_node now new (server_takes input x))) app) (takes_same input x app)
   where
     go : (((server_site old now input outs new x).end_at app).state ≡ ((server_takes input x).end_at app).state) × (((server_site old now input outs new x).end_at app).told ≡ ((server_takes input x).end_at app).told)

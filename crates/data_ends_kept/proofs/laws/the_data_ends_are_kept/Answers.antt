@@ -1,7 +1,8 @@
-use Rattle.told_kept.proofs.NodeEndsFrames.{node_ends_kept_by_inputs}
-use Rattle.told_kept.proofs.NodeEndsJobs.{node_ends_kept_by_job}
-use Rattle.told_kept.proofs.NodeEndsMoves.{node_ends_kept_by_die, node_ends_kept_by_halt, node_ends_kept_by_looked, node_ends_kept_by_tick}
-use Rattle.told_kept.proofs.laws.the_data_ends_are_kept.Goals as goal
+use Rattle.data_ends_kept.proofs.NodeEndsBegin.{node_ends_kept_by_begin}
+use Rattle.data_ends_kept.proofs.NodeEndsFrames.{node_ends_kept_by_inputs}
+use Rattle.data_ends_kept.proofs.NodeEndsJobs.{node_ends_kept_by_job}
+use Rattle.data_ends_kept.proofs.NodeEndsMoves.{node_ends_kept_by_die, node_ends_kept_by_halt, node_ends_kept_by_looked, node_ends_kept_by_tick}
+use Rattle.data_ends_kept.proofs.laws.the_data_ends_are_kept.Goals as goal
 
 pub returns-clause-ticks : goal.returns-clause-ticks
 returns-clause-ticks c = node_ends_kept_by_tick
@@ -20,3 +21,6 @@ returns-clause-commands c = node_ends_kept_by_job
 
 pub returns-clause-inputs : goal.returns-clause-inputs
 returns-clause-inputs c = node_ends_kept_by_inputs
+
+pub returns-clause-starts : goal.returns-clause-starts
+returns-clause-starts c = node_ends_kept_by_begin

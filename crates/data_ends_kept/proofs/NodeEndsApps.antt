@@ -32,10 +32,10 @@ use Rattle.cluster_steps.proofs.AppSites.{site_beside}
 use Rattle.ends_kept.proofs.PairActs.{IsOfApp}
 use Rattle.ends_kept.proofs.TablesKept.{tables_by_input}
 use Rattle.ends_kept.proofs.TablesMoves.{app_may, tables_begin}
-use Rattle.told_kept.proofs.FreshLanes.{begins_fresh}
-use Rattle.told_kept.proofs.NodeEndsMoves.{AloneStill, NodeEndsAt, NodeEndsHold, node_ends_by_acts}
-use Rattle.told_kept.proofs.NodeEndsSites.{end_alone, site_calls}
-use Rattle.told_kept.proofs.Unopened.{own_breaks}
+use Rattle.data_ends_kept.proofs.FreshLanes.{begins_fresh}
+use Rattle.data_ends_kept.proofs.NodeEndsMoves.{AloneStill, NodeEndsAt, NodeEndsHold, node_ends_by_acts}
+use Rattle.data_ends_kept.proofs.NodeEndsSites.{end_alone, site_calls}
+use Rattle.data_ends_kept.proofs.Unopened.{own_breaks}
 
 -- what an input does to a connection with such a Hello
 

@@ -38,9 +38,9 @@ use Rattle.ends_kept.proofs.TablesMoves.{app_may}
 use Rattle.ends_kept.proofs.TakenDown.{Taken, taken_down}
 use Rattle.app_rules.specs.declared.app_in.AppIn.{AppIn}
 use Rattle.cluster_steps.proofs.FrameAlone.{taken_silent}
-use Rattle.told_kept.proofs.NodeEndsInputs.{node_ends_kept_by_input}
-use Rattle.told_kept.proofs.NodeEndsApps.{PutsNothing, node_ends_kept_by_app}
-use Rattle.told_kept.proofs.NodeEndsMoves.{NodeEndsHold}
+use Rattle.data_ends_kept.proofs.NodeEndsInputs.{node_ends_kept_by_input}
+use Rattle.data_ends_kept.proofs.NodeEndsApps.{PutsNothing, node_ends_kept_by_app}
+use Rattle.data_ends_kept.proofs.NodeEndsMoves.{NodeEndsHold}
 
 -- a frame leaves the number of the connection
 

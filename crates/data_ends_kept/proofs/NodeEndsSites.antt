@@ -20,8 +20,8 @@ use Rattle.cluster_invariant.specs.Ends.{HelloAlone}
 use Rattle.cluster_invariant.specs.Link.{LaneCounts}
 use Rattle.cluster_invariant.proofs.Small.{at_places}
 use Rattle.cluster_steps.proofs.AppSites.{site_beside, site_ends}
-use Rattle.told_kept.proofs.NodeEndsBeside.{SameCalls}
-use Rattle.told_kept.proofs.NodeEndsMoves.{AloneStill, alone_by}
+use Rattle.data_ends_kept.proofs.NodeEndsBeside.{SameCalls}
+use Rattle.data_ends_kept.proofs.NodeEndsMoves.{AloneStill, alone_by}
 
 -- what was taken of a lane stays taken
 step_taken : (x : Lane) (b : Bool) (m : Option Down) (n sent : ℕ) (q : Option Session) (frames : List UpFrame) → LaneCounts x → (b ≡ true → x.began ≡ None) → ups_taken (with_app_step b m n sent q frames x) ≡ ups_taken x

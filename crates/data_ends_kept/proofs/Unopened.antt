@@ -43,9 +43,9 @@ use Rattle.cluster_steps.proofs.JobPiecesOf.{job_goes}
 use Rattle.ends_kept.proofs.PairActs.{IsAt, IsOfApp}
 use Rattle.ends_kept.proofs.TablesKept.{tables_by_input}
 use Rattle.ends_kept.proofs.TablesMoves.{app_may, tables_begin}
-use Rattle.told_kept.proofs.NodeEndsJobs.{all_breaks, job_breaks}
-use Rattle.told_kept.proofs.SameBreaks.{leaves_breaks, rows_breaks}
-use Rattle.told_kept.proofs.ToldJobs.{all_orders}
+use Rattle.data_ends_kept.proofs.NodeEndsJobs.{all_breaks, job_breaks}
+use Rattle.data_ends_kept.proofs.SameBreaks.{leaves_breaks, rows_breaks}
+use Rattle.ends_kept.proofs.OrderJobs.{all_leave}
 
 abbrev pub UnopenedAt : Server → Type 0
 UnopenedAt v = v.opened ≡ false → (app : ℕ) → v.end_at app ≡ None
@@ -128,7 +128,7 @@ unopened_kept_by_job l m app job now line command outs written new h goes = go (
     go : Wrote (begun (app_state m app)) (made goes.state goes.app_outs) → UnopenedHold l (state_after l new.trail)
     go w =
         by_written l m new written (ap (λ (n : Machine). n.trail) goes.after) (subst (λ (ws : List Act). UnopenedHold l (after_all l (state_after l m.trail) ws)) (sym (goes.acts ∙ w.acts))
-        (unopened_by_acts l (state_after l m.trail) w.written (all_orders w.written w.of_job) (all_breaks w.written w.of_job) (unopened_of l m h)))
+        (unopened_by_acts l (state_after l m.trail) w.written (all_leave w.written w.of_job) (all_breaks w.written w.of_job) (unopened_of l m h)))
 
 unopened_kept_by_app : (l : Layout) (c : CoresState) (m : Machine) (app now : ℕ) (input : AppIn) (outs : MoveOuts) (written : List Act) (new : Machine) → Holds l m → Mirrors c m → Allowed c (App app now input) → AppGoes m app now input outs written new
     → UnopenedHold l (state_after l new.trail)

@@ -36,8 +36,8 @@ use Rattle.ends_kept.proofs.OrderApps.{no_news, takes_its}
 use Rattle.ends_kept.proofs.PairTables.{line_has}
 use Rattle.ends_kept.proofs.TablesMoves.{app_may}
 use Rattle.ends_kept.proofs.TakenDown.{Taken, taken_down}
-use Rattle.told_kept.proofs.NodeEndsSites.{BeginsFresh}
-use Rattle.told_kept.proofs.ToldApps.{told_new}
+use Rattle.data_ends_kept.proofs.NodeEndsSites.{BeginsFresh}
+use Rattle.ends_kept.proofs.OrderApps.{told_new}
 
 module _ (l : Layout) (c : CoresState) (m : Machine) (app now : ℕ) (h : Holds l m) (shows : Mirrors c m) (known : app < c.layout.apps) (alive : m.is_dead_at app ≡ false)
   where

@@ -1,5 +1,5 @@
 -- The data end of a running node stays where its node does, and of the plain server what it is compared with.
-use Rattle.std.proofs.Common.{◌≡◌, ℕ, Bool, not, List, [], ◌∷◌, Option, Some, None, refl, sym, ◌∙◌, ap, if◌then◌else◌}
+use Rattle.std.proofs.Common.{◌≡◌, ℕ, not, List, [], ◌∷◌, Option, Some, None, sym, ◌∙◌, ap}
 use Rattle.std.specs.Prelude.{IfSome}
 use Rattle.std.specs.List.{AllByRecursion, filter, list_any}
 use Rattle.plain_orders.specs.Sessions.{live_sessions}
@@ -14,6 +14,7 @@ use Rattle.data_rules.specs.Conns.{link_of}
 use Rattle.cluster_runs.specs.Machine.{Site}
 use Rattle.cluster_runs.specs.Sent.{ups_taken}
 use Rattle.cluster_invariant.specs.Dials.{LinkedTo}
+use Rattle.data_ends_kept.proofs.AwaitedSessions.{same_filter}
 use Rattle.cluster_invariant.specs.Ends.{CallerIs, HelloAlone, LinkIs, NodeEnds, RoundIs, is_done, is_undone}
 
 -- what of the plain server it is compared with
@@ -31,10 +32,6 @@ link_beside v w n app server.Free s h = h
 link_beside v w n app server.Normal s h = h
 link_beside v w n app (server.Trouble broke) s h = record { out_of_round = h.out_of_round; apart = h.apart; plain = ap (λ (f : ℕ → Option ℕ). f app) s.ends ∙ h.plain }
 link_beside v w n app (server.Recovering due) s h = h
-
-same_filter : (f g : ℕ → Bool) → ((n : ℕ) → g n ≡ f n) → (ns : List ℕ) → filter g ns ≡ filter f ns
-same_filter f g same [] = refl
-same_filter f g same (n ∷ ns) = ap (λ (b : Bool). if b then n ∷ filter g ns else filter g ns) (same n) ∙ ap (λ (xs : List ℕ). if f n then n ∷ xs else xs) (same_filter f g same ns)
 
 pub round_beside : (v w : Server) (x y : Site) (n : DataState) → SameBroke v w → ((session : ℕ) → ups_taken (y.lane_at session y.past) ≡ ups_taken (x.lane_at session x.past))
     → RoundIs v n (λ session. x.lane_at session x.past) → RoundIs w n (λ session. y.lane_at session y.past)

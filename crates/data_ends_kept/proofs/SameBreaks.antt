@@ -16,7 +16,7 @@ use Rattle.plain_runs.specs.JobRows.{refused}
 use Rattle.plain_runs.specs.Step.{after}
 use Rattle.plain_runs.specs.Run.{after_all}
 use Rattle.plain_runs.proofs.RunLemmas.{at_put}
-use Rattle.told_kept.proofs.NodeEndsBeside.{SameBroke}
+use Rattle.data_ends_kept.proofs.NodeEndsBeside.{SameBroke}
 
 broke_none : (v : Server) → SameBroke v v
 broke_none v = record { ends = refl; due = refl }

@@ -31,8 +31,8 @@ use Rattle.cluster_steps.proofs.AppSites.{app_ends}
 use Rattle.cluster_steps.proofs.InputEnds.{ConnectedCame, connected_came}
 use Rattle.cluster_steps.proofs.JobEnds.{up_elsewhere}
 use Rattle.ends_kept.proofs.TablesMoves.{app_may}
-use Rattle.told_kept.proofs.NodeEndsApps.{PutsNothing, node_ends_kept_by_app, unmade}
-use Rattle.told_kept.proofs.NodeEndsMoves.{NodeEndsHold}
+use Rattle.data_ends_kept.proofs.NodeEndsApps.{PutsNothing, node_ends_kept_by_app, unmade}
+use Rattle.data_ends_kept.proofs.NodeEndsMoves.{NodeEndsHold}
 
 -- an input that is no frame
 abbrev pub IsNoFrame : AppIn → Type 0

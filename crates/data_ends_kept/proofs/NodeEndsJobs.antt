@@ -39,9 +39,9 @@ use Rattle.cluster_steps.proofs.Outcomes.{EndKept, command_told}
 use Rattle.ends_kept.proofs.OrderApps.{no_news}
 use Rattle.ends_kept.proofs.PairTables.{line_has}
 use Rattle.ends_kept.proofs.TablesKept.{normal_has}
-use Rattle.told_kept.proofs.NodeEndsMoves.{AloneStill, NodeEndsAt, NodeEndsHold, node_ends_by_acts}
-use Rattle.told_kept.proofs.NodeEndsSites.{end_alone, site_calls}
-use Rattle.told_kept.proofs.SameBreaks.{leaves_breaks}
+use Rattle.data_ends_kept.proofs.NodeEndsMoves.{AloneStill, NodeEndsAt, NodeEndsHold, node_ends_by_acts}
+use Rattle.data_ends_kept.proofs.NodeEndsSites.{end_alone, site_calls}
+use Rattle.data_ends_kept.proofs.SameBreaks.{leaves_breaks}
 
 pub job_breaks : (a : Act) → IsOfJob a → leaves_breaks a ≡ true
 job_breaks (Opened e entries) of_job = absurd of_job

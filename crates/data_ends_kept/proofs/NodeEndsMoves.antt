@@ -24,8 +24,8 @@ use Rattle.cluster_invariant.specs.Dials.{LinkedTo}
 use Rattle.cluster_invariant.specs.Ends.{HelloAlone, NodeEnds}
 use Rattle.cluster_invariant.specs.Holds.{Holds}
 use Rattle.cluster_invariant.proofs.Frame.{kept_by_tick, others_left}
-use Rattle.told_kept.proofs.NodeEndsBeside.{SameCalls, some_beside}
-use Rattle.told_kept.proofs.SameBreaks.{leaves_breaks, rows_breaks}
+use Rattle.data_ends_kept.proofs.NodeEndsBeside.{SameCalls, some_beside}
+use Rattle.data_ends_kept.proofs.SameBreaks.{leaves_breaks, rows_breaks}
 
 -- the data end of a site's node
 abbrev pub NodeEndsAt : Server → Site → Type 0

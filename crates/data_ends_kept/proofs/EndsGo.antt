@@ -1,0 +1,114 @@
+-- All that goes along of a node's ends as a step of it is made, over those small changes that several things come together in.
+use Rattle.std.proofs.Common.{◌≡◌, ◌≢◌, ℕ, Bool, true, false, List, [], ◌∷◌, ◌++◌, length, Option, Some, None, is_some, option_map, refl, sym, ◌∙◌, ap, subst, if◌then◌else◌}
+use Rattle.std.specs.Prelude.{IfSome}
+use Rattle.std.specs.List.{find}
+use Rattle.std.proofs.lemmas.Bool.{ne_eqb}
+use Rattle.plain_orders.specs.declared.causes.ShutCause.{ShutCause}
+use Rattle.plain_orders.specs.declared.causes.ShutCause.TheVariants as causes
+use Rattle.plain_orders.specs.declared.entry.Entry.{Entry}
+use Rattle.plain_orders.specs.declared.entry.Entry.TheVariants.{Closed, Opened}
+use Rattle.plain_orders.specs.Ordered.{IsOrdered}
+use Rattle.link_states.specs.declared.data_link.DataLink.{DataLink}
+use Rattle.plain_orders.specs.Entries.{last_epoch, live_session, unless_closed}
+use Rattle.plain_orders.proofs.EntryLemmas.{live_session-push}
+use Rattle.plain_runs.specs.Plain.{Server}
+use Rattle.recovery_round.specs.RoundWords.{Round, without}
+use Rattle.data_rules.specs.DataState.{DataState}
+use Rattle.data_rules.specs.declared.rows.Caller.{Caller}
+use Rattle.data_rules.specs.declared.rows.Conn.{Conn}
+use Rattle.data_rules.specs.declared.rows.Role.TheVariants.{Bound, Closing, Waiting}
+use Rattle.data_rules.specs.Conns.{is_conn, drops_conn}
+use Rattle.data_rules.specs.Puts.{Sofar}
+use Rattle.cluster_invariant.specs.Ends.{due_in}
+use Rattle.cluster_invariant.proofs.PieceMay.{Coming}
+use Rattle.data_ends_kept.proofs.CallersGo.{CallersOf, callers_role}
+use Rattle.data_ends_kept.proofs.CallerPieces.{callers_dropped, dropped_callers}
+use Rattle.data_ends_kept.proofs.ClosePieces.{closed_callers, closed_conns}
+use Rattle.data_ends_kept.proofs.ConnLists.{Differ, conn_for, role_at}
+use Rattle.data_ends_kept.proofs.LinksGo.{LinksGo, SameCore, link_same, links_stay}
+use Rattle.data_ends_kept.proofs.RoundOn.{RoundOn, ends_round, on_beside}
+
+-- the ends, the Hellos that wait, and, where no round ends, that none is over
+pub record EndsGo (t : Coming) (d : ℕ) (v : Server) (n : DataState) : Type 0 where
+  pub links : LinksGo d v n
+  pub callers : CallersOf n.conns n.order n.callers
+  pub on : ends_round t.input ≡ false → RoundOn n
+
+-- the Hellos of a state whose parts are these
+pub callers_as : (k : DataState) (cs : List Conn) (es : List Entry) (ws : List Caller) → k.conns ≡ cs → k.order ≡ es → k.callers ≡ ws → CallersOf cs es ws → CallersOf k.conns k.order k.callers
+callers_as k cs es ws conns order callers h =
+    subst (λ (xs : List Conn). CallersOf xs k.order k.callers) (sym conns)
+    (subst (λ (xs : List Entry). CallersOf cs xs k.callers) (sym order) (subst (λ (xs : List Caller). CallersOf cs es xs) (sym callers) h))
+
+-- the Hellos stay where nothing of the ends changes
+pub callers_core : (n k : DataState) → SameCore n k → CallersOf n.conns n.order n.callers → CallersOf k.conns k.order k.callers
+callers_core n k s h = callers_as k n.conns n.order n.callers s.conns s.order s.callers h
+
+-- and so does the round
+pub on_core : (n k : DataState) → SameCore n k → RoundOn n → RoundOn k
+on_core n k s h = on_beside n k s.synced s.order s.round (λ none. s.callers ∙ none) h
+
+-- none waits in any list where none does in one
+pub callers_none : (cs : List Conn) (es fs : List Entry) (ws : List Caller) → ws ≡ [] → CallersOf cs es ws → CallersOf cs fs ws
+callers_none cs es fs ws none h =
+    subst (CallersOf cs fs) (sym none) (go (subst (CallersOf cs es) none h))
+  where
+    go : CallersOf cs es [] → CallersOf cs fs []
+    go g = record { each = tt; one_each = refl; apart = refl; all = g.all }
+
+-- a connection that is dropped takes its Hello along
+pub dropped_waiting : (o : Option ℕ) (b : Sofar) → (drops_conn o b).state.callers ≡ dropped_callers o b.state.callers
+dropped_waiting None b = refl
+dropped_waiting (Some w) b = refl
+
+pub dropped_none : (o : Option ℕ) (ws : List Caller) → ws ≡ [] → dropped_callers o ws ≡ []
+dropped_none None ws none = none
+dropped_none (Some w) ws none = ap (dropped_callers (Some w)) none
+
+-- the Hellos as a session is closed
+pub callers_close : (cause : ShutCause) (o : Option ℕ) (s : ℕ) (cs : List Conn) (es : List Entry) (ws : List Caller) → ((w : ℕ) → o ≡ Some w → (role_at w cs ≡ Some (Bound s)) × (is_some (find (is_conn w) cs) ≡ true))
+    → CallersOf cs es ws → CallersOf (closed_conns cause o s cs) es (closed_callers cause o ws)
+callers_close (causes.Trouble time) None s cs es ws its h = h
+callers_close (causes.Trouble time) (Some conn) s cs es ws its h =
+    callers_role conn (Closing s) cs es ws (λ waits. (let both : Some (Bound s) ≡ Some Waiting = sym (its conn refl).0 ∙ waits in cc)) (λ same. absurd cc) (its conn refl).1 h
+callers_close causes.Replaced None s cs es ws its h = h
+callers_close causes.Replaced (Some conn) s cs es ws its h = callers_dropped (Some conn) cs es ws h
+callers_close (causes.Round time) None s cs es ws its h = h
+callers_close (causes.Round time) (Some conn) s cs es ws its h =
+    callers_role conn (Closing s) cs es ws (λ waits. (let both : Some (Bound s) ≡ Some Waiting = sym (its conn refl).0 ∙ waits in cc)) (λ same. absurd cc) (its conn refl).1 h
+
+-- no session comes of a Close
+pub close_still : (es : List Entry) (s a : ℕ) → live_session es a ≡ None → live_session (es ++ Closed s ∷ []) a ≡ None
+close_still es s a none = live_session-push es (Closed s) a ∙ ap (unless_closed s) none
+
+-- an Open is of its own application server
+pub open_still : (es : List Entry) (s app a : ℕ) → a ≢ app → live_session es a ≡ None → live_session (es ++ Opened s app ∷ []) a ≡ None
+open_still es s app a differs none =
+    live_session-push es (Opened s app) a ∙ ap (λ (b : Bool). if b then Some s else live_session es a) (ne_eqb app a (λ same. differs (sym same))) ∙ none
+
+-- a session that isn't awaited any more
+pub links_unawaited : (d : ℕ) (v : Server) (n k : DataState) (s : ℕ) → k.server ≡ n.server → k.order ≡ n.order → k.links ≡ n.links → k.conns ≡ n.conns → k.round ≡ option_map (λ r. without r s) n.round
+    → LinksGo d v n → LinksGo d v k
+links_unawaited d v n k s server order links conns round h = record {
+  server = server ∙ h.server;
+  ordered = subst IsOrdered (sym order) h.ordered;
+  started = subst (λ (es : List Entry). last_epoch es ≢ 0) (sym order) h.started;
+  order = h.order ∙ sym order;
+  differ = subst Differ (sym conns) h.differ;
+  places = ap (λ (ls : List DataLink). length ls) links ∙ h.places;
+  links = links_stay v v n k links
+      (λ app link is. link_same v v n k app link (λ broke at. refl) due (ap (λ (es : List Entry). live_session es app) order) (λ q at. ap (conn_for q) conns) is) h.links;
+  due = due ∙ h.due;
+  unbroken = subst (λ (o : Option Round). IfSome o (λ r. (app : ℕ) → v.end_at app ≡ None)) (sym round) (go n.round h.unbroken);
+}
+  where
+    same_due : (o : Option Round) → option_map due_in (option_map (λ r. without r s) o) ≡ option_map due_in o
+    same_due None = refl
+    same_due (Some r) = refl
+
+    due : option_map due_in k.round ≡ option_map due_in n.round
+    due = ap (option_map due_in) round ∙ same_due n.round
+
+    go : (o : Option Round) → IfSome o (λ r. (app : ℕ) → v.end_at app ≡ None) → IfSome (option_map (λ r. without r s) o) (λ r. (app : ℕ) → v.end_at app ≡ None)
+    go None u = tt
+    go (Some r) u = u
