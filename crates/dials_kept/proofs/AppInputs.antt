@@ -1,5 +1,5 @@
 -- The part on connections for an application server's input: at each data server by itself, and where its end's connection goes on.
-use Rattle.std.proofs.Common.{◌≡◌, ℕ, Bool, true, false, List, [], ◌++◌, length, Option, option_map, sym, ◌∙◌, ap, subst, ◌≤◌}
+use Rattle.std.proofs.Common.{◌≡◌, ◌≤◌, ℕ, Bool, true, false, not, ◌==◌, List, [], ◌++◌, length, Option, Some, None, option_map, if◌then◌else◌, refl, sym, ◌∙◌, ap, subst}
 use Rattle.std.specs.Prelude.{IfSome}
 use Rattle.std.specs.List.{AllByRecursion, list_all}
 use Rattle.plain_orders.specs.declared.act.Act.{Act}
@@ -22,12 +22,12 @@ use Rattle.cluster_runs.specs.Moves.{Allowed}
 use Rattle.cluster_runs.specs.Mirrors.{Mirrors}
 use Rattle.cluster_runs.specs.Sent.{Connection, Place}
 use Rattle.cluster_runs.specs.Machine.{Machine, Site, End, app_state}
-use Rattle.cluster_runs.specs.Connections.{knows, leaves_if, with_ups}
+use Rattle.cluster_runs.specs.Connections.{knows, at_number, leaves_if, with_ups}
 use Rattle.cluster_runs.specs.Goes.{AppGoes, app_end, app_site, input_site, with_state}
 use Rattle.cluster_runs.specs.Lanes.{is_told_new}
 use Rattle.cluster_invariant.specs.Dials.{DialsAre, PairDials, KnowsStill, is_following}
 use Rattle.cluster_invariant.specs.Holds.{Holds}
-use Rattle.cluster_invariant.specs.Words.{NoLess}
+use Rattle.cluster_invariant.specs.Words.{NoLess, has_wire, is_wire}
 use Rattle.cluster_invariant.proofs.AppActs.{Leaves, app_step_leaves}
 use Rattle.cluster_invariant.proofs.OrderBeside.{leaves_orders}
 use Rattle.cluster_steps.proofs.AppSites.{site_ends}
@@ -140,3 +140,30 @@ passes_grows x y same false us z q is follow alone = record {
   first = is.first;
   data_left = λ taken at. is.data_left ∙ at ∙ sym (left_same x y same z.first);
 }
+
+-- Two changes of the last connection.
+pub changed_twice : (g k : Connection → Connection) (t : AppEnd) (shown : Shown) (e : End)
+    → at_number t.dial k (with_state t shown (at_number t.dial g e)) ≡ changed (λ c. k (g c)) t shown e
+changed_twice g k t shown e = ap (λ (f : ℕ → Option Connection). record (with_state t shown e) { connection_at = f }) (λ i n. point n i)
+  where
+    both : (o : Option Connection) → option_map k (option_map g o) ≡ option_map (λ c. k (g c)) o
+    both None = refl
+    both (Some c) = refl
+
+    point : (n : ℕ)
+        → (if n == t.dial then option_map k (if n == t.dial then option_map g (e.connection_at n) else e.connection_at n)
+        else (if n == t.dial then option_map g (e.connection_at n) else e.connection_at n))
+        ≡ (if n == t.dial then option_map (λ c. k (g c)) (e.connection_at n) else e.connection_at n)
+    point n = go (n == t.dial)
+      where
+        go : (b : Bool)
+            → (if b then option_map k (if b then option_map g (e.connection_at n) else e.connection_at n)
+            else (if b then option_map g (e.connection_at n) else e.connection_at n))
+            ≡ (if b then option_map (λ c. k (g c)) (e.connection_at n) else e.connection_at n)
+        go true = both (e.connection_at n)
+        go false = refl
+
+-- an end without a connection
+pub unwired : (t : AppEnd) → has_wire t.line ≡ false → (dead : Bool) → is_wire dead t t.dial ≡ false
+unwired t is true = refl
+unwired t is false = ap (λ (b : Bool). if b then t.dial == t.dial else false) is

@@ -105,7 +105,7 @@ crashed_order v clock round kept k low =
 crashed_current : (v : Server) (clock round kept : ℕ) → current (crashed clock round v kept) ≡ current v + 1
 crashed_current v clock round kept = omega (arith, length-append v.past (v.order ∷ []))
 
-order_now : (v : Server) → order_at v (current v) ≡ v.order
+pub order_now : (v : Server) → order_at v (current v) ≡ v.order
 order_now v = ap (λ (n : ℕ). get_or (v.past ++ v.order ∷ []) n []) (omega arith) ∙ get_or-append-add v.past (v.order ∷ []) 0 []
 
 past_stays : (v : Server) (k : ℕ) → k ≢ current v → stays_at v k ≡ epoch_place (order_at v (k + 1)) - 1

@@ -17,13 +17,12 @@ use Rattle.cluster_steps.proofs.AppSites.{app_ends}
 use Rattle.cluster_steps.proofs.FrameEnds.{ended_from}
 use Rattle.cluster_steps.proofs.InputEnds.{broken_came}
 use Rattle.ends_kept.proofs.TablesMoves.{app_may}
-use Rattle.dials_kept.proofs.AppInputs.{dials_by_app, dials_with_change, passes_grows}
+use Rattle.dials_kept.proofs.AppInputs.{changed_twice, dials_by_app, dials_with_change, passes_grows, unwired}
 use Rattle.dials_kept.proofs.QuietMoves.{knows_quiet, none_new, passes_same, took_quiet, wireless_still}
 use Rattle.app_rules.specs.declared.line.Line.{Line}
 use Rattle.app_rules.specs.declared.line.Line.TheVariants.{Apart, Trying, Greeting, Asking, Joined}
 use Rattle.app_rules.specs.declared.up_frames.UpOut.{UpOut}
 use Rattle.app_rules.specs.AppState.{AppState, AppEnd, Session}
-use Rattle.app_rules.specs.Looks.{Shown}
 use Rattle.app_rules.specs.Works.{Sofar, begun, end_at}
 use Rattle.cluster_runs.specs.declared.move_outs.MoveOuts.{MoveOuts}
 use Rattle.cluster_runs.specs.declared.moves.Move.TheVariants.{App}
@@ -50,10 +49,6 @@ record EndedEnd (gone : Bool) (e t : AppEnd) : Type 0 where
   session : t.session ≡ e.session
   line : (t.line ≡ e.line) ⊎ (has_wire t.line ≡ false)
   left : (dead : Bool) (z : Connection) → z.app_left ≡ not (is_wire dead e t.dial) → (leaves_if gone z).app_left ≡ not (is_wire dead t t.dial)
-
-unwired : (t : AppEnd) → has_wire t.line ≡ false → (dead : Bool) → is_wire dead t t.dial ≡ false
-unwired t is true = refl
-unwired t is false = ap (λ (b : Bool). if b then t.dial == t.dial else false) is
 
 ended_end : (line : Line) (times : Times) (now : ℕ) (e : AppEnd) → e.line ≡ line → EndedEnd true e (ended_from line times now e)
 ended_end Apart times now e is = record {
@@ -115,28 +110,6 @@ broken_cuts d now b = go (end_at b.state d).line
     go Greeting = refl
     go Asking = refl
     go Joined = refl
-
--- two changes of the last connection
-changed_twice : (g k : Connection → Connection) (t : AppEnd) (shown : Shown) (e : End)
-    → at_number t.dial k (with_state t shown (at_number t.dial g e)) ≡ changed (λ c. k (g c)) t shown e
-changed_twice g k t shown e = ap (λ (f : ℕ → Option Connection). record (with_state t shown e) { connection_at = f }) (λ i n. point n i)
-  where
-    both : (o : Option Connection) → option_map k (option_map g o) ≡ option_map (λ c. k (g c)) o
-    both None = refl
-    both (Some c) = refl
-
-    point : (n : ℕ)
-        → (if n == t.dial then option_map k (if n == t.dial then option_map g (e.connection_at n) else e.connection_at n)
-        else (if n == t.dial then option_map g (e.connection_at n) else e.connection_at n))
-        ≡ (if n == t.dial then option_map (λ c. k (g c)) (e.connection_at n) else e.connection_at n)
-    point n = go (n == t.dial)
-      where
-        go : (b : Bool)
-            → (if b then option_map k (if b then option_map g (e.connection_at n) else e.connection_at n)
-            else (if b then option_map g (e.connection_at n) else e.connection_at n))
-            ≡ (if b then option_map (λ c. k (g c)) (e.connection_at n) else e.connection_at n)
-        go true = both (e.connection_at n)
-        go false = refl
 
 -- A connection that ended keeps it.
 pub dials_kept_by_broken : (l : Layout) (c : CoresState) (m : Machine) (app now ended : ℕ) (outs : MoveOuts) (written : List Act) (new : Machine)
