@@ -1,14 +1,12 @@
 -- The part on connections, for a connection of an application server that ended.
-use Rattle.std.proofs.Common.{◌≡◌, ◌⊎◌, ℕ, Bool, true, false, not, ◌==◌, List, [], ◌++◌, Option, Some, None, option_map, if◌then◌else◌, refl, sym, ◌∙◌, ap, subst, inl, inr, eqb-true}
+use Rattle.std.proofs.Common.{◌≡◌, ◌⊎◌, ℕ, Bool, true, false, not, ◌==◌, List, [], Option, Some, None, option_map, if◌then◌else◌, refl, sym, ◌∙◌, ap, subst, inl, inr, eqb-true}
 use Rattle.std.specs.Prelude.{IfSome}
-use Rattle.std.specs.List.{AllByRecursion}
 use Rattle.std.proofs.lemmas.Bool.{false≢true, eq-eqb}
 use Rattle.std.proofs.lemmas.List.{append-nil}
 use Rattle.plain_orders.specs.declared.act.Act.{Act}
 use Rattle.plain_orders.specs.declared.layout.Layout.{Layout}
-use Rattle.plain_runs.specs.Plain.{Plain, Server, start}
-use Rattle.plain_runs.specs.Run.{IsRun, RunFrom, after_all, state_after}
-use Rattle.plain_runs.proofs.RunLemmas.{run_parts, after_all-append}
+use Rattle.plain_runs.specs.Plain.{Plain, Server}
+use Rattle.plain_runs.specs.Run.{IsRun, after_all, state_after}
 use Rattle.app_rules.specs.declared.app_in.AppIn.{AppIn}
 use Rattle.app_rules.specs.declared.app_in.AppIn.TheVariants as app_in
 use Rattle.plain_orders.specs.declared.layout.Times.{Times}
@@ -19,36 +17,29 @@ use Rattle.cluster_steps.proofs.AppSites.{app_ends}
 use Rattle.cluster_steps.proofs.FrameEnds.{ended_from}
 use Rattle.cluster_steps.proofs.InputEnds.{broken_came}
 use Rattle.ends_kept.proofs.TablesMoves.{app_may}
-use Rattle.dials_kept.proofs.QuietMoves.{knows_quiet, none_new, took_quiet, wireless_still}
+use Rattle.dials_kept.proofs.AppInputs.{changed_twice, dials_by_app, dials_with_change, passes_grows, unwired}
+use Rattle.dials_kept.proofs.QuietMoves.{knows_quiet, none_new, passes_same, took_quiet, wireless_still}
 use Rattle.app_rules.specs.declared.line.Line.{Line}
 use Rattle.app_rules.specs.declared.line.Line.TheVariants.{Apart, Trying, Greeting, Asking, Joined}
 use Rattle.app_rules.specs.declared.up_frames.UpOut.{UpOut}
 use Rattle.app_rules.specs.AppState.{AppState, AppEnd, Session}
-use Rattle.app_rules.specs.AppStep.{made}
-use Rattle.app_rules.specs.Looks.{Shown}
 use Rattle.app_rules.specs.Works.{Sofar, begun, end_at}
 use Rattle.cluster_runs.specs.declared.move_outs.MoveOuts.{MoveOuts}
 use Rattle.cluster_runs.specs.declared.moves.Move.TheVariants.{App}
 use Rattle.cluster_runs.specs.CoresState.{CoresState}
 use Rattle.cluster_runs.specs.Moves.{Allowed}
 use Rattle.cluster_runs.specs.Mirrors.{Mirrors}
-use Rattle.cluster_runs.specs.Sent.{Connection, Knew, Place}
+use Rattle.cluster_runs.specs.Sent.{Connection, Knew}
 use Rattle.cluster_runs.specs.Machine.{Machine, Site, End, app_state, end_state}
 use Rattle.cluster_runs.specs.Connections.{knows, knows_of, with_ups, at_number, carries_up}
 use Rattle.cluster_runs.specs.Goes.{AppGoes, app_end, app_takes, input_site, message_from, with_state}
 use Rattle.cluster_runs.specs.Lanes.{is_told_new, told_by}
-use Rattle.cluster_invariant.specs.Dials.{DialsAre, PairDials, KnowsStill}
+use Rattle.cluster_invariant.specs.Dials.{DialsAre, KnowsStill}
 use Rattle.cluster_invariant.specs.Holds.{Holds}
 use Rattle.cluster_invariant.specs.Words.{NoLess, is_wire, has_wire}
-use Rattle.cluster_invariant.proofs.AppActs.{Leaves, app_step_leaves}
-use Rattle.cluster_invariant.proofs.OrderBeside.{leaves_orders}
-use Rattle.cluster_steps.proofs.AppSites.{site_ends}
-use Rattle.ends_kept.proofs.AppRuns.{run_kept_by_app}
-use Rattle.dials_kept.proofs.ConnectionsGrow.{StaysKnown, Grows, GrowTo}
-use Rattle.dials_kept.proofs.NodesGrow.{SameNode}
-use Rattle.dials_kept.proofs.ShortDials.{EachDials, left_same, still_mapped}
-use Rattle.dials_kept.proofs.ToldStays.{known_by_acts}
-use Rattle.dials_kept.proofs.QuietEnds.{TookMore, Changes, changed, quiet_site, dials_with_end, grow_changed, pair_changed}
+use Rattle.dials_kept.proofs.ConnectionsGrow.{StaysKnown, Grows}
+use Rattle.dials_kept.proofs.ShortDials.{EachDials, still_mapped}
+use Rattle.dials_kept.proofs.QuietEnds.{TookMore, Changes, changed}
 use Rattle.dials_kept.proofs.JobDials.{lane_taken}
 
 -- An end whose connection ended, or that is as it was: whether it left, and what stays.
@@ -58,10 +49,6 @@ record EndedEnd (gone : Bool) (e t : AppEnd) : Type 0 where
   session : t.session ≡ e.session
   line : (t.line ≡ e.line) ⊎ (has_wire t.line ≡ false)
   left : (dead : Bool) (z : Connection) → z.app_left ≡ not (is_wire dead e t.dial) → (leaves_if gone z).app_left ≡ not (is_wire dead t t.dial)
-
-unwired : (t : AppEnd) → has_wire t.line ≡ false → (dead : Bool) → is_wire dead t t.dial ≡ false
-unwired t is true = refl
-unwired t is false = ap (λ (b : Bool). if b then t.dial == t.dial else false) is
 
 ended_end : (line : Line) (times : Times) (now : ℕ) (e : AppEnd) → e.line ≡ line → EndedEnd true e (ended_from line times now e)
 ended_end Apart times now e is = record {
@@ -124,36 +111,12 @@ broken_cuts d now b = go (end_at b.state d).line
     go Asking = refl
     go Joined = refl
 
--- two changes of the last connection
-changed_twice : (g k : Connection → Connection) (t : AppEnd) (shown : Shown) (e : End)
-    → at_number t.dial k (with_state t shown (at_number t.dial g e)) ≡ changed (λ c. k (g c)) t shown e
-changed_twice g k t shown e = ap (λ (f : ℕ → Option Connection). record (with_state t shown e) { connection_at = f }) (λ i n. point n i)
-  where
-    both : (o : Option Connection) → option_map k (option_map g o) ≡ option_map (λ c. k (g c)) o
-    both None = refl
-    both (Some c) = refl
-
-    point : (n : ℕ)
-        → (if n == t.dial then option_map k (if n == t.dial then option_map g (e.connection_at n) else e.connection_at n)
-        else (if n == t.dial then option_map g (e.connection_at n) else e.connection_at n))
-        ≡ (if n == t.dial then option_map (λ c. k (g c)) (e.connection_at n) else e.connection_at n)
-    point n = go (n == t.dial)
-      where
-        go : (b : Bool)
-            → (if b then option_map k (if b then option_map g (e.connection_at n) else e.connection_at n)
-            else (if b then option_map g (e.connection_at n) else e.connection_at n))
-            ≡ (if b then option_map (λ c. k (g c)) (e.connection_at n) else e.connection_at n)
-        go true = both (e.connection_at n)
-        go false = refl
-
 -- A connection that ended keeps it.
 pub dials_kept_by_broken : (l : Layout) (c : CoresState) (m : Machine) (app now ended : ℕ) (outs : MoveOuts) (written : List Act) (new : Machine)
     → Holds l m → IsRun l m.trail → Mirrors c m → Allowed c (App app now (app_in.Broken ended)) → AppGoes m app now (app_in.Broken ended) outs written new
     → EachDials l (state_after l new.trail) new
 dials_kept_by_broken l c m app now ended outs written new h run shows allowed goes =
-    subst (λ (n : Machine). EachDials l (state_after l n.trail) n) (sym goes.after)
-    (subst (λ (ws : List Act). (d : ℕ) → DialsAre ((state_after l (m.trail ++ ws)).server_at d) (site d) m.is_dead_at) (sym goes.acts)
-    (λ d. subst (λ (q : Plain). DialsAre (q.server_at d) (site d) m.is_dead_at) (sym (after_all-append l start m.trail goes.app_outs.acts)) (each d)))
+    dials_by_app l c m app now (app_in.Broken ended) outs written new h run shows allowed goes each
   where
     p : Plain
     p = state_after l m.trail
@@ -184,46 +147,20 @@ dials_kept_by_broken l c m app now ended outs written new h run shows allowed go
             (sym ((steps_at_one_end a goes.state now input goes.app_outs goes.steps).1 d (λ same. false≢true (sym is ∙ eq-eqb ended d (sym same)))))
             (same_end (end_at a d))
 
-    site : ℕ → Site
-    site d = input_site app input goes.app_outs goes.state goes.shown d (m.site_at d)
-
     alive : m.is_dead_at app ≡ false
     alive = sym (shows.dead app) ∙ allowed.alive
 
-    joined : IsRun l (m.trail ++ goes.app_outs.acts)
-    joined =
-        subst (λ (ws : List Act). IsRun l (m.trail ++ ws)) goes.acts
-        (subst (λ (n : Machine). IsRun l n.trail) goes.after (run_kept_by_app l c m app now input outs written new h run shows allowed goes))
-
-    ran : RunFrom l p goes.app_outs.acts
-    ran = (run_parts l start m.trail goes.app_outs.acts joined).1
-
-    known : (d : ℕ) → StaysKnown (p.server_at d) ((after_all l p goes.app_outs.acts).server_at d)
-    known d = go (app_step_leaves (begun (app_state m app)) now input (made goes.state goes.app_outs) goes.steps)
-      where
-        go : Leaves (begun (app_state m app)) (made goes.state goes.app_outs) → StaysKnown (p.server_at d) ((after_all l p goes.app_outs.acts).server_at d)
-        go w = known_by_acts l p goes.app_outs.acts ran (subst (λ (ws : List Act). AllByRecursion (λ y. leaves_orders y ≡ true) ws) (sym w.acts) w.leaves) d
-
-    each : (d : ℕ) → DialsAre ((after_all l p goes.app_outs.acts).server_at d) (site d) m.is_dead_at
-    each d =
-        dials_with_end v w x y m.is_dead_at app f (site_ends app d goes.app_outs e.state t (message_from d input) f x) same (known d)
-        (subst (λ (z : End). (number : ℕ) → GrowTo x w y app number e (e.connection_at number) (z.connection_at number)) (sym moved)
-        (λ number. grow_changed x y w app number (m.is_dead_at app) e t (goes.shown d) g same.connections changes))
-        (subst (λ (z : End). NoLess (knows e) (knows z)) (sym moved) knew)
-        (subst (λ (z : End). PairDials w y (m.is_dead_at app) app z) (sym moved)
-        (pair_changed v w x y app (m.is_dead_at app) e t (goes.shown d) g (known d) same (goes_on d).dial knew changes still (is.pairs app))) is
+    each : (d : ℕ) → StaysKnown (p.server_at d) ((after_all l p goes.app_outs.acts).server_at d)
+        → DialsAre ((after_all l p goes.app_outs.acts).server_at d) (input_site app input goes.app_outs goes.state goes.shown d (m.site_at d)) m.is_dead_at
+    each d later =
+        dials_with_change v ((after_all l p goes.app_outs.acts).server_at d) x m.is_dead_at app d goes.app_outs t (goes.shown d) (message_from d input) came g moved
+        nothing took (goes_on d).dial knew (λ y same. puts y same (e.connection_at t.dial) ((is.pairs app).left t.dial)) still later is
       where
         v : Server
         v = p.server_at d
 
-        w : Server
-        w = (after_all l p goes.app_outs.acts).server_at d
-
         x : Site
         x = m.site_at d
-
-        y : Site
-        y = site d
 
         e : End
         e = x.end_at app
@@ -233,9 +170,6 @@ dials_kept_by_broken l c m app now ended outs written new h run shows allowed go
 
         is : DialsAre v x m.is_dead_at
         is = (h.sites d).dials
-
-        f : End
-        f = app_end d goes.app_outs e.state t (goes.shown d) (message_from d input) (app_takes d input e.state.dial e)
 
         leaves : Bool → Connection → Connection
         leaves b z = with_ups [] (leaves_if b z)
@@ -256,56 +190,25 @@ dials_kept_by_broken l c m app now ended outs written new h run shows allowed go
         came : End
         came = app_takes d input e.state.dial e
 
-        moved : f ≡ changed g t (goes.shown d) e
+        moved : app_end d goes.app_outs e.state t (goes.shown d) (message_from d input) came ≡ changed g t (goes.shown d) e
         moved =
             ap (λ (b : Bool). carries_up d t.dial goes.app_outs.frames goes.app_outs.cuts (told_by b (message_from d input) e.state.dial (with_state t (goes.shown d) came))) nothing
             ∙ ap (λ (cs : List ℕ). carries_up d t.dial goes.app_outs.frames cs (with_state t (goes.shown d) came)) cuts
             ∙ ap (λ (us : List UpOut). carries_up d t.dial us [] (with_state t (goes.shown d) came)) frames
             ∙ twice (ended == d)
 
-        told : f.told ≡ e.told
-        told = ap (λ (z : End). z.told) moved
-
-        same : SameNode x y
-        same =
-            quiet_site app d goes.app_outs e.state t (message_from d input) f x nothing
-            (subst (λ (o : Option Place). TookMore x t.session o) (sym told)
-            (took_quiet x e.state.session t.session e.told (inl (goes_on d).session)
-            (lane_taken v x app e.state.session e.told ((h.sites d).ends.told app alive).place ((h.sites d).link.apps app alive).window)))
+        took : TookMore x t.session e.told
+        took =
+            took_quiet x e.state.session t.session e.told (inl (goes_on d).session)
+            (lane_taken v x app e.state.session e.told ((h.sites d).ends.told app alive).place ((h.sites d).link.apps app alive).window)
 
         knew : NoLess (knows e) (knows (with_state t (goes.shown d) e))
         knew =
             knows_quiet e.state.session t.session e.told e.state.told t.told (goes_on d).told (inl (goes_on d).session) ((h.sites d).ends.told app alive).newest
 
-        grown : (b : Bool) (z : Connection) → Grows x y z (leaves b z)
-        grown true z = record {
-          more = [];
-          ups = refl;
-          follow = refl;
-          alone = λ none. refl;
-          ups_taken = refl;
-          downs = refl;
-          within = λ low. low;
-          linked = refl;
-          its = refl;
-          knew = refl;
-          first = refl;
-          data_left = λ taken at. at ∙ sym (left_same x y same.connections z.first);
-        }
-        grown false z = record {
-          more = [];
-          ups = refl;
-          follow = refl;
-          alone = λ none. refl;
-          ups_taken = refl;
-          downs = refl;
-          within = λ low. low;
-          linked = refl;
-          its = refl;
-          knew = refl;
-          first = refl;
-          data_left = λ taken at. at ∙ sym (left_same x y same.connections z.first);
-        }
+        grown : (y : Site) → y.connection_at ≡ x.connection_at → (b : Bool) (z : Connection) → Grows x y z (leaves b z)
+        grown y same true z = passes_grows x y same true [] z z (passes_same z) refl (λ none. refl)
+        grown y same false z = passes_grows x y same false [] z z (passes_same z) refl (λ none. refl)
 
         leaves_knew : (b : Bool) (z : Connection) → (leaves b z).knew ≡ z.knew
         leaves_knew true z = refl
@@ -315,12 +218,10 @@ dials_kept_by_broken l c m app now ended outs written new h run shows allowed go
         leaves_ups true z = append-nil z.ups
         leaves_ups false z = append-nil z.ups
 
-        puts : (o : Option Connection) → IfSome o (λ z. z.app_left ≡ not (is_wire (m.is_dead_at app) e.state t.dial)) → IfSome o (Changes x y (m.is_dead_at app) g t e)
-        puts None left = tt
-        puts (Some z) left = record { grows = grown (ended == d) z; left = (goes_on d).left (m.is_dead_at app) z left }
-
-        changes : IfSome (e.connection_at t.dial) (Changes x y (m.is_dead_at app) g t e)
-        changes = puts (e.connection_at t.dial) ((is.pairs app).left t.dial)
+        puts : (y : Site) → y.connection_at ≡ x.connection_at → (o : Option Connection) → IfSome o (λ z. z.app_left ≡ not (is_wire (m.is_dead_at app) e.state t.dial))
+            → IfSome o (Changes x y (m.is_dead_at app) g t e)
+        puts y same None left = tt
+        puts y same (Some z) left = record { grows = grown y same (ended == d) z; left = (goes_on d).left (m.is_dead_at app) z left }
 
         still : KnowsStill t.line (knows (with_state t (goes.shown d) e)) (option_map g (e.connection_at t.dial))
         still = go (goes_on d).line

@@ -98,7 +98,7 @@ GrowTo x w y app number e (Some c) (Some d) = Grows x y c d
 follow_joined : (fs gs : List UpFrame) → list_all is_following fs ≡ true → list_all is_following gs ≡ true → list_all is_following (fs ++ gs) ≡ true
 follow_joined fs gs a b = list_all-append is_following fs gs ∙ ap (λ (t : Bool). t && list_all is_following gs) a ∙ b
 
-message_later : (v w : Server) → StaysKnown v w → (app dial s : ℕ) (o : Option Mark) → IfSome o (λ m. m.order ≤ current v)
+pub message_later : (v w : Server) → StaysKnown v w → (app dial s : ℕ) (o : Option Mark) → IfSome o (λ m. m.order ≤ current v)
     → first_message w app dial s o ≡ first_message v app dial s o
 message_later v w later app dial s None low = refl
 message_later v w later app dial s (Some m) low = ap (λ (e : ℕ). Recover app s e m.taken dial) (later.last m.order low)

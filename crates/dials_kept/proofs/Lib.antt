@@ -5,8 +5,10 @@ pub mod BeginDials
 pub mod ToldStays
 pub mod QuietEnds
 pub mod JobDials
+pub mod AppInputs
 pub mod QuietMoves
 pub mod InputDials
 pub mod BrokenDials
 pub mod MadeConnections
 pub mod ConnectedPairs
+pub mod ConnectedDials

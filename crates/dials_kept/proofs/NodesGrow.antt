@@ -15,7 +15,7 @@ use Rattle.cluster_runs.specs.CoresState.{Linked}
 use Rattle.cluster_runs.specs.Sent.{Connection, Knew, Place, FirstTaken}
 use Rattle.cluster_runs.specs.Machine.{Site, End, DataConnection}
 use Rattle.cluster_runs.specs.Connections.{link_of, link_in, knows}
-use Rattle.cluster_invariant.specs.Dials.{DialsAre, LearntOn, LearntBy, GreatestDial, LinkedTo, BoundTo, ClosedOn, RoleIs, NodeDials, IsNewest, IsLinkedBy, CarriesNoOther, CameFor, is_here, has_conn, is_connection_in, is_taken_in, as_it_learns, PairDials}
+use Rattle.cluster_invariant.specs.Dials.{DialsAre, LearntOn, LearntBy, GreatestDial, LinkedTo, BoundIs, BoundTo, ClosedOn, RoleIs, NodeDials, IsNewest, IsLinkedBy, CarriesNoOther, CameFor, is_here, has_conn, is_connection_in, is_taken_in, as_it_learns, PairDials}
 use Rattle.cluster_invariant.specs.Words.{NoLess, is_begun, is_reset_frame}
 use Rattle.cluster_invariant.proofs.Small.{some_kept}
 use Rattle.dials_kept.proofs.ConnectionsGrow.{StaysKnown, SiteGrows, Grows, MadeNow, GrowTo, no_less_then}
@@ -106,20 +106,24 @@ linked_to_later x y w ends past links conn app P Q f is = record {
       some_grows x y w app is.dial (x.end_at app) P Q f ((x.end_at app).connection_at is.dial) ((y.end_at app).connection_at is.dial) (ends app is.dial) is.its;
 }
 
-bound_later : (x y : Site) (es : List Entry) (s : ℕ) → y.past ≡ x.past → is_begun (y.lane_at s x.past) ≡ is_begun (x.lane_at s x.past) → (c d : Connection)
-    → Grows x y c d → BoundTo x es s c → BoundTo y es s d
-bound_later x y es s past begun c d g is = record {
+-- a session whose lane began has its messages on the connection
+abbrev pub CarriesBegun : Site → Site → ℕ → Connection → Type 0
+CarriesBegun x y s c = is_begun (y.lane_at s x.past) ≡ true → c.its ≡ Some (record { session = s; order = x.past })
+
+bound_later : (x y : Site) (es : List Entry) (s : ℕ) → y.past ≡ x.past → (c d : Connection) → Grows x y c d → CarriesBegun x y s c × BoundTo x es s c
+    → BoundTo y es s d
+bound_later x y es s past c d g both = record {
   carries =
       subst (λ (k : ℕ). CarriesNoOther s k d) (sym past)
-      (subst (λ (o : Option Place). IfSome o (λ p. p ≡ record { session = s; order = x.past })) (sym g.its) is.carries);
-  came = subst (λ (k : Knew). CameFor es s k k.mark) (sym g.knew) is.came;
+      (subst (λ (o : Option Place). IfSome o (λ p. p ≡ record { session = s; order = x.past })) (sym g.its) both.1.carries);
+  came = subst (λ (k : Knew). CameFor es s k k.mark) (sym g.knew) both.1.came;
   told =
       λ at.
       g.its
       ∙ subst (λ (k : ℕ). is_begun (y.lane_at s k) ≡ true → c.its ≡ Some (record { session = s; order = k })) (sym past)
-      (λ at_past. is.told (sym begun ∙ at_past)) at;
-  silent = λ none. g.downs ∙ is.silent (sym g.its ∙ none);
-  unreset = ap (λ (fs : List DownFrame). list_any is_reset_frame fs) g.downs ∙ is.unreset;
+      both.0 at;
+  silent = λ none. g.downs ∙ both.1.silent (sym g.its ∙ none);
+  unreset = ap (λ (fs : List DownFrame). list_any is_reset_frame fs) g.downs ∙ both.1.unreset;
 }
 
 closed_later : (x y : Site) (s : ℕ) → y.past ≡ x.past → (c d : Connection) → Grows x y c d → ClosedOn x s c → ClosedOn y s d
@@ -147,10 +151,23 @@ greatest_later x y w ends app k dial is = record { taken = λ some. same dial �
     same number =
         taken_same x y w app number k (x.end_at app) ((x.end_at app).connection_at number) ((y.end_at app).connection_at number) (ends app number)
 
+-- two facts of one connection
+both_some : (o : Option Connection) (P Q : Connection → Type 0) → IsSomeAnd o P → IsSomeAnd o Q → IsSomeAnd o (λ c. P c × Q c)
+both_some None P Q p q = absurd p
+both_some (Some c) P Q p q = (p, q)
+
+linked_both : (x : Site) (conn app : ℕ) (P Q : Connection → Type 0) (at : LinkedTo x conn app Q) → IsSomeAnd ((x.end_at app).connection_at at.dial) P
+    → LinkedTo x conn app (λ c. P c × Q c)
+linked_both x conn app P Q at is = record { dial = at.dial; link = at.link; first = at.first; its = both_some ((x.end_at app).connection_at at.dial) P Q is at.its }
+
+-- the connection of a live session whose lane began
+abbrev pub ToldOn : Site → Site → DataState → Type 0
+ToldOn x y n = (conn s : ℕ) (at : BoundIs x n conn s) → IsSomeAnd ((x.end_at at.app).connection_at at.linked.dial) (CarriesBegun x y s)
+
 -- What a node has stays, where its data connections and the order are as they were.
-pub node_later : (w : Server) (x y : Site) (n : DataState) → EndsGrow x w y → ((conn : ℕ) → link_of y conn ≡ link_of x conn) → y.past ≡ x.past
-    → ((s : ℕ) → is_begun (y.lane_at s x.past) ≡ is_begun (x.lane_at s x.past)) → NodeDials x n → NodeDials y n
-node_later w x y n ends links past begun is = record {
+pub node_later : (w : Server) (x y : Site) (n : DataState) → EndsGrow x w y → ((conn : ℕ) → link_of y conn ≡ link_of x conn) → y.past ≡ x.past → ToldOn x y n
+    → NodeDials x n → NodeDials y n
+node_later w x y n ends links past told is = record {
   places = is.places;
   dials = λ app low. subst (λ (k : ℕ). GreatestDial k (y.end_at app) (dial_of n app)) (sym past) (greatest_later x y w ends app x.past (dial_of n app) (is.dials app low));
   differ = is.differ;
@@ -165,7 +182,9 @@ node_later w x y n ends links past begun is = record {
       its = at.its;
       app = at.app;
       opened = at.opened;
-      linked = linked_to_later x y w ends past links conn at.app (BoundTo x n.order s) (BoundTo y n.order s) (bound_later x y n.order s past (begun s)) at.linked;
+      linked =
+          linked_to_later x y w ends past links conn at.app (λ c. CarriesBegun x y s c × BoundTo x n.order s c) (BoundTo y n.order s)
+          (bound_later x y n.order s past) (linked_both x conn at.app (CarriesBegun x y s) (BoundTo x n.order s) at.linked (told conn s at));
       newest =
           subst (λ (o : Option Linked). IfSome o (λ l. IsNewest (y.end_at at.app) s y.past l.dial)) (sym (links conn))
           (some_kept (λ (l : Linked). IsNewest (x.end_at at.app) s x.past l.dial) (λ (l : Linked). IsNewest (y.end_at at.app) s y.past l.dial)
@@ -177,6 +196,14 @@ node_later w x y n ends links past begun is = record {
       opened = at.opened;
       linked = linked_to_later x y w ends past links conn at.app (ClosedOn x s) (ClosedOn y s) (closed_later x y s past) at.linked;
     }
+
+-- lanes that began where they did
+pub told_same : (x y : Site) (n : DataState) → ((s : ℕ) → is_begun (y.lane_at s x.past) ≡ is_begun (x.lane_at s x.past)) → ToldOn x y n
+told_same x y n begun conn s at = go ((x.end_at at.app).connection_at at.linked.dial) at.linked.its
+  where
+    go : (o : Option Connection) → IsSomeAnd o (BoundTo x n.order s) → IsSomeAnd o (CarriesBegun x y s)
+    go None is = absurd is
+    go (Some c) is = λ now. is.told (sym (begun s) ∙ now)
 
 -- Links stay linked by what they were.
 pub links_later : (x y : Site) (w : Server) → EndsGrow x w y → ((conn : ℕ) → link_of y conn ≡ link_of x conn) → ((conn : ℕ) → IfSome (link_of x conn) (IsLinkedBy x conn))
@@ -221,5 +248,6 @@ dials_later v w x y dead gone later same ends more pairs is = record {
   node =
       subst (λ (o : Option DataState). IfSome o (NodeDials y)) (sym same.node)
       (some_kept (NodeDials x) (NodeDials y)
-      (λ n at. node_later w x y n ends (links_same x y same) same.past (λ s. ap (λ (o : Option ℕ). is_some o) (same.began s x.past)) at) x.node is.node);
+      (λ n at. node_later w x y n ends (links_same x y same) same.past
+      (told_same x y n (λ s. ap (λ (o : Option ℕ). is_some o) (same.began s x.past))) at) x.node is.node);
 }

@@ -8,7 +8,7 @@ use Rattle.ecp_messages.specs.declared.up.UpFrame.{UpFrame}
 use Rattle.app_rules.specs.declared.app_outs.AppOuts.{AppOuts}
 use Rattle.app_rules.specs.AppState.{AppEnd, Session}
 use Rattle.app_rules.specs.Looks.{Shown}
-use Rattle.cluster_runs.specs.Sent.{Connection, Lane, Place}
+use Rattle.cluster_runs.specs.Sent.{Connection, Lane, Place, Welcomed}
 use Rattle.cluster_runs.specs.Machine.{Site, End}
 use Rattle.cluster_runs.specs.Connections.{knows, at_number, ups_to}
 use Rattle.cluster_runs.specs.Lanes.{with_app_step, is_told_new, sent_before}
@@ -17,7 +17,7 @@ use Rattle.cluster_invariant.specs.Dials.{DialsAre, PairDials, KnowsStill, is_ma
 use Rattle.cluster_invariant.specs.Words.{NoLess, is_wire, has_wire}
 use Rattle.cluster_invariant.proofs.Small.{at_places}
 use Rattle.cluster_steps.proofs.AppSites.{SameBeside, site_beside}
-use Rattle.dials_kept.proofs.ConnectionsGrow.{StaysKnown, Grows, GrowTo, no_less_same, pair_later}
+use Rattle.dials_kept.proofs.ConnectionsGrow.{StaysKnown, SiteGrows, Grows, GrowTo, no_less_same, pair_later}
 use Rattle.dials_kept.proofs.NodesGrow.{EndsGrow, SameNode, site_grows, dials_later}
 use Rattle.dials_kept.proofs.ShortDials.{grow_same, pair_same, some_mapped}
 
@@ -134,19 +134,24 @@ grow_changed x y w app number dead e new shown g same each = go (number == new.d
         (subst (λ (n : ℕ). IfSome (e.connection_at n) (Changes x y dead g new e)) (sym (eqb-true number new.dial is)) each)
     go false is = grow_same x y w app number e same (e.connection_at number)
 
--- A pair of which the last connection is changed.
-pub pair_changed : (v w : Server) (x y : Site) (app : ℕ) (dead : Bool) (e : End) (new : AppEnd) (shown : Shown) (g : Connection → Connection) → StaysKnown v w → SameNode x y
-    → new.dial ≡ e.state.dial → NoLess (knows e) (knows (with_state new shown e)) → IfSome (e.connection_at new.dial) (Changes x y dead g new e)
-    → KnowsStill new.line (knows (with_state new shown e)) (option_map g (e.connection_at new.dial)) → PairDials v x dead app e
-    → PairDials w y dead app (changed g new shown e)
-pair_changed v w x y app dead e new shown g later same dial more each still is =
-    pair_later v w x y later (site_grows x y same) dead dead app e f more (λ number. grow_changed x y w app number dead e new shown g same.connections each)
+-- and that is told of this
+abbrev pub told_of : Option Place → List Welcomed → End → End
+told_of p ws e = record e { told = p; welcomes = ws }
+
+-- A pair of which the last connection is changed, and that is told of this.
+pub pair_told : (v w : Server) (x y : Site) (app : ℕ) (dead : Bool) (e : End) (new : AppEnd) (shown : Shown) (g : Connection → Connection) (p : Option Place)
+    (ws : List Welcomed) → StaysKnown v w → SiteGrows x y → y.connection_at ≡ x.connection_at → new.dial ≡ e.state.dial
+    → NoLess (knows e) (knows (told_of p ws (with_state new shown e))) → IfSome (e.connection_at new.dial) (Changes x y dead g new e)
+    → KnowsStill new.line (knows (told_of p ws (with_state new shown e))) (option_map g (e.connection_at new.dial)) → PairDials v x dead app e
+    → PairDials w y dead app (told_of p ws (changed g new shown e))
+pair_told v w x y app dead e new shown g p ws later grows same dial more each still is =
+    pair_later v w x y later grows dead dead app e f more (λ number. grow_changed x y w app number dead e new shown g same each)
     (λ number. made (number == new.dial) number ∙ is.made number ∙ ap (λ (n : ℕ). is_made n number) (sym dial)) (λ number. left number (number == new.dial) refl)
-    (subst (λ (b : Bool). KnowsStill new.line (knows (with_state new shown e)) (if b then option_map g (e.connection_at new.dial) else e.connection_at new.dial))
+    (subst (λ (b : Bool). KnowsStill new.line (knows f) (if b then option_map g (e.connection_at new.dial) else e.connection_at new.dial))
     (sym (eq-eqb new.dial new.dial refl)) still) is
   where
     f : End
-    f = changed g new shown e
+    f = told_of p ws (changed g new shown e)
 
     made : (b : Bool) (number : ℕ) → is_some (if b then option_map g (e.connection_at number) else e.connection_at number) ≡ is_some (e.connection_at number)
     made true number = some_mapped g (e.connection_at number)
@@ -169,3 +174,11 @@ pair_changed v w x y app dead e new shown g later same dial more each still is =
         (by (e.connection_at new.dial) each)
     left number false at =
         subst (λ (t : Bool). IfSome (e.connection_at number) (λ c. c.app_left ≡ not t)) (wire_other number at) (is.left number)
+
+-- A pair of which the last connection is changed.
+pub pair_changed : (v w : Server) (x y : Site) (app : ℕ) (dead : Bool) (e : End) (new : AppEnd) (shown : Shown) (g : Connection → Connection) → StaysKnown v w → SameNode x y
+    → new.dial ≡ e.state.dial → NoLess (knows e) (knows (with_state new shown e)) → IfSome (e.connection_at new.dial) (Changes x y dead g new e)
+    → KnowsStill new.line (knows (with_state new shown e)) (option_map g (e.connection_at new.dial)) → PairDials v x dead app e
+    → PairDials w y dead app (changed g new shown e)
+pair_changed v w x y app dead e new shown g later same dial more each still is =
+    pair_told v w x y app dead e new shown g e.told e.welcomes later (site_grows x y same) same.connections dial more each still is

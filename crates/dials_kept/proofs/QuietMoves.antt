@@ -1,43 +1,41 @@
 -- The part on connections, for an application server's input that puts nothing: its ends know what they knew, or lost a session.
-use Rattle.std.proofs.Common.{◌≡◌, ◌⊎◌, ◌≤◌, ℕ, Bool, true, false, not, ◌==◌, List, [], ◌++◌, Option, Some, None, option_map, if◌then◌else◌, refl, sym, ◌∙◌, ap, subst, arith, inl, inr}
+use Rattle.std.proofs.Common.{◌≡◌, ◌⊎◌, ◌≤◌, ℕ, Bool, true, false, not, ◌==◌, List, [], Option, Some, None, option_map, if◌then◌else◌, refl, sym, ◌∙◌, ap, subst, arith, inl, inr}
 use Rattle.std.specs.Prelude.{IfSome}
-use Rattle.std.specs.List.{AllByRecursion}
+use Rattle.std.specs.List.{list_any}
 use Rattle.std.proofs.lemmas.Bool.{false≢true, eq-eqb}
 use Rattle.std.proofs.lemmas.List.{append-nil}
 use Rattle.plain_orders.specs.declared.act.Act.{Act}
 use Rattle.plain_orders.specs.declared.layout.Layout.{Layout}
-use Rattle.plain_runs.specs.Plain.{Plain, Server, start}
-use Rattle.plain_runs.specs.Run.{IsRun, RunFrom, after_all, state_after}
-use Rattle.plain_runs.proofs.RunLemmas.{run_parts, after_all-append}
+use Rattle.plain_runs.specs.Plain.{Server}
+use Rattle.plain_runs.specs.Run.{IsRun, after_all, state_after}
+use Rattle.ecp_messages.specs.declared.up.UpFrame.{UpFrame}
+use Rattle.ecp_messages.specs.declared.down.Down.{Down}
 use Rattle.app_rules.specs.declared.app_in.AppIn.{AppIn}
 use Rattle.app_rules.specs.declared.line.Line.{Line}
 use Rattle.app_rules.specs.declared.line.Line.TheVariants.{Apart, Trying, Greeting, Asking, Joined}
-use Rattle.app_rules.specs.declared.up_frames.UpOut.{UpOut}
+use Rattle.app_rules.specs.declared.app_outs.AppOuts.{AppOuts}
 use Rattle.app_rules.specs.AppState.{AppEnd, Session}
-use Rattle.app_rules.specs.AppStep.{made}
-use Rattle.app_rules.specs.Works.{begun, end_at}
+use Rattle.app_rules.specs.Looks.{Shown}
+use Rattle.app_rules.specs.Works.{end_at}
 use Rattle.cluster_runs.specs.declared.move_outs.MoveOuts.{MoveOuts}
 use Rattle.cluster_runs.specs.declared.moves.Move.TheVariants.{App}
 use Rattle.cluster_runs.specs.CoresState.{CoresState}
 use Rattle.cluster_runs.specs.Moves.{Allowed}
 use Rattle.cluster_runs.specs.Mirrors.{Mirrors}
 use Rattle.cluster_runs.specs.Sent.{Connection, Knew, Place}
-use Rattle.cluster_runs.specs.Machine.{Machine, Site, End, app_state, end_state}
-use Rattle.cluster_runs.specs.Connections.{knows, knows_of, with_ups, carries_up}
-use Rattle.cluster_runs.specs.Goes.{AppGoes, app_end, app_takes, input_site, message_from, with_state}
+use Rattle.cluster_runs.specs.Machine.{Machine, Site, End, end_state}
+use Rattle.cluster_runs.specs.Connections.{knows, knows_of, with_ups, carries_up, at_number, is_index, leaves_if, ups_to}
+use Rattle.cluster_runs.specs.Goes.{AppGoes, app_end, app_site, app_takes, message_from, with_state}
 use Rattle.cluster_runs.specs.Lanes.{is_told_new, told_by}
-use Rattle.cluster_invariant.specs.Dials.{DialsAre, PairDials, KnowsStill}
+use Rattle.cluster_invariant.specs.Dials.{DialsAre, KnowsStill}
+use Rattle.cluster_invariant.specs.Ends.{EndsAre}
 use Rattle.cluster_invariant.specs.Holds.{Holds}
+use Rattle.cluster_invariant.specs.Link.{LinkHolds}
 use Rattle.cluster_invariant.specs.Words.{NoLess, is_wire, has_wire}
-use Rattle.cluster_invariant.proofs.AppActs.{Leaves, app_step_leaves}
-use Rattle.cluster_invariant.proofs.OrderBeside.{leaves_orders}
-use Rattle.cluster_steps.proofs.AppSites.{site_ends}
-use Rattle.ends_kept.proofs.AppRuns.{run_kept_by_app}
-use Rattle.dials_kept.proofs.ConnectionsGrow.{StaysKnown, GrowTo, no_less_same}
-use Rattle.dials_kept.proofs.NodesGrow.{SameNode}
-use Rattle.dials_kept.proofs.ShortDials.{EachDials, left_same, still_mapped}
-use Rattle.dials_kept.proofs.ToldStays.{known_by_acts}
-use Rattle.dials_kept.proofs.QuietEnds.{TookMore, Changes, changed, quiet_site, dials_with_end, grow_changed, pair_changed}
+use Rattle.dials_kept.proofs.ConnectionsGrow.{StaysKnown, no_less_same}
+use Rattle.dials_kept.proofs.AppInputs.{Passes, dials_by_app, dials_with_change, passes_grows}
+use Rattle.dials_kept.proofs.ShortDials.{EachDials, still_mapped}
+use Rattle.dials_kept.proofs.QuietEnds.{TookMore, Changes, changed}
 use Rattle.dials_kept.proofs.JobDials.{lane_taken}
 
 -- An end that took nothing: it has the connection that it had, or none as before, and its session, or lost it.
@@ -121,131 +119,78 @@ wire_quiet e t q true = refl
 wire_quiet e t q false =
     ap (λ (b : Bool). if b then t.dial == t.dial else false) q.wire ∙ ap (λ (n : ℕ). if has_wire e.line then t.dial == n else false) q.dial
 
+-- a connection that is as it was
+pub passes_same : (z : Connection) → Passes z z
+passes_same z = record {
+  ups = refl;
+  ups_taken = refl;
+  downs = refl;
+  within = λ low. low;
+  linked = refl;
+  its = refl;
+  knew = refl;
+  first = refl;
+  data_left = refl;
+}
+
+-- One data server's part stays, where an input takes and puts nothing there and cuts nothing.
+pub dials_quiet_at : (v w : Server) (x : Site) (dead : ℕ → Bool) (app d : ℕ) (outs : AppOuts) (t : AppEnd) (shown : Shown) (m : Option Down) → dead app ≡ false
+    → EndsAre v x dead → LinkHolds v x dead → ups_to d outs.frames ≡ [] → list_any (is_index d) outs.cuts ≡ false → QuietEnd (x.end_at app).state t → StaysKnown v w
+    → DialsAre v x dead → DialsAre w (app_site app d outs (x.end_at app).state t m (app_end d outs (x.end_at app).state t shown m (x.end_at app)) x) dead
+dials_quiet_at v w x dead app d outs t shown m alive ends link frames cuts quiet later is =
+    dials_with_change v w x dead app d outs t shown m e g moved nothing
+    (took_quiet x e.state.session t.session e.told quiet.session
+    (lane_taken v x app e.state.session e.told (ends.told app alive).place (link.apps app alive).window)) quiet.dial
+    (knows_quiet e.state.session t.session e.told e.state.told t.told quiet.told quiet.session (ends.told app alive).newest)
+    (λ y same. puts y same (e.connection_at t.dial) ((is.pairs app).left t.dial)) (still quiet.line) later is
+  where
+    e : End
+    e = x.end_at app
+
+    g : Connection → Connection
+    g = with_ups []
+
+    nothing : is_told_new e.state.session t.session ≡ false
+    nothing = none_new e.state.session t.session quiet.session
+
+    moved : app_end d outs e.state t shown m e ≡ changed g t shown e
+    moved =
+        ap (λ (b : Bool). carries_up d t.dial outs.frames outs.cuts (told_by b m e.state.dial (with_state t shown e))) nothing
+        ∙ ap (λ (us : List UpFrame). at_number t.dial (λ z. leaves_if (list_any (is_index d) outs.cuts) (with_ups us z)) (with_state t shown e)) frames
+        ∙ ap (λ (b : Bool). at_number t.dial (λ z. leaves_if b (with_ups [] z)) (with_state t shown e)) cuts
+
+    puts : (y : Site) → y.connection_at ≡ x.connection_at → (o : Option Connection) → IfSome o (λ z. z.app_left ≡ not (is_wire (dead app) e.state t.dial))
+        → IfSome o (Changes x y (dead app) g t e)
+    puts y same None left = tt
+    puts y same (Some z) left = record {
+      grows = passes_grows x y same false [] z z (passes_same z) refl (λ none. refl);
+      left = left ∙ ap not (sym (wire_quiet e.state t quiet (dead app)));
+    }
+
+    still : ((t.line ≡ e.state.line) × (t.session ≡ e.state.session)) ⊎ (has_wire t.line ≡ false)
+        → KnowsStill t.line (knows (with_state t shown e)) (option_map g (e.connection_at t.dial))
+    still (inr none) = wireless_still t.line (knows (with_state t shown e)) (option_map g (e.connection_at t.dial)) none
+    still (inl both) =
+        subst (λ (z : Line). KnowsStill z (knows (with_state t shown e)) (option_map g (e.connection_at t.dial))) (sym both.0)
+        (subst (λ (k : Knew). KnowsStill e.state.line k (option_map g (e.connection_at t.dial)))
+        (sym (ap (λ (o : Option Session). knows_of o e.told t.told) both.1 ∙ ap (λ (n : ℕ). knows_of e.state.session e.told n) quiet.told))
+        (still_mapped g (λ z. refl) (λ z. append-nil z.ups) e.state.line (knows e) (e.connection_at t.dial)
+        (subst (λ (n : ℕ). KnowsStill e.state.line (knows e) (e.connection_at n)) (sym quiet.dial) (is.pairs app).still)))
+
 -- An input that puts and takes nothing, and cuts nothing, keeps it.
 pub dials_kept_by_quiet : (l : Layout) (c : CoresState) (m : Machine) (app now : ℕ) (input : AppIn) (outs : MoveOuts) (written : List Act) (new : Machine)
     → Holds l m → IsRun l m.trail → Mirrors c m → Allowed c (App app now input) → (goes : AppGoes m app now input outs written new)
     → ((d n : ℕ) (e : End) → app_takes d input n e ≡ e) → goes.app_outs.frames ≡ [] → goes.app_outs.cuts ≡ []
     → ((d : ℕ) → QuietEnd (end_state m app d) (end_at goes.state d)) → EachDials l (state_after l new.trail) new
 dials_kept_by_quiet l c m app now input outs written new h run shows allowed goes takes frames cuts quiet =
-    subst (λ (n : Machine). EachDials l (state_after l n.trail) n) (sym goes.after)
-    (subst (λ (ws : List Act). (d : ℕ) → DialsAre ((state_after l (m.trail ++ ws)).server_at d) (site d) m.is_dead_at) (sym goes.acts)
-    (λ d. subst (λ (q : Plain). DialsAre (q.server_at d) (site d) m.is_dead_at) (sym (after_all-append l start m.trail goes.app_outs.acts)) (each d)))
-  where
-    p : Plain
-    p = state_after l m.trail
-
-    site : ℕ → Site
-    site d = input_site app input goes.app_outs goes.state goes.shown d (m.site_at d)
-
-    alive : m.is_dead_at app ≡ false
-    alive = sym (shows.dead app) ∙ allowed.alive
-
-    joined : IsRun l (m.trail ++ goes.app_outs.acts)
-    joined =
-        subst (λ (ws : List Act). IsRun l (m.trail ++ ws)) goes.acts
-        (subst (λ (n : Machine). IsRun l n.trail) goes.after (run_kept_by_app l c m app now input outs written new h run shows allowed goes))
-
-    ran : RunFrom l p goes.app_outs.acts
-    ran = (run_parts l start m.trail goes.app_outs.acts joined).1
-
-    known : (d : ℕ) → StaysKnown (p.server_at d) ((after_all l p goes.app_outs.acts).server_at d)
-    known d = go (app_step_leaves (begun (app_state m app)) now input (made goes.state goes.app_outs) goes.steps)
-      where
-        go : Leaves (begun (app_state m app)) (made goes.state goes.app_outs) → StaysKnown (p.server_at d) ((after_all l p goes.app_outs.acts).server_at d)
-        go w = known_by_acts l p goes.app_outs.acts ran (subst (λ (ws : List Act). AllByRecursion (λ y. leaves_orders y ≡ true) ws) (sym w.acts) w.leaves) d
-
-    each : (d : ℕ) → DialsAre ((after_all l p goes.app_outs.acts).server_at d) (site d) m.is_dead_at
-    each d =
-        dials_with_end v w x y m.is_dead_at app f (site_ends app d goes.app_outs e.state t (message_from d input) f x) same (known d)
-        (subst (λ (z : End). (number : ℕ) → GrowTo x w y app number e (e.connection_at number) (z.connection_at number)) (sym moved)
-        (λ number. grow_changed x y w app number (m.is_dead_at app) e t (goes.shown d) g same.connections changes))
-        (subst (λ (z : End). NoLess (knows e) (knows z)) (sym moved) knew)
-        (subst (λ (z : End). PairDials w y (m.is_dead_at app) app z) (sym moved)
-        (pair_changed v w x y app (m.is_dead_at app) e t (goes.shown d) g (known d) same (quiet d).dial knew changes still (is.pairs app))) is
-      where
-        v : Server
-        v = p.server_at d
-
-        w : Server
-        w = (after_all l p goes.app_outs.acts).server_at d
-
-        x : Site
-        x = m.site_at d
-
-        y : Site
-        y = site d
-
-        e : End
-        e = x.end_at app
-
-        t : AppEnd
-        t = end_at goes.state d
-
-        is : DialsAre v x m.is_dead_at
-        is = (h.sites d).dials
-
-        f : End
-        f = app_end d goes.app_outs e.state t (goes.shown d) (message_from d input) (app_takes d input e.state.dial e)
-
-        g : Connection → Connection
-        g = with_ups []
-
-        nothing : is_told_new e.state.session t.session ≡ false
-        nothing = none_new e.state.session t.session (quiet d).session
-
-        moved : f ≡ changed g t (goes.shown d) e
-        moved =
-            ap (λ (z : End). app_end d goes.app_outs e.state t (goes.shown d) (message_from d input) z) (takes d e.state.dial e)
-            ∙ ap (λ (b : Bool). carries_up d t.dial goes.app_outs.frames goes.app_outs.cuts (told_by b (message_from d input) e.state.dial (with_state t (goes.shown d) e))) nothing
-            ∙ ap (λ (cs : List ℕ). carries_up d t.dial goes.app_outs.frames cs (with_state t (goes.shown d) e)) cuts
-            ∙ ap (λ (us : List UpOut). carries_up d t.dial us [] (with_state t (goes.shown d) e)) frames
-
-        told : f.told ≡ e.told
-        told = ap (λ (z : End). z.told) moved
-
-        same : SameNode x y
-        same =
-            quiet_site app d goes.app_outs e.state t (message_from d input) f x nothing
-            (subst (λ (o : Option Place). TookMore x t.session o) (sym told)
-            (took_quiet x e.state.session t.session e.told (quiet d).session
-            (lane_taken v x app e.state.session e.told ((h.sites d).ends.told app alive).place ((h.sites d).link.apps app alive).window)))
-
-        knew : NoLess (knows e) (knows (with_state t (goes.shown d) e))
-        knew =
-            knows_quiet e.state.session t.session e.told e.state.told t.told (quiet d).told (quiet d).session ((h.sites d).ends.told app alive).newest
-
-        puts : (o : Option Connection) → IfSome o (λ z. z.app_left ≡ not (is_wire (m.is_dead_at app) e.state t.dial)) → IfSome o (Changes x y (m.is_dead_at app) g t e)
-        puts None left = tt
-        puts (Some z) left = record {
-          grows = record {
-            more = [];
-            ups = refl;
-            follow = refl;
-            alone = λ none. refl;
-            ups_taken = refl;
-            downs = refl;
-            within = λ low. low;
-            linked = refl;
-            its = refl;
-            knew = refl;
-            first = refl;
-            data_left = λ taken at. at ∙ sym (left_same x y same.connections z.first);
-          };
-          left = left ∙ ap not (sym (wire_quiet e.state t (quiet d) (m.is_dead_at app)));
-        }
-
-        changes : IfSome (e.connection_at t.dial) (Changes x y (m.is_dead_at app) g t e)
-        changes = puts (e.connection_at t.dial) ((is.pairs app).left t.dial)
-
-        still : KnowsStill t.line (knows (with_state t (goes.shown d) e)) (option_map g (e.connection_at t.dial))
-        still = go (quiet d).line
-          where
-            go : ((t.line ≡ e.state.line) × (t.session ≡ e.state.session)) ⊎ (has_wire t.line ≡ false)
-                → KnowsStill t.line (knows (with_state t (goes.shown d) e)) (option_map g (e.connection_at t.dial))
-            go (inr none) = wireless_still t.line (knows (with_state t (goes.shown d) e)) (option_map g (e.connection_at t.dial)) none
-            go (inl both) =
-                subst (λ (z : Line). KnowsStill z (knows (with_state t (goes.shown d) e)) (option_map g (e.connection_at t.dial))) (sym both.0)
-                (subst (λ (k : Knew). KnowsStill e.state.line k (option_map g (e.connection_at t.dial)))
-                (sym (ap (λ (o : Option Session). knows_of o e.told t.told) both.1 ∙ ap (λ (n : ℕ). knows_of e.state.session e.told n) (quiet d).told))
-                (still_mapped g (λ z. refl) (λ z. append-nil z.ups) e.state.line (knows e) (e.connection_at t.dial)
-                (subst (λ (n : ℕ). KnowsStill e.state.line (knows e) (e.connection_at n)) (sym (quiet d).dial) (is.pairs app).still)))
+    dials_by_app l c m app now input outs written new h run shows allowed goes
+    (λ d later.
+    subst
+    (λ (came : End).
+    DialsAre ((after_all l (state_after l m.trail) goes.app_outs.acts).server_at d)
+    (app_site app d goes.app_outs (end_state m app d) (end_at goes.state d) (message_from d input)
+    (app_end d goes.app_outs (end_state m app d) (end_at goes.state d) (goes.shown d) (message_from d input) came) (m.site_at d)) m.is_dead_at)
+    (sym (takes d (end_state m app d).dial ((m.site_at d).end_at app)))
+    (dials_quiet_at ((state_after l m.trail).server_at d) ((after_all l (state_after l m.trail) goes.app_outs.acts).server_at d) (m.site_at d) m.is_dead_at app d
+    goes.app_outs (end_at goes.state d) (goes.shown d) (message_from d input) (sym (shows.dead app) ∙ allowed.alive) (h.sites d).ends (h.sites d).link
+    (ap (ups_to d) frames) (ap (list_any (is_index d)) cuts) (quiet d) later (h.sites d).dials))

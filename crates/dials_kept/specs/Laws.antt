@@ -69,3 +69,9 @@ JoinsKeepDials = (l : Layout) (c : CoresState) (m : Machine) (app now d : ℕ) (
 abbrev pub AppTicksKeepDials : Type 0
 AppTicksKeepDials = (l : Layout) (c : CoresState) (m : Machine) (app now : ℕ) (outs : MoveOuts) (written : List Act) (new : Machine)
     → Holds l m → IsRun l m.trail → Mirrors c m → Allowed c (App app now app_in.Tick) → AppGoes m app now app_in.Tick outs written new → EachDialsAre l new
+
+-- A connection that an application server made does.
+abbrev pub ConnectsKeepDials : Type 0
+ConnectsKeepDials = (l : Layout) (c : CoresState) (m : Machine) (app now d : ℕ) (outs : MoveOuts) (written : List Act) (new : Machine)
+    → Holds l m → IsRun l m.trail → Mirrors c m → Allowed c (App app now (app_in.Connected d)) → AppGoes m app now (app_in.Connected d) outs written new
+    → EachDialsAre l new

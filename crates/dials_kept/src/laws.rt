@@ -1,4 +1,4 @@
-ghost use Rattle.dials_kept.specs.Laws.{AppTicksKeepDials, BreaksKeepDials, CommandsKeepDials, DeathsKeepDials, FailuresKeepDials, HaltsKeepDials, JoinsKeepDials, LooksKeepDials, StartsKeepDials, TicksKeepDials};
+ghost use Rattle.dials_kept.specs.Laws.{AppTicksKeepDials, BreaksKeepDials, CommandsKeepDials, ConnectsKeepDials, DeathsKeepDials, FailuresKeepDials, HaltsKeepDials, JoinsKeepDials, LooksKeepDials, StartsKeepDials, TicksKeepDials};
 
 /// Where the invariant holds, these moves keep the connections of each pair: which were made and left, what was put first
 /// on each and in which order it was taken, what each session learnt on which of them, and what a running data server has
@@ -14,4 +14,5 @@ pub fn the_connections_are_kept()
     ensures breaks { BreaksKeepDials }
     ensures joins { JoinsKeepDials }
     ensures app_ticks { AppTicksKeepDials }
+    ensures connects { ConnectsKeepDials }
 {}

@@ -1,5 +1,6 @@
 use Rattle.dials_kept.proofs.BeginDials.{dials_kept_by_begin}
 use Rattle.dials_kept.proofs.BrokenDials.{dials_kept_by_broken}
+use Rattle.dials_kept.proofs.ConnectedDials.{dials_kept_by_connected}
 use Rattle.dials_kept.proofs.InputDials.{dials_kept_by_app_tick, dials_kept_by_join, dials_kept_by_no_way}
 use Rattle.dials_kept.proofs.JobDials.{dials_kept_by_job}
 use Rattle.dials_kept.proofs.ShortDials.{dials_kept_by_die, dials_kept_by_halt, dials_kept_by_look, dials_kept_by_tick}
@@ -34,3 +35,6 @@ returns-clause-joins c = dials_kept_by_join
 
 pub returns-clause-app_ticks : goal.returns-clause-app_ticks
 returns-clause-app_ticks c = dials_kept_by_app_tick
+
+pub returns-clause-connects : goal.returns-clause-connects
+returns-clause-connects c = dials_kept_by_connected

@@ -1,0 +1,9 @@
+use Rattle.dials_server.proofs.AcceptedDials.{dials_kept_by_accept}
+use Rattle.dials_server.proofs.EndedDials.{dials_kept_by_ending}
+use Rattle.dials_server.proofs.laws.steps_keep_the_connections.Goals as goal
+
+pub returns-clause-accepts : goal.returns-clause-accepts
+returns-clause-accepts c = dials_kept_by_accept
+
+pub returns-clause-endings : goal.returns-clause-endings
+returns-clause-endings c = dials_kept_by_ending
