@@ -90,7 +90,7 @@ pub some_both : {X : Type 0} (P Q : X → Type 0) (o : Option X) → IfSome o P 
 some_both P Q None a b = tt
 some_both P Q (Some c) a b = (a, b)
 
-firsts_there : (v : Server) (x : Site) (app number : ℕ) (c : Connection) → ConnectionIs v x app number c → IfSome c.first (λ f. f.order ≤ current v)
+pub firsts_there : (v : Server) (x : Site) (app number : ℕ) (c : Connection) → ConnectionIs v x app number c → IfSome c.first (λ f. f.order ≤ current v)
 firsts_there v x app number c is = some_kept (FirstIs v x app number) (λ (f : FirstTaken). f.order ≤ current v) (λ (f : FirstTaken) its. its.there) c.first is.where_taken
 
 -- an end with a session is told of an order that was there

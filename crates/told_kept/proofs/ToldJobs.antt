@@ -74,7 +74,7 @@ pub all_orders : (ws : List Act) → AllByRecursion IsOfJob ws → AllByRecursio
 all_orders [] of_job = tt
 all_orders (a ∷ ws) of_job = ((job_leaves a of_job.0).0, all_orders ws of_job.1)
 
-all_told : (ws : List Act) → AllByRecursion IsOfJob ws → AllByRecursion (λ a. leaves_told a ≡ true) ws
+pub all_told : (ws : List Act) → AllByRecursion IsOfJob ws → AllByRecursion (λ a. leaves_told a ≡ true) ws
 all_told [] of_job = tt
 all_told (a ∷ ws) of_job = ((job_leaves a of_job.0).1, all_told ws of_job.1)
 
