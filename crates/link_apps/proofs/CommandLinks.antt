@@ -47,7 +47,7 @@ use Rattle.ends_kept.proofs.TablesKept.{normal_has}
 use Rattle.told_kept.proofs.SameSessions.{leaves_told, rows_met}
 use Rattle.told_kept.proofs.ToldJobs.{all_told}
 use Rattle.link_kept.specs.Laws.{EachLinkHolds}
-use Rattle.link_kept.proofs.Later.{front_same}
+use Rattle.link_kept.proofs.Later.{entered_same, front_same}
 use Rattle.link_apps.proofs.EnteredStays.{leaves_entered, rows_entered, none_met, later_same}
 use Rattle.link_apps.proofs.EndsApps.{LaneDown}
 use Rattle.link_apps.proofs.LanesApps.{lane_down, given_put, own_lane, site_lanes}
@@ -213,8 +213,9 @@ links_kept_by_job l c m job now line command outs written new h run shows allowe
     each d =
         link_kept_by_puts v w x (site d) m.is_dead_at app t e.shown (grew d).put alive
         (later_same x v w (orders_agree l m.trail d run) orders
-        (rows_entered l p goes.app_outs.acts (subst (λ (ws : List Act). AllByRecursion (λ z. leaves_entered z ≡ true) ws) (sym wrote.acts) (all_enter wrote.written wrote.of_job)) d)
         (none_met v w (rows_met l p goes.app_outs.acts (subst (λ (ws : List Act). AllByRecursion (λ z. leaves_told z ≡ true) ws) (sym wrote.acts) (all_told wrote.written wrote.of_job)) d)))
+        (λ a. entered_same a v w
+        (rows_entered l p goes.app_outs.acts (subst (λ (ws : List Act). AllByRecursion (λ z. leaves_entered z ≡ true) ws) (sym wrote.acts) (all_enter wrote.written wrote.of_job)) d))
         (ap (λ (xs : List (List Entry)). length xs) orders.past) (h.sites d).order.past (h.sites d).link (h.sites d).ends (h.sites d).dials puts
       where
         v : Server

@@ -18,7 +18,7 @@ use Rattle.cluster_invariant.specs.Link.{AppWay, LaneCounts, WindowIs, DownWay, 
 use Rattle.cluster_invariant.specs.Words.{downs_left, numbered_behind, stays_at}
 use Rattle.cluster_invariant.proofs.Small.{some_kept}
 use Rattle.cluster_steps.proofs.AppSites.{SameBeside}
-use Rattle.link_kept.proofs.Later.{Later}
+use Rattle.link_kept.proofs.Later.{EnteredStays, Later}
 use Rattle.link_kept.proofs.AppLater.{LaneGoes, WholeStays, CountStays, down_later}
 
 -- What comes downwards of a lane is as it was.
@@ -89,11 +89,11 @@ module _ (v w : Server) (x y : Site) (later : Later x v w) (beside : SameBeside 
   counts_stay Joined o p = tt
 
   -- What comes on the connection of an end.
-  pub down_same : (line : Line) (app : ℕ) (e : End) (c d : Connection) → LeftSame c d → IfSome e.state.session (λ s. IfSome e.told (λ p. p.order ≤ current v))
+  pub down_same : (line : Line) (app : ℕ) (e : End) (c d : Connection) → LeftSame c d → EnteredStays app v w → IfSome e.state.session (λ s. IfSome e.told (λ p. p.order ≤ current v))
       → IfSome c.first (λ f. f.order ≤ current v) → DownBy line v x app e c → DownBy line w y app e d
-  down_same line app e c d same there firsts is =
+  down_same line app e c d same still there firsts is =
       down_later v w x y later (λ s k. lane_down_goes (x.lane_at s k) (y.lane_at s k) (lanes s k)) counts c d
-      (record { its = same.its; left = same.left; first = same.first }) (whole_same c d same) line app e there firsts
+      (record { its = same.its; left = same.left; first = same.first }) (whole_same c d same) line app e still there firsts
       (counts_stay line e.state.session e.told) is
 
   -- what an end has of its session, where nothing was put in its lane
@@ -116,11 +116,11 @@ module _ (v w : Server) (x y : Site) (later : Later x v w) (beside : SameBeside 
   begun_same (Some s) (Some q) is = ap is_some (lanes s.number q.order).began ∙ is
 
   -- The half of another application server's end.
-  pub other_way : (app : ℕ) (e : End) → IfSome e.state.session (λ s. IfSome e.told (λ p. p.order ≤ current v))
+  pub other_way : (app : ℕ) (e : End) → EnteredStays app v w → IfSome e.state.session (λ s. IfSome e.told (λ p. p.order ≤ current v))
       → IfSome (e.connection_at e.state.dial) (λ c. IfSome c.first (λ f. f.order ≤ current v))
       → IfSome e.state.session (λ s. IfSome e.told (λ q. (y.lane_at s.number q.order).up ≡ (x.lane_at s.number q.order).up))
       → AppWay v x app e → AppWay w y app e
-  other_way app e there firsts ups is = record {
+  other_way app e still there firsts ups is = record {
     window = window_same e.state.session e.told ups is.window;
     begun = begun_same e.state.session e.told is.begun;
     down = go (e.connection_at e.state.dial) firsts is.down;
@@ -129,7 +129,7 @@ module _ (v w : Server) (x y : Site) (later : Later x v w) (beside : SameBeside 
       go : (o : Option Connection) → IfSome o (λ c. IfSome c.first (λ f. f.order ≤ current v)) → IfSome o (DownBy e.state.line v x app e)
           → IfSome o (DownBy e.state.line w y app e)
       go None low down = tt
-      go (Some c) low down = down_same e.state.line app e c c (record { its = refl; left = refl; first = refl; data_left = refl }) there low down
+      go (Some c) low down = down_same e.state.line app e c c (record { its = refl; left = refl; first = refl; data_left = refl }) still there low down
 
 -- an end whose session is told the same
 

@@ -138,8 +138,8 @@ none_met v w same n none = go (w.session_at n) (same n ∙ ap (option_map whose)
     go (Some s) is = absurd cc
 
 -- A plain server whose orders are the same, where no session was met.
-pub later_same : (x : Site) (v w : Server) → OrdersAgree v → SameOrders v w → SameEntered v w → NoneMet v w → Later x v w
-later_same x v w agree s entered none = record {
+pub later_same : (x : Site) (v w : Server) → OrdersAgree v → SameOrders v w → NoneMet v w → Later x v w
+later_same x v w agree s none = record {
   there = omega (arith, now);
   goes_on = λ k low. subst (λ (es : List Entry). IsFront (order_at v k) es) (sym (order_same k)) (front_same (order_at v k));
   within = stays_within v agree;
@@ -148,8 +148,6 @@ later_same x v w agree s entered none = record {
   last = λ k low. ap last_epoch (order_same k);
   place = λ k low. ap epoch_place (order_same k);
   met = none;
-  entered = λ n k low stays. entered n;
-  entered_here = λ n low. entered n;
   newer = λ i j low past there stays. absurd (omega (arith, past, there, now));
   counts = λ n k low unlearnt. ap (λ (es : List Entry). count es n) (order_same k);
 }

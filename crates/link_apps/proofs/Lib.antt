@@ -3,5 +3,7 @@ pub mod NodeApps
 pub mod EndsApps
 pub mod LanesApps
 pub mod PutsUp
+pub mod Relane
+pub mod EndStep
 pub mod OwnPuts
 pub mod CommandLinks

@@ -1,10 +1,10 @@
 -- What is on its way at one data server as an application server's end puts more to its session, and takes nothing.
 use Rattle.std.proofs.Common.{◌≡◌, ◌≢◌, ◌≤◌, inl, inr, ℕ, Bool, true, false, ◌&&◌, ◌==◌, if◌then◌else◌, List, ◌++◌, length, drop, map, Option, Some, None, is_some, option_map, refl, sym, ◌∙◌, ap, subst, arith}
-use Rattle.std.specs.Prelude.{IfSome, IsSomeAnd, unwrap_or}
+use Rattle.std.specs.Prelude.{IfSome, unwrap_or}
 use Rattle.std.specs.List.{AllByRecursion, list_all}
-use Rattle.std.proofs.lemmas.Bool.{and_parts, eqb-true, eq-eqb, ne_eqb, false≢true}
+use Rattle.std.proofs.lemmas.Bool.{eqb-true, eq-eqb, ne_eqb, false≢true}
 use Rattle.std.proofs.lemmas.List.{append-nil, drop-append-le, length-drop}
-use Rattle.plain_runs.specs.Plain.{Server, Session as PlainSession, current, put}
+use Rattle.plain_runs.specs.Plain.{Server, current, put}
 use Rattle.ecp_messages.specs.declared.up.Up.{Up}
 use Rattle.ecp_messages.specs.declared.up.UpFrame.{UpFrame}
 use Rattle.end_words.specs.Windows.{sent, numbered_from}
@@ -13,26 +13,23 @@ use Rattle.app_rules.specs.declared.line.Line.TheVariants.{Apart, Trying, Greeti
 use Rattle.app_rules.specs.AppState.{AppEnd, Session, no_session}
 use Rattle.app_rules.specs.Looks.{Shown}
 use Rattle.app_rules.specs.Works.{is_joined, session_of}
-use Rattle.data_rules.specs.DataState.{DataState}
-use Rattle.data_rules.specs.declared.rows.Role.TheVariants.{Bound}
-use Rattle.data_rules.specs.Conns.{role_of}
-use Rattle.cluster_runs.specs.CoresState.{Linked}
 use Rattle.cluster_runs.specs.Sent.{Lane, Place, Connection}
 use Rattle.cluster_runs.specs.Machine.{Site, End}
-use Rattle.cluster_runs.specs.Connections.{at_number, link_of, with_ups}
+use Rattle.cluster_runs.specs.Connections.{at_number, with_ups}
 use Rattle.cluster_runs.specs.Goes.{with_state}
-use Rattle.cluster_invariant.specs.Dials.{BoundIs, BoundTo, CarriesNoOther, ConnectionIs, DialsAre, NodeDials, RoleIs}
+use Rattle.cluster_invariant.specs.Dials.{CarriesNoOther, ConnectionIs, DialsAre}
 use Rattle.cluster_invariant.specs.Ends.{EndsAre, ToldPlace}
-use Rattle.cluster_invariant.specs.Link.{AppWay, DownBy, GreetsBy, GreetsOn, JoinedWay, LaneCounts, LinkHolds, NodeLink, Unmet, UpWay, UpWayBy, UpWayOn, WindowIs, WithSession, is_joined_on, is_numbered_up}
+use Rattle.cluster_invariant.specs.Link.{AppWay, DownBy, GreetsOn, JoinedWay, LaneCounts, LinkHolds, Unmet, UpWay, UpWayOn, WindowIs, WithSession, is_joined_on, is_numbered_up}
 use Rattle.cluster_invariant.specs.Words.{IsFront, has_wire, is_number, is_wire, numbered_ups, ups_left}
-use Rattle.cluster_invariant.proofs.Small.{at_places, of_some, put_other, put_same, some_kept}
+use Rattle.cluster_invariant.proofs.Small.{of_some, some_kept}
 use Rattle.cluster_steps.proofs.AppSites.{SameBeside}
 use Rattle.cluster_steps.proofs.JobEnds.{EndGrows, LineGrows, SessionsGrow, joined_stays, put_frames, up_frame}
-use Rattle.link_kept.proofs.Later.{Later}
+use Rattle.link_kept.proofs.Later.{EnteredStays, Later}
 use Rattle.link_kept.proofs.AppLater.{unmet_later}
 use Rattle.link_kept.proofs.ShortMoves.{firsts_there, told_there}
-use Rattle.link_apps.proofs.NodeApps.{LanePut, DownsStay, NoNew, node_kept_by_app}
-use Rattle.link_apps.proofs.EndsApps.{LaneDown, SessionsLike, lane_down_goes, down_same, other_way, down_like}
+use Rattle.link_apps.proofs.NodeApps.{LanePut, DownsStay}
+use Rattle.link_apps.proofs.EndStep.{EndStep, OwnKept, link_kept_by_end}
+use Rattle.link_apps.proofs.EndsApps.{LaneDown, SessionsLike, down_same, down_like}
 use Rattle.link_apps.proofs.PutsUp.{numbered_frames, acks_frames, way_put, way_sent, counts_put}
 
 -- the end after the step, of which the connection that it has is changed
@@ -57,11 +54,6 @@ pub record Puts (x y : Site) (app : ℕ) (t : AppEnd) (shown : Shown) (ms : List
 put_of : (a b : Lane) → LaneDown a b → IsFront a.up b.up → LanePut a b
 put_of a b d front = record { began = d.began; up = front; up_taken = d.up_taken; down = d.down; down_taken = omega (arith, d.down_taken) }
 
--- two ends that have the same session are one
-one_app : (o : Option PlainSession) (a b j k : ℕ) → IsSomeAnd o (λ t. (t.app ≡ a) × (t.told ≡ j)) → IsSomeAnd o (λ t. (t.app ≡ b) × (t.told ≡ k)) → a ≡ b
-one_app None a b j k x y = absurd x
-one_app (Some t) a b j k x y = sym x.0 ∙ y.0
-
 sessions_like : (ms : List Up) (o q : Option Session) → SessionsGrow ms o q → SessionsLike o q
 sessions_like ms None None g = tt
 sessions_like ms None (Some t) g = absurd g
@@ -79,7 +71,7 @@ joined_at Asking is = absurd (false≢true is)
 joined_at Joined is = refl
 
 module _ (v w : Server) (x y : Site) (dead : ℕ → Bool) (app : ℕ) (t : AppEnd) (shown : Shown) (ms : List Up) (alive : dead app ≡ false)
-    (later : Later x v w) (now : current w ≡ current v) (past : x.past ≡ current v) (link : LinkHolds v x dead) (are : EndsAre v x dead) (dials : DialsAre v x dead)
+    (later : Later x v w) (still : EnteredStays app v w) (past : x.past ≡ current v) (link : LinkHolds v x dead) (are : EndsAre v x dead) (dials : DialsAre v x dead)
     (puts : Puts x y app t shown ms) where
   abbrev e : End
   e = x.end_at app
@@ -127,20 +119,6 @@ module _ (v w : Server) (x y : Site) (dead : ℕ → Bool) (app : ℕ) (t : AppE
         },
       )
 
-  -- another end's session isn't this one's
-  other_lane : (a : ℕ) → a ≢ app → dead a ≡ false → (q : Session) → (x.end_at a).state.session ≡ Some q → (k : ℕ) → y.lane_at q.number k ≡ x.lane_at q.number k
-  other_lane a other lives q its k = puts.elsewhere q.number k (go e.state.session e.told (are.told app alive).place)
-    where
-      theirs : ToldPlace v a q (x.end_at a).told
-      theirs = of_some (λ (z : Session). ToldPlace v a z (x.end_at a).told) (x.end_at a).state.session q its (are.told a lives).place
-
-      go : (o : Option Session) (p : Option Place) → IfSome o (λ s. ToldPlace v app s p) → IfSome o (λ u. IfSome p (λ z. (q.number ≡ u.number) → (k ≡ z.order) → ⊥))
-      go None p place = tt
-      go (Some u) None place = tt
-      go (Some u) (Some z) place = λ same at.
-          other (one_app (v.session_at q.number) a app theirs.order place.order theirs.met
-          (subst (λ (n : ℕ). IsSomeAnd (v.session_at n) (λ s. (s.app ≡ app) × (s.told ≡ place.order))) (sym same) place.met))
-
   -- all lanes count what was put and taken
 
   counts_kept : (s k : ℕ) → LaneCounts (y.lane_at s k)
@@ -170,40 +148,6 @@ module _ (v w : Server) (x y : Site) (dead : ℕ → Bool) (app : ℕ) (t : AppE
       by : (o : Option Session) → e.state.session ≡ o → LaneCounts (y.lane_at s k)
       by None none = same (subst (λ (z : Option Session). IfSome z (λ u. IfSome e.told (λ p. (s ≡ u.number) → (k ≡ p.order) → ⊥))) (sym none) tt)
       by (Some u) its = let o : (j : ℕ) × Own u j = own_of u its in here u o.0 o.1 (s == u.number) (k == o.0) refl refl
-
-  -- upwards
-
-  -- another end
-  other_ups : (s : ℕ) (l : Linked) → l.app ≢ app → UpWayBy x dead s l → UpWayBy y dead s l
-  other_ups s l other is =
-      subst (λ (z : End). IfSome (z.connection_at l.dial) (UpWayOn (y.lane_at s y.past) (dead l.app) z.state l.dial s))
-      (sym (ap (λ (g : ℕ → End). g l.app) puts.ends ∙ put_other x.end_at app f l.app other))
-      (subst (λ (k : ℕ). IfSome ((x.end_at l.app).connection_at l.dial) (UpWayOn (y.lane_at s k) (dead l.app) (x.end_at l.app).state l.dial s)) (sym puts.beside.past)
-      (some_kept (UpWayOn (x.lane_at s x.past) (dead l.app) (x.end_at l.app).state l.dial s) (UpWayOn (y.lane_at s x.past) (dead l.app) (x.end_at l.app).state l.dial s)
-      (λ c at. by c (is_joined_on (dead l.app) (x.end_at l.app).state l.dial s) refl at) ((x.end_at l.app).connection_at l.dial) is))
-    where
-      a : AppEnd
-      a = (x.end_at l.app).state
-
-      by : (c : Connection) (b : Bool) → is_joined_on (dead l.app) a l.dial s ≡ b → UpWay (x.lane_at s x.past) (ups_left c) (is_joined_on (dead l.app) a l.dial s)
-          → UpWay (y.lane_at s x.past) (ups_left c) (is_joined_on (dead l.app) a l.dial s)
-      by c false unjoined at =
-          subst (λ (b : Bool). UpWay (y.lane_at s x.past) (ups_left c) b) (sym unjoined)
-          (way_put (x.lane_at s x.past) (y.lane_at s x.past) (ups_left c) (is_joined_on (dead l.app) a l.dial s) (link.lanes s x.past) (lanes_put s x.past) at)
-      by c true joined at =
-          subst (λ (z : Lane). UpWay z (ups_left c) (is_joined_on (dead l.app) a l.dial s)) (sym (go (dead l.app) refl a.session refl parts.1)) at
-        where
-          parts : (is_wire (dead l.app) a l.dial && is_joined a.line ≡ true) × (is_number s a.session ≡ true)
-          parts = and_parts (is_wire (dead l.app) a l.dial && is_joined a.line) (is_number s a.session) joined
-
-          wired : is_wire (dead l.app) a l.dial ≡ true
-          wired = (and_parts (is_wire (dead l.app) a l.dial) (is_joined a.line) parts.0).0
-
-          go : (b : Bool) → dead l.app ≡ b → (o : Option Session) → a.session ≡ o → is_number s o ≡ true → y.lane_at s x.past ≡ x.lane_at s x.past
-          go true gone o its number = absurd (false≢true (sym (ap (λ (z : Bool). is_wire z a l.dial) gone) ∙ wired))
-          go false lives None its number = absurd (false≢true number)
-          go false lives (Some q) its number =
-              subst (λ (n : ℕ). y.lane_at n x.past ≡ x.lane_at n x.past) (eqb-true q.number s number) (other_lane l.app other lives q its x.past)
 
   -- its own
 
@@ -314,14 +258,15 @@ module _ (v w : Server) (x y : Site) (dead : ℕ → Bool) (app : ℕ) (t : AppE
   and_not true b c none = ap (λ (z : Bool). z && c) none
   and_not false b c none = refl
 
-  own_ups : (s number : ℕ) → IfSome (e.connection_at number) (CarriesNoOther s x.past) → IfSome (e.connection_at number) (UpWayOn (x.lane_at s x.past) (dead app) e.state number s)
+  own_ups : (s number : ℕ) (c : Connection) → e.connection_at number ≡ Some c → CarriesNoOther s x.past c → UpWayOn (x.lane_at s x.past) (dead app) e.state number s c
       → IfSome (f.connection_at number) (UpWayOn (y.lane_at s x.past) (dead app) t number s)
-  own_ups s number carries ways = go (number == t.dial) refl (e.connection_at number) refl carries ways ((dials.pairs app).each number)
+  own_ups s number c its carry way =
+      subst (λ (o : Option Connection). IfSome (if number == t.dial then option_map (with_ups fs) o else o) (UpWayOn (y.lane_at s x.past) (dead app) t number s)) (sym its)
+      (go (number == t.dial) refl)
     where
-      there : (c : Connection) → e.connection_at number ≡ Some c → CarriesNoOther s x.past c → c.ups_taken ≤ length c.ups → number ≡ t.dial → (b : Bool) → is_joined e.state.line ≡ b
-          → UpWayOn (x.lane_at s x.past) (dead app) e.state number s c → UpWayOn (y.lane_at s x.past) (dead app) t number s (with_ups fs c)
-      there c its carry within at true joined way = joined_ups s number c carry within (at ∙ puts.grows.dial) joined its way
-      there c its carry within at false unjoined way =
+      there : c.ups_taken ≤ length c.ups → number ≡ t.dial → (b : Bool) → is_joined e.state.line ≡ b → UpWayOn (y.lane_at s x.past) (dead app) t number s (with_ups fs c)
+      there low at true joined = joined_ups s number c carry low (at ∙ puts.grows.dial) joined its way
+      there low at false unjoined =
           subst (λ (xs : List UpFrame). UpWay (y.lane_at s x.past) xs (is_joined_on (dead app) t number s))
           (sym (ap (λ (us : List UpFrame). drop c.ups_taken (c.ups ++ us)) (ap (λ (b : Bool). put_frames b (session_of e.state).window ms) unjoined)
           ∙ ap (drop c.ups_taken) (append-nil c.ups)))
@@ -335,108 +280,36 @@ module _ (v w : Server) (x y : Site) (dead : ℕ → Bool) (app : ℕ) (t : AppE
           by true = ne_eqb number e.state.dial (λ same. other (same ∙ sym puts.grows.dial))
           by false = refl
 
-      go : (b : Bool) → (number == t.dial) ≡ b → (o : Option Connection) → e.connection_at number ≡ o → IfSome o (CarriesNoOther s x.past)
-          → IfSome o (UpWayOn (x.lane_at s x.past) (dead app) e.state number s) → IfSome o (ConnectionIs v x app number)
-          → IfSome (if b then option_map (with_ups fs) o else o) (UpWayOn (y.lane_at s x.past) (dead app) t number s)
-      go true at None none carry way made = tt
-      go false at None none carry way made = tt
-      go true at (Some c) its carry way made = there c its carry made.ups_taken (eqb-true number t.dial at) (is_joined e.state.line) refl way
-      go false at (Some c) its carry way made =
+      within : c.ups_taken ≤ length c.ups
+      within = (of_some (ConnectionIs v x app number) (e.connection_at number) c its ((dials.pairs app).each number)).ups_taken
+
+      go : (b : Bool) → (number == t.dial) ≡ b → IfSome (if b then Some (with_ups fs c) else Some c) (UpWayOn (y.lane_at s x.past) (dead app) t number s)
+      go true at = there within (eqb-true number t.dial at) (is_joined e.state.line) refl
+      go false at =
           apart_ups s number c
           (not_and (is_wire (dead app) e.state number) (is_joined e.state.line) (is_number s e.state.session)
           (unwired (λ same. false≢true (sym at ∙ eq-eqb number t.dial same)) (dead app))) way
 
-  -- a connection of a node's live session carries no other session
-  carries_own : (n : DataState) → NodeDials x n → (s conn : ℕ) (l : Linked) → role_of n conn ≡ Some (Bound s) → link_of x conn ≡ Some l
-      → IfSome ((x.end_at l.app).connection_at l.dial) (CarriesNoOther s x.past)
-  carries_own n d s conn l role its = go (of_some (RoleIs x n conn) (role_of n conn) (Bound s) role (d.roles conn))
-    where
-      by : (o : Option Connection) → IsSomeAnd o (BoundTo x n.order s) → IfSome o (CarriesNoOther s x.past)
-      by None at = tt
-      by (Some c) at = at.carries
-
-      same_link : (a b : Linked) → ◌≡◌ {A = Option Linked} (Some a) (Some b) → a ≡ b
-      same_link a b is = cc
-
-      go : BoundIs x n conn s → IfSome ((x.end_at l.app).connection_at l.dial) (CarriesNoOther s x.past)
-      go b =
-          subst (λ (k : Linked). IfSome ((x.end_at k.app).connection_at k.dial) (CarriesNoOther s x.past))
-          (same_link (record { app = b.app; dial = b.linked.dial }) l (sym b.linked.link ∙ its)) (by ((x.end_at b.app).connection_at b.linked.dial) b.linked.its)
-
-  ups_kept : (n : DataState) → NodeDials x n → (s conn : ℕ) (l : Linked) → role_of n conn ≡ Some (Bound s) → link_of x conn ≡ Some l → UpWayBy x dead s l → UpWayBy y dead s l
-  ups_kept n d s conn l role its is = go (l.app == app) refl
-    where
-      here : UpWayBy x dead s (record { app = app; dial = l.dial }) → IfSome (e.connection_at l.dial) (CarriesNoOther s x.past) → UpWayBy y dead s (record { app = app; dial = l.dial })
-      here way carries =
-          subst (λ (z : End). IfSome (z.connection_at l.dial) (UpWayOn (y.lane_at s y.past) (dead app) z.state l.dial s))
-          (sym (ap (λ (g : ℕ → End). g app) puts.ends ∙ put_same x.end_at app f))
-          (subst (λ (k : ℕ). IfSome (f.connection_at l.dial) (UpWayOn (y.lane_at s k) (dead app) t l.dial s)) (sym puts.beside.past) (own_ups s l.dial carries way))
-
-      go : (b : Bool) → (l.app == app) ≡ b → UpWayBy y dead s l
-      go true same =
-          subst (λ (a : ℕ). UpWayBy y dead s (record { app = a; dial = l.dial })) (sym (eqb-true l.app app same))
-          (here (subst (λ (a : ℕ). UpWayBy x dead s (record { app = a; dial = l.dial })) (eqb-true l.app app same) is)
-          (subst (λ (a : ℕ). IfSome ((x.end_at a).connection_at l.dial) (CarriesNoOther s x.past)) (eqb-true l.app app same) (carries_own n d s conn l role its)))
-      go false other = other_ups s l (λ same. false≢true (sym other ∙ eq-eqb l.app app same)) is
-
   -- ends that greet
 
-  unmet_kept : (a told s : ℕ) → Unmet v x a told s x.past → Unmet w y a told s y.past
-  unmet_kept a told s u =
-      subst (λ (k : ℕ). Unmet w y a told s k) (sym puts.beside.past)
-      (unmet_later v w x y later (λ q k. lane_down_goes (x.lane_at q k) (y.lane_at q k) (puts.lanes q k)) a told s x.past (inr past) u)
-
-  greets_same : (s a number : ℕ) (z : End) (line : Line) → GreetsOn v x s a z number line → GreetsOn w y s a z number line
-  greets_same s a number z Apart is = tt
-  greets_same s a number z Trying is = tt
-  greets_same s a number z Greeting is = λ at. unmet_kept a z.state.told s (is at)
-  greets_same s a number z Asking is = tt
-  greets_same s a number z Joined is = tt
+  unmet_kept : (told s : ℕ) → Unmet v x app told s x.past → Unmet w y app told s y.past
+  unmet_kept told s u =
+      subst (λ (k : ℕ). Unmet w y app told s k) (sym puts.beside.past)
+      (unmet_later v w x y later (λ q k. (puts.lanes q k).began) app told s x.past still (inr past) u)
 
   greets_own : (s number : ℕ) (line : Line) → GreetsOn v x s app e number line → GreetsOn w y s app f number line
   greets_own s number Apart is = tt
   greets_own s number Trying is = tt
-  greets_own s number Greeting is = λ at. subst (λ (n : ℕ). Unmet w y app n s y.past) (sym puts.grows.told) (unmet_kept app e.state.told s (is (at ∙ puts.grows.dial)))
+  greets_own s number Greeting is = λ at. subst (λ (n : ℕ). Unmet w y app n s y.past) (sym puts.grows.told) (unmet_kept e.state.told s (is (at ∙ puts.grows.dial)))
   greets_own s number Asking is = tt
   greets_own s number Joined is = tt
 
-  greets_kept : (s : ℕ) (l : Linked) → GreetsBy v x dead s l → GreetsBy w y dead s l
-  greets_kept s l is lives = go (l.app == app) refl
-    where
-      grown : LineGrows e.state.link e.state.line t.line → GreetsOn v x s app e l.dial e.state.line → GreetsOn w y s app f l.dial t.line
-      grown (inl same) at = subst (λ (line : Line). GreetsOn w y s app f l.dial line) (sym same) (greets_own s l.dial e.state.line at)
-      grown (inr begins) at = subst (λ (line : Line). GreetsOn w y s app f l.dial line) (sym begins.trying) tt
-
-      go : (b : Bool) → (l.app == app) ≡ b → GreetsOn w y s l.app (y.end_at l.app) l.dial (y.end_at l.app).state.line
-      go true same =
-          subst (λ (a : ℕ). GreetsOn w y s a (y.end_at a) l.dial (y.end_at a).state.line) (sym (eqb-true l.app app same))
-          (subst (λ (z : End). GreetsOn w y s app z l.dial z.state.line) (sym (ap (λ (g : ℕ → End). g app) puts.ends ∙ put_same x.end_at app f))
-          (grown puts.grows.line (subst (λ (a : ℕ). GreetsOn v x s a (x.end_at a) l.dial (x.end_at a).state.line) (eqb-true l.app app same) (is lives))))
-      go false other =
-          subst (λ (z : End). GreetsOn w y s l.app z l.dial z.state.line)
-          (sym (ap (λ (g : ℕ → End). g l.app) puts.ends ∙ put_other x.end_at app f l.app (λ same. false≢true (sym other ∙ eq-eqb l.app app same))))
-          (greets_same s l.app l.dial (x.end_at l.app) (x.end_at l.app).state.line (is lives))
-
   -- ends
 
-  firsts : (a number : ℕ) → IfSome ((x.end_at a).connection_at number) (λ c. IfSome c.first (λ z. z.order ≤ current v))
-  firsts a number =
-      some_kept (ConnectionIs v x a number) (λ (c : Connection). IfSome c.first (λ z. z.order ≤ current v)) (λ c is. firsts_there v x a number c is)
-      ((x.end_at a).connection_at number) ((dials.pairs a).each number)
-
-  others_kept : (a : ℕ) → a ≢ app → dead a ≡ false → AppWay w y a (x.end_at a)
-  others_kept a other lives =
-      other_way v w x y later puts.beside puts.lanes link.lanes a (x.end_at a) (told_there v a (x.end_at a) (are.told a lives)) (firsts a (x.end_at a).state.dial)
-      (go (x.end_at a).state.session refl) (link.apps a lives)
-    where
-      by : (q : Session) → (x.end_at a).state.session ≡ Some q → (p : Option Place) → IfSome p (λ z. (y.lane_at q.number z.order).up ≡ (x.lane_at q.number z.order).up)
-      by q its None = tt
-      by q its (Some z) = ap (λ (l : Lane). l.up) (other_lane a other lives q its z.order)
-
-      go : (o : Option Session) → (x.end_at a).state.session ≡ o
-          → IfSome o (λ s. IfSome (x.end_at a).told (λ z. (y.lane_at s.number z.order).up ≡ (x.lane_at s.number z.order).up))
-      go None none = tt
-      go (Some q) its = by q its (x.end_at a).told
+  firsts : (number : ℕ) → IfSome (e.connection_at number) (λ c. IfSome c.first (λ z. z.order ≤ current v))
+  firsts number =
+      some_kept (ConnectionIs v x app number) (λ (c : Connection). IfSome c.first (λ z. z.order ≤ current v)) (λ c is. firsts_there v x app number c is)
+      (e.connection_at number) ((dials.pairs app).each number)
 
   own_window : (o q : Option Session) → e.state.session ≡ o → SessionsGrow ms o q
       → IfSome q (λ s. IfSome e.told (λ p. WindowIs s.window (y.lane_at s.number p.order).up (y.lane_at s.number p.order).up_taken (y.lane_at s.number p.order).down_taken))
@@ -475,7 +348,7 @@ module _ (v w : Server) (x y : Site) (dead : ℕ → Bool) (app : ℕ) (t : AppE
       subst (λ (b : Bool). IfSome (if b then option_map (with_ups fs) (e.connection_at t.dial) else e.connection_at t.dial) (DownBy t.line w y app f))
       (sym (eq-eqb t.dial t.dial refl))
       (subst (λ (n : ℕ). IfSome (option_map (with_ups fs) (e.connection_at n)) (DownBy t.line w y app f)) (sym puts.grows.dial)
-      (go (e.connection_at e.state.dial) (firsts app e.state.dial) (link.apps app alive).down))
+      (go (e.connection_at e.state.dial) (firsts e.state.dial) (link.apps app alive).down))
     where
       line_grown : (c : Connection) → LineGrows e.state.link e.state.line t.line → DownBy e.state.line w y app f c → DownBy t.line w y app f c
       line_grown c (inl same) is = subst (λ (line : Line). DownBy line w y app f c) (sym same) is
@@ -488,7 +361,7 @@ module _ (v w : Server) (x y : Site) (dead : ℕ → Bool) (app : ℕ) (t : AppE
           line_grown (with_ups fs c) puts.grows.line
           (down_like e.state.line w y app e f (sessions_like ms e.state.session t.session puts.grows.session) puts.grows.link puts.grows.told refl (with_ups fs c)
           (down_same v w x y later puts.beside puts.lanes link.lanes e.state.line app e c (with_ups fs c) (record { its = refl; left = refl; first = refl; data_left = refl })
-          (told_there v app e (are.told app alive)) low is))
+          still (told_there v app e (are.told app alive)) low is))
 
   own_kept : AppWay w y app f
   own_kept =
@@ -496,56 +369,39 @@ module _ (v w : Server) (x y : Site) (dead : ℕ → Bool) (app : ℕ) (t : AppE
       × IfSome t.session (λ s. IfSome e.told (λ p. is_some (y.lane_at s.number p.order).began ≡ true)) = own_window e.state.session t.session refl puts.grows.session in
       record { window = both.0; begun = both.1; down = own_down }
 
-  -- The part on what is on its way at this data server.
-  pub link_kept_by_puts : LinkHolds w y dead
-  link_kept_by_puts = record {
-    lanes = counts_kept;
-    node =
-        subst (λ (o : Option DataState). IfSome o (NodeLink w y dead)) (sym puts.beside.node) (each x.node dials.node link.node);
-    apps = λ a lives.
-        subst (λ (g : ℕ → End). AppWay w y a (g a)) (sym puts.ends)
-        (at_places (λ (b : ℕ) (z : End). dead b ≡ false → AppWay w y b z) x.end_at app f (λ is. own_kept) (λ b other is. others_kept b other is) a lives);
+  -- So its end has what is owed of it.
+  pub own_puts : OwnKept v w x y dead app f
+  own_puts = record {
+    counts = counts_kept;
+    ups = λ s number c its carry way. own_ups s number c its carry way;
+    greets = λ s number c its is. line_greets s number puts.grows.line is;
+    way = own_kept;
   }
     where
-      stay : (a number : ℕ) → DownsStay ((x.end_at a).connection_at number) ((y.end_at a).connection_at number)
-      stay a number =
-          subst (λ (g : ℕ → End). DownsStay ((x.end_at a).connection_at number) ((g a).connection_at number)) (sym puts.ends)
-          (at_places (λ (b : ℕ) (z : End). DownsStay ((x.end_at b).connection_at number) (z.connection_at number)) x.end_at app f
-          (here (number == t.dial) (e.connection_at number)) (λ b other. same ((x.end_at b).connection_at number)) a)
-        where
-          same : (o : Option Connection) → DownsStay o o
-          same None = tt
-          same (Some c) = record { downs = refl; its = refl; knew = refl }
+      line_greets : (s number : ℕ) → LineGrows e.state.link e.state.line t.line → GreetsOn v x s app e number e.state.line → GreetsOn w y s app f number t.line
+      line_greets s number (inl same) at = subst (λ (line : Line). GreetsOn w y s app f number line) (sym same) (greets_own s number e.state.line at)
+      line_greets s number (inr begins) at = subst (λ (line : Line). GreetsOn w y s app f number line) (sym begins.trying) tt
 
-          here : (b : Bool) (o : Option Connection) → DownsStay o (if b then option_map (with_ups fs) o else o)
-          here b None = tt
-          here true (Some c) = record { downs = refl; its = refl; knew = refl }
-          here false (Some c) = record { downs = refl; its = refl; knew = refl }
+  pub puts_step : EndStep x y app f
+  puts_step = record {
+    beside = puts.beside;
+    ends = puts.ends;
+    lanes = lanes_put;
+    elsewhere = puts.elsewhere;
+    stay = λ number. here (number == t.dial) (e.connection_at number);
+  }
+    where
+      here : (b : Bool) (o : Option Connection) → DownsStay o (if b then option_map (with_ups fs) o else o)
+      here b None = tt
+      here true (Some c) = record { downs = refl; its = refl; knew = refl }
+      here false (Some c) = record { downs = refl; its = refl; knew = refl }
 
-      none_new : (a number : ℕ) → NoNew ((x.end_at a).connection_at number) ((y.end_at a).connection_at number)
-      none_new a number =
-          subst (λ (g : ℕ → End). NoNew ((x.end_at a).connection_at number) ((g a).connection_at number)) (sym puts.ends)
-          (at_places (λ (b : ℕ) (z : End). NoNew ((x.end_at b).connection_at number) (z.connection_at number)) x.end_at app f
-          (here (number == t.dial) (e.connection_at number)) (λ b other. same ((x.end_at b).connection_at number)) a)
-        where
-          same : (o : Option Connection) → NoNew o o
-          same None = tt
-          same (Some c) = tt
-
-          here : (b : Bool) (o : Option Connection) → NoNew o (if b then option_map (with_ups fs) o else o)
-          here true None = tt
-          here false None = tt
-          here b (Some c) = tt
-
-      old : (conn : ℕ) → IfSome (link_of x conn) (λ l. NoNew ((x.end_at l.app).connection_at l.dial) ((y.end_at l.app).connection_at l.dial))
-      old conn = go (link_of x conn)
-        where
-          go : (o : Option Linked) → IfSome o (λ l. NoNew ((x.end_at l.app).connection_at l.dial) ((y.end_at l.app).connection_at l.dial))
-          go None = tt
-          go (Some l) = none_new l.app l.dial
-
-      each : (o : Option DataState) → IfSome o (NodeDials x) → IfSome o (NodeLink v x dead) → IfSome o (NodeLink w y dead)
-      each None d is = tt
-      each (Some n) d is =
-          node_kept_by_app v w x y dead n later now puts.beside lanes_put stay old (λ s conn l role its way. ups_kept n d s conn l role its way)
-          (λ s conn l role its greets. greets_kept s l greets) is
+-- The part on what is on its way at this data server, as an end puts more and takes nothing.
+pub link_kept_by_puts : (v w : Server) (x y : Site) (dead : ℕ → Bool) (app : ℕ) (t : AppEnd) (shown : Shown) (ms : List Up) → dead app ≡ false → Later x v w
+    → ((a : ℕ) → EnteredStays a v w) → current w ≡ current v → x.past ≡ current v → LinkHolds v x dead → EndsAre v x dead → DialsAre v x dead
+    → Puts x y app t shown ms → LinkHolds w y dead
+link_kept_by_puts v w x y dead app t shown ms alive later still now past link are dials puts =
+    link_kept_by_end v w x y dead app
+    (own_after (with_ups (put_frames (is_joined (x.end_at app).state.line) (session_of (x.end_at app).state).window ms)) t shown (x.end_at app)) alive later
+    (λ a other. still a) now past link are dials (puts_step v w x y dead app t shown ms alive later (still app) past link are dials puts)
+    (own_puts v w x y dead app t shown ms alive later (still app) past link are dials puts)
