@@ -11,3 +11,4 @@ pub mod AppSites
 pub mod JobActs
 pub mod Outcomes
 pub mod FrameAlone
+pub mod InputOuts

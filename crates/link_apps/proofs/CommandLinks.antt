@@ -47,49 +47,49 @@ use Rattle.ends_kept.proofs.TablesKept.{normal_has}
 use Rattle.told_kept.proofs.SameSessions.{leaves_told, rows_met}
 use Rattle.told_kept.proofs.ToldJobs.{all_told}
 use Rattle.link_kept.specs.Laws.{EachLinkHolds}
-use Rattle.link_kept.proofs.Later.{entered_same, front_same}
-use Rattle.link_apps.proofs.EnteredStays.{leaves_entered, rows_entered, none_met, later_same}
+use Rattle.link_kept.proofs.Later.{front_same}
+use Rattle.link_apps.proofs.EnteredStays.{keeps_entered, entered_stays, none_met, later_same}
 use Rattle.link_apps.proofs.EndsApps.{LaneDown}
 use Rattle.link_apps.proofs.LanesApps.{lane_down, given_put, own_lane, site_lanes}
 use Rattle.link_apps.proofs.OwnPuts.{Puts, own_after, link_kept_by_puts}
 
 -- acts of jobs
 
-job_enters : (a : Act) → IsOfJob a → leaves_entered a ≡ true
-job_enters (Opened e entries) of_job = absurd of_job
-job_enters (Enter e entry) of_job = absurd of_job
-job_enters (Synced e n) of_job = absurd of_job
-job_enters (Shut e session cause) of_job = absurd of_job
-job_enters (Release e session) of_job = absurd of_job
-job_enters (Met a e session) of_job = absurd of_job
-job_enters (Told a e session epoch kept) of_job = absurd of_job
-job_enters (Back e) of_job = absurd of_job
-job_enters (Crash e kept) of_job = absurd of_job
-job_enters (Issue job line e w item) of_job = refl
-job_enters (Read job line e at via question) of_job = refl
-job_enters (GrantAct e session job mode key at) of_job = absurd of_job
-job_enters (Granted job line e at) of_job = refl
-job_enters (GiveUp job line e mode key) of_job = refl
-job_enters (Quit job line e mode key) of_job = refl
-job_enters (Free e session job mode key) of_job = absurd of_job
-job_enters (Counted job line e at sum) of_job = refl
-job_enters (NotWhole job line e at) of_job = refl
-job_enters (Range job line e at) of_job = refl
-job_enters (Committed job line e at) of_job = refl
-job_enters (RolledBack job line e at) of_job = refl
-job_enters (Reached job line e at) of_job = refl
-job_enters (Level job line level) of_job = refl
-job_enters (Done job line) of_job = refl
-job_enters (Refused job line refusal) of_job = refl
-job_enters (Broke a e end time) of_job = absurd of_job
-job_enters (Mended a e) of_job = absurd of_job
-job_enters (Tick time) of_job = absurd of_job
-job_enters (Lose a e loss) of_job = absurd of_job
-job_enters (Died a) of_job = absurd of_job
+job_enters : (app d : ℕ) (a : Act) → IsOfJob a → keeps_entered app d a ≡ true
+job_enters app d (Opened e entries) of_job = absurd of_job
+job_enters app d (Enter e entry) of_job = absurd of_job
+job_enters app d (Synced e n) of_job = absurd of_job
+job_enters app d (Shut e session cause) of_job = absurd of_job
+job_enters app d (Release e session) of_job = absurd of_job
+job_enters app d (Met a e session) of_job = absurd of_job
+job_enters app d (Told a e session epoch kept) of_job = absurd of_job
+job_enters app d (Back e) of_job = absurd of_job
+job_enters app d (Crash e kept) of_job = absurd of_job
+job_enters app d (Issue job line e w item) of_job = refl
+job_enters app d (Read job line e at via question) of_job = refl
+job_enters app d (GrantAct e session job mode key at) of_job = absurd of_job
+job_enters app d (Granted job line e at) of_job = refl
+job_enters app d (GiveUp job line e mode key) of_job = refl
+job_enters app d (Quit job line e mode key) of_job = refl
+job_enters app d (Free e session job mode key) of_job = absurd of_job
+job_enters app d (Counted job line e at sum) of_job = refl
+job_enters app d (NotWhole job line e at) of_job = refl
+job_enters app d (Range job line e at) of_job = refl
+job_enters app d (Committed job line e at) of_job = refl
+job_enters app d (RolledBack job line e at) of_job = refl
+job_enters app d (Reached job line e at) of_job = refl
+job_enters app d (Level job line level) of_job = refl
+job_enters app d (Done job line) of_job = refl
+job_enters app d (Refused job line refusal) of_job = refl
+job_enters app d (Broke a e end time) of_job = absurd of_job
+job_enters app d (Mended a e) of_job = absurd of_job
+job_enters app d (Tick time) of_job = absurd of_job
+job_enters app d (Lose a e loss) of_job = absurd of_job
+job_enters app d (Died a) of_job = absurd of_job
 
-all_enter : (ws : List Act) → AllByRecursion IsOfJob ws → AllByRecursion (λ a. leaves_entered a ≡ true) ws
-all_enter [] of_job = tt
-all_enter (a ∷ ws) of_job = (job_enters a of_job.0, all_enter ws of_job.1)
+all_enter : (app d : ℕ) (ws : List Act) → AllByRecursion IsOfJob ws → AllByRecursion (λ a. keeps_entered app d a ≡ true) ws
+all_enter app d [] of_job = tt
+all_enter app d (a ∷ ws) of_job = (job_enters app d a of_job.0, all_enter app d ws of_job.1)
 
 -- what a job puts has a number
 
@@ -214,8 +214,8 @@ links_kept_by_job l c m job now line command outs written new h run shows allowe
         link_kept_by_puts v w x (site d) m.is_dead_at app t e.shown (grew d).put alive
         (later_same x v w (orders_agree l m.trail d run) orders
         (none_met v w (rows_met l p goes.app_outs.acts (subst (λ (ws : List Act). AllByRecursion (λ z. leaves_told z ≡ true) ws) (sym wrote.acts) (all_told wrote.written wrote.of_job)) d)))
-        (λ a. entered_same a v w
-        (rows_entered l p goes.app_outs.acts (subst (λ (ws : List Act). AllByRecursion (λ z. leaves_entered z ≡ true) ws) (sym wrote.acts) (all_enter wrote.written wrote.of_job)) d))
+        (λ a. entered_stays l p goes.app_outs.acts a d
+        (subst (λ (ws : List Act). AllByRecursion (λ z. keeps_entered a d z ≡ true) ws) (sym wrote.acts) (all_enter a d wrote.written wrote.of_job)))
         (ap (λ (xs : List (List Entry)). length xs) orders.past) (h.sites d).order.past (h.sites d).link (h.sites d).ends (h.sites d).dials puts
       where
         v : Server

@@ -1,6 +1,6 @@
 -- Acts that enter nothing and lose no session leave what was entered, and acts that leave the orders leave the rest of a plain server too.
-use Rattle.std.proofs.Common.{◌≡◌, ℕ, ◌+◌, ◌-◌, ◌==◌, if◌then◌else◌, Bool, true, false, List, [], ◌∷◌, ◌++◌, length, get_or, Some, None, Option, option_map, refl, sym, ◌∙◌, ap, subst, arith}
-use Rattle.std.proofs.lemmas.Bool.{false≢true}
+use Rattle.std.proofs.Common.{◌≡◌, ℕ, ◌+◌, ◌-◌, ◌==◌, if◌then◌else◌, Bool, true, false, not, ◌&&◌, List, [], ◌∷◌, ◌++◌, length, get_or, Some, None, Option, option_map, refl, sym, ◌∙◌, ap, subst, arith}
+use Rattle.std.proofs.lemmas.Bool.{eq-eqb, false≢true, ne_eqb, true≢false}
 use Rattle.std.specs.List.{AllByRecursion}
 use Rattle.plain_orders.specs.declared.act.Act.{Act}
 use Rattle.plain_orders.specs.declared.act.Act.TheVariants.{Opened, Enter, Synced, Shut, Release, Met, Told, Back, Crash, Issue, Read, Grant, Granted, GiveUp, Quit, Free, Counted, NotWhole, Range, Committed, RolledBack, Reached, Level, Done, Refused, Broke, Mended, Tick, Lose, Died}
@@ -13,8 +13,10 @@ use Rattle.plain_orders.specs.declared.causes.Loss.TheVariants.{Reset as ByReset
 use Rattle.plain_orders.specs.declared.causes.PairEnd.{PairEnd}
 use Rattle.plain_orders.specs.declared.causes.PairEnd.TheVariants.{App as AppSide, Server as ServerSide}
 use Rattle.plain_orders.specs.declared.layout.Layout.{Layout}
-use Rattle.plain_runs.specs.Plain.{Plain, Server, Session as PlainSession, current, order_at}
-use Rattle.plain_runs.specs.EndRows.{broke, lost}
+use Rattle.plain_runs.specs.Plain.{Plain, Server, Session as PlainSession, Entered, current, order_at}
+use Rattle.plain_runs.specs.EndRows.{broke, lost, lost_session, since_loss, without_session}
+use Rattle.plain_orders.specs.declared.refused.ReasonName.{ReasonName}
+use Rattle.plain_orders.specs.declared.refused.ReasonName.TheVariants as names
 use Rattle.plain_runs.specs.JobRows.{refused}
 use Rattle.plain_runs.specs.Step.{after}
 use Rattle.plain_runs.specs.Run.{after_all}
@@ -23,111 +25,141 @@ use Rattle.data_rules.specs.Places.{epoch_place}
 use Rattle.cluster_runs.specs.Machine.{Site}
 use Rattle.cluster_invariant.specs.Orders.{OrdersAgree}
 use Rattle.cluster_invariant.specs.Words.{IsFront, stays_at}
+use Rattle.cluster_invariant.proofs.Small.{put_other}
 use Rattle.cluster_invariant.proofs.OrderBeside.{SameOrders}
 use Rattle.told_kept.proofs.SameSessions.{SameMets, whose}
-use Rattle.link_kept.proofs.Later.{Later, front_same}
+use Rattle.link_kept.proofs.Later.{EnteredStays, Later, front_same}
 use Rattle.link_kept.proofs.ShortMoves.{stays_within}
 
--- what was entered is as it was
-abbrev pub SameEntered : Server → Server → Type 0
-SameEntered v w = (n : ℕ) → w.entered_at n ≡ v.entered_at n
+-- what was entered for an application server is known still
+abbrev pub KeepsFor : ℕ → Server → Server → Type 0
+KeepsFor app v w = (s j : ℕ) → v.entered_at s ≡ Some (record { app = app; in_order = j; lost_since = false })
+    → w.entered_at s ≡ Some (record { app = app; in_order = j; lost_since = false })
 
 -- a session that wasn't met isn't met
 abbrev pub NoneMet : Server → Server → Type 0
 NoneMet v w = (n : ℕ) → v.session_at n ≡ None → w.session_at n ≡ None
 
-same_entered : (v : Server) → SameEntered v v
-same_entered v n = refl
+keeps_same : (app : ℕ) (v : Server) → KeepsFor app v v
+keeps_same app v s j is = is
 
--- an act that enters nothing, and by which no connected session is lost
-abbrev pub leaves_entered : Act → Bool
-leaves_entered (Opened d entries) = true
-leaves_entered (Enter d x) = false
-leaves_entered (Synced d n) = true
-leaves_entered (Shut d session cause) = true
-leaves_entered (Release d session) = true
-leaves_entered (Met app d session) = true
-leaves_entered (Told app d session epoch kept) = true
-leaves_entered (Back d) = true
-leaves_entered (Crash d kept) = true
-leaves_entered (Issue job line d w item) = true
-leaves_entered (Read job line d at via question) = true
-leaves_entered (Grant d session job mode key at) = true
-leaves_entered (Granted job line d at) = true
-leaves_entered (GiveUp job line d mode key) = true
-leaves_entered (Quit job line d mode key) = true
-leaves_entered (Free d session job mode key) = true
-leaves_entered (Counted job line d at sum) = true
-leaves_entered (NotWhole job line d at) = true
-leaves_entered (Range job line d at) = true
-leaves_entered (Committed job line d at) = true
-leaves_entered (RolledBack job line d at) = true
-leaves_entered (Reached job line d at) = true
-leaves_entered (Level job line level) = true
-leaves_entered (Done job line) = true
-leaves_entered (Refused job line refusal) = true
-leaves_entered (Broke app d end time) = true
-leaves_entered (Mended app d) = true
-leaves_entered (Tick time) = true
-leaves_entered (Lose app d (ByReset at)) = false
-leaves_entered (Lose app d (ByExpired time)) = false
-leaves_entered (Lose app d (ByNoWay before later)) = true
-leaves_entered (Died app) = true
+-- an act that enters nothing at this data server, and by which this application server loses no session there
+abbrev pub keeps_entered : ℕ → ℕ → Act → Bool
+keeps_entered app d (Opened e entries) = true
+keeps_entered app d (Enter e x) = false
+keeps_entered app d (Synced e n) = true
+keeps_entered app d (Shut e session cause) = true
+keeps_entered app d (Release e session) = true
+keeps_entered app d (Met a e session) = true
+keeps_entered app d (Told a e session epoch kept) = true
+keeps_entered app d (Back e) = true
+keeps_entered app d (Crash e kept) = true
+keeps_entered app d (Issue job line e w item) = true
+keeps_entered app d (Read job line e at via question) = true
+keeps_entered app d (Grant e session job mode key at) = true
+keeps_entered app d (Granted job line e at) = true
+keeps_entered app d (GiveUp job line e mode key) = true
+keeps_entered app d (Quit job line e mode key) = true
+keeps_entered app d (Free e session job mode key) = true
+keeps_entered app d (Counted job line e at sum) = true
+keeps_entered app d (NotWhole job line e at) = true
+keeps_entered app d (Range job line e at) = true
+keeps_entered app d (Committed job line e at) = true
+keeps_entered app d (RolledBack job line e at) = true
+keeps_entered app d (Reached job line e at) = true
+keeps_entered app d (Level job line level) = true
+keeps_entered app d (Done job line) = true
+keeps_entered app d (Refused job line refusal) = true
+keeps_entered app d (Broke a e end time) = true
+keeps_entered app d (Mended a e) = true
+keeps_entered app d (Tick time) = true
+keeps_entered app d (Lose a e (ByReset at)) = not (a == app && e == d)
+keeps_entered app d (Lose a e (ByExpired time)) = not (a == app && e == d)
+keeps_entered app d (Lose a e (ByNoWay before later)) = true
+keeps_entered app d (Died a) = true
 
-broke_entered : (v : Server) (app : ℕ) (end : PairEnd) (time : ℕ) → SameEntered v (broke v app end time)
-broke_entered v app AppSide time n = refl
-broke_entered v app ServerSide time n = refl
+broke_keeps : (app : ℕ) (v : Server) (a : ℕ) (end : PairEnd) (time : ℕ) → KeepsFor app v (broke v a end time)
+broke_keeps app v a AppSide time s j is = is
+broke_keeps app v a ServerSide time s j is = is
 
-lost_entered : (l : Layout) (p : Plain) (app server : ℕ) (loss : Loss) (d : ℕ) → leaves_entered (Lose app server loss) ≡ true
-    → SameEntered (p.server_at d) ((lost l p app server loss).server_at d)
-lost_entered l p app server (ByReset at) d leaves = absurd (false≢true leaves)
-lost_entered l p app server (ByExpired time) d leaves = absurd (false≢true leaves)
-lost_entered l p app server (ByNoWay before later) d leaves = at_put SameEntered p.server_at server _ same_entered (λ n. refl) d
+-- a session of another application server is lost
+since_other : (app a j : ℕ) (o : Option Entered) → (app == a) ≡ false → o ≡ Some (record { app = app; in_order = j; lost_since = false })
+    → since_loss a o ≡ Some (record { app = app; in_order = j; lost_since = false })
+since_other app a j o other is =
+    ap (since_loss a) is ∙ ap (λ (b : Bool). Some (record { app = app; in_order = j; lost_since = b })) other
 
-refused_entered : (p : Plain) (job : ℕ) (r : Refusal) (d : ℕ) → SameEntered (p.server_at d) ((refused p job r).server_at d)
-refused_entered p job NoTransaction d = same_entered (p.server_at d)
-refused_entered p job TooDeep d = same_entered (p.server_at d)
-refused_entered p job RollbackOnly d = same_entered (p.server_at d)
-refused_entered p job LockTimeout d = same_entered (p.server_at d)
-refused_entered p job (Network server state reason) d = at_put SameEntered p.server_at server _ same_entered (λ n. refl) d
+session_keeps : (l : Layout) (p : Plain) (a e app d : ℕ) (reason : ReasonName) → not (a == app && e == d) ≡ true
+    → KeepsFor app (p.server_at d) ((lost_session l p a e reason).server_at d)
+session_keeps l p a e app d reason keeps = go (a == app) refl keeps
+  where
+    flipped : (a == app) ≡ false → (app == a) ≡ false
+    flipped other = ne_eqb app a (λ same. false≢true (sym other ∙ eq-eqb a app (sym same)))
 
-row_entered : (l : Layout) (p : Plain) (a : Act) → leaves_entered a ≡ true → (d : ℕ) → SameEntered (p.server_at d) ((after l p a).server_at d)
-row_entered l p (Opened e entries) leaves d = at_put SameEntered p.server_at e _ same_entered (λ n. refl) d
-row_entered l p (Enter e x) leaves d = absurd (false≢true leaves)
-row_entered l p (Synced e k) leaves d = at_put SameEntered p.server_at e _ same_entered (λ n. refl) d
-row_entered l p (Shut e session cause) leaves d = at_put SameEntered p.server_at e _ same_entered (λ n. refl) d
-row_entered l p (Release e session) leaves d = at_put SameEntered p.server_at e _ same_entered (λ n. refl) d
-row_entered l p (Met app e session) leaves d = at_put SameEntered p.server_at e _ same_entered (λ n. refl) d
-row_entered l p (Told app e session epoch kept) leaves d = at_put SameEntered p.server_at e _ same_entered (λ n. refl) d
-row_entered l p (Back e) leaves d = at_put SameEntered p.server_at e _ same_entered (λ n. refl) d
-row_entered l p (Crash e kept) leaves d = at_put SameEntered p.server_at e _ same_entered (λ n. refl) d
-row_entered l p (Issue job line e w item) leaves d = at_put SameEntered p.server_at e _ same_entered (λ n. refl) d
-row_entered l p (Read job line e at via question) leaves d = at_put SameEntered p.server_at e _ same_entered (λ n. refl) d
-row_entered l p (Grant e session job mode key at) leaves d = at_put SameEntered p.server_at e _ same_entered (λ n. refl) d
-row_entered l p (Granted job line e at) leaves d = at_put SameEntered p.server_at e _ same_entered (λ n. refl) d
-row_entered l p (GiveUp job line e mode key) leaves d = at_put SameEntered p.server_at e _ same_entered (λ n. refl) d
-row_entered l p (Quit job line e mode key) leaves d = at_put SameEntered p.server_at e _ same_entered (λ n. refl) d
-row_entered l p (Free e session job mode key) leaves d = at_put SameEntered p.server_at e _ same_entered (λ n. refl) d
-row_entered l p (Counted job line e at sum) leaves d = at_put SameEntered p.server_at e _ same_entered (λ n. refl) d
-row_entered l p (NotWhole job line e at) leaves d = at_put SameEntered p.server_at e _ same_entered (λ n. refl) d
-row_entered l p (Range job line e at) leaves d = at_put SameEntered p.server_at e _ same_entered (λ n. refl) d
-row_entered l p (Committed job line e at) leaves d = at_put SameEntered p.server_at e _ same_entered (λ n. refl) d
-row_entered l p (RolledBack job line e at) leaves d = at_put SameEntered p.server_at e _ same_entered (λ n. refl) d
-row_entered l p (Reached job line e at) leaves d = at_put SameEntered p.server_at e _ same_entered (λ n. refl) d
-row_entered l p (Level job line level) leaves d = same_entered (p.server_at d)
-row_entered l p (Done job line) leaves d = same_entered (p.server_at d)
-row_entered l p (Refused job line refusal) leaves d = refused_entered p job refusal d
-row_entered l p (Broke app e end time) leaves d = at_put SameEntered p.server_at e _ same_entered (broke_entered (p.server_at e) app end time) d
-row_entered l p (Mended app e) leaves d = at_put SameEntered p.server_at e _ same_entered (λ n. refl) d
-row_entered l p (Tick time) leaves d = same_entered (p.server_at d)
-row_entered l p (Lose app e loss) leaves d = lost_entered l p app e loss d leaves
-row_entered l p (Died app) leaves d = same_entered (p.server_at d)
+    go : (b : Bool) → (a == app) ≡ b → not (b && e == d) ≡ true → KeepsFor app (p.server_at d) ((lost_session l p a e reason).server_at d)
+    go false other is = at_put (KeepsFor app) p.server_at e _ (keeps_same app) (λ s j known. since_other app a j ((p.server_at e).entered_at s) (flipped other) known) d
+    go true same is =
+        subst (λ (w : Server). KeepsFor app (p.server_at d) w)
+        (sym (put_other p.server_at e (without_session l (p.server_at e) a reason) d (λ at. absurd (true≢false (sym (eq-eqb e d (sym at)) ∙ not_true (e == d) is)))))
+        (keeps_same app (p.server_at d))
+      where
+        not_true : (b : Bool) → not b ≡ true → b ≡ false
+        not_true true bad = sym bad
+        not_true false bad = refl
+
+lost_keeps : (l : Layout) (p : Plain) (a e : ℕ) (loss : Loss) (app d : ℕ) → keeps_entered app d (Lose a e loss) ≡ true
+    → KeepsFor app (p.server_at d) ((lost l p a e loss).server_at d)
+lost_keeps l p a e (ByReset at) app d keeps = session_keeps l p a e app d names.Reset keeps
+lost_keeps l p a e (ByExpired time) app d keeps = session_keeps l p a e app d names.Expired keeps
+lost_keeps l p a e (ByNoWay before later) app d keeps = at_put (KeepsFor app) p.server_at e _ (keeps_same app) (λ s j is. is) d
+
+refused_keeps : (p : Plain) (job : ℕ) (r : Refusal) (app d : ℕ) → KeepsFor app (p.server_at d) ((refused p job r).server_at d)
+refused_keeps p job NoTransaction app d = keeps_same app (p.server_at d)
+refused_keeps p job TooDeep app d = keeps_same app (p.server_at d)
+refused_keeps p job RollbackOnly app d = keeps_same app (p.server_at d)
+refused_keeps p job LockTimeout app d = keeps_same app (p.server_at d)
+refused_keeps p job (Network server state reason) app d = at_put (KeepsFor app) p.server_at server _ (keeps_same app) (λ s j is. is) d
+
+row_keeps : (l : Layout) (p : Plain) (a : Act) (app d : ℕ) → keeps_entered app d a ≡ true → KeepsFor app (p.server_at d) ((after l p a).server_at d)
+row_keeps l p (Opened e entries) app d keeps = at_put (KeepsFor app) p.server_at e _ (keeps_same app) (λ s j is. is) d
+row_keeps l p (Enter e x) app d keeps = absurd (false≢true keeps)
+row_keeps l p (Synced e k) app d keeps = at_put (KeepsFor app) p.server_at e _ (keeps_same app) (λ s j is. is) d
+row_keeps l p (Shut e session cause) app d keeps = at_put (KeepsFor app) p.server_at e _ (keeps_same app) (λ s j is. is) d
+row_keeps l p (Release e session) app d keeps = at_put (KeepsFor app) p.server_at e _ (keeps_same app) (λ s j is. is) d
+row_keeps l p (Met a e session) app d keeps = at_put (KeepsFor app) p.server_at e _ (keeps_same app) (λ s j is. is) d
+row_keeps l p (Told a e session epoch kept) app d keeps = at_put (KeepsFor app) p.server_at e _ (keeps_same app) (λ s j is. is) d
+row_keeps l p (Back e) app d keeps = at_put (KeepsFor app) p.server_at e _ (keeps_same app) (λ s j is. is) d
+row_keeps l p (Crash e kept) app d keeps = at_put (KeepsFor app) p.server_at e _ (keeps_same app) (λ s j is. is) d
+row_keeps l p (Issue job line e w item) app d keeps = at_put (KeepsFor app) p.server_at e _ (keeps_same app) (λ s j is. is) d
+row_keeps l p (Read job line e at via question) app d keeps = at_put (KeepsFor app) p.server_at e _ (keeps_same app) (λ s j is. is) d
+row_keeps l p (Grant e session job mode key at) app d keeps = at_put (KeepsFor app) p.server_at e _ (keeps_same app) (λ s j is. is) d
+row_keeps l p (Granted job line e at) app d keeps = at_put (KeepsFor app) p.server_at e _ (keeps_same app) (λ s j is. is) d
+row_keeps l p (GiveUp job line e mode key) app d keeps = at_put (KeepsFor app) p.server_at e _ (keeps_same app) (λ s j is. is) d
+row_keeps l p (Quit job line e mode key) app d keeps = at_put (KeepsFor app) p.server_at e _ (keeps_same app) (λ s j is. is) d
+row_keeps l p (Free e session job mode key) app d keeps = at_put (KeepsFor app) p.server_at e _ (keeps_same app) (λ s j is. is) d
+row_keeps l p (Counted job line e at sum) app d keeps = at_put (KeepsFor app) p.server_at e _ (keeps_same app) (λ s j is. is) d
+row_keeps l p (NotWhole job line e at) app d keeps = at_put (KeepsFor app) p.server_at e _ (keeps_same app) (λ s j is. is) d
+row_keeps l p (Range job line e at) app d keeps = at_put (KeepsFor app) p.server_at e _ (keeps_same app) (λ s j is. is) d
+row_keeps l p (Committed job line e at) app d keeps = at_put (KeepsFor app) p.server_at e _ (keeps_same app) (λ s j is. is) d
+row_keeps l p (RolledBack job line e at) app d keeps = at_put (KeepsFor app) p.server_at e _ (keeps_same app) (λ s j is. is) d
+row_keeps l p (Reached job line e at) app d keeps = at_put (KeepsFor app) p.server_at e _ (keeps_same app) (λ s j is. is) d
+row_keeps l p (Level job line level) app d keeps = keeps_same app (p.server_at d)
+row_keeps l p (Done job line) app d keeps = keeps_same app (p.server_at d)
+row_keeps l p (Refused job line refusal) app d keeps = refused_keeps p job refusal app d
+row_keeps l p (Broke a e end time) app d keeps = at_put (KeepsFor app) p.server_at e _ (keeps_same app) (broke_keeps app (p.server_at e) a end time) d
+row_keeps l p (Mended a e) app d keeps = at_put (KeepsFor app) p.server_at e _ (keeps_same app) (λ s j is. is) d
+row_keeps l p (Tick time) app d keeps = keeps_same app (p.server_at d)
+row_keeps l p (Lose a e loss) app d keeps = lost_keeps l p a e loss app d keeps
+row_keeps l p (Died a) app d keeps = keeps_same app (p.server_at d)
+
+rows_keep : (l : Layout) (p : Plain) (acts : List Act) (app d : ℕ) → AllByRecursion (λ a. keeps_entered app d a ≡ true) acts
+    → KeepsFor app (p.server_at d) ((after_all l p acts).server_at d)
+rows_keep l p [] app d keeps = keeps_same app (p.server_at d)
+rows_keep l p (a ∷ acts) app d keeps = λ s j is. rows_keep l (after l p a) acts app d keeps.1 s j (row_keeps l p a app d keeps.0 s j is)
 
 -- Several such acts.
-pub rows_entered : (l : Layout) (p : Plain) (acts : List Act) → AllByRecursion (λ a. leaves_entered a ≡ true) acts → (d : ℕ)
-    → SameEntered (p.server_at d) ((after_all l p acts).server_at d)
-rows_entered l p [] leaves d = same_entered (p.server_at d)
-rows_entered l p (a ∷ acts) leaves d = λ n. rows_entered l (after l p a) acts leaves.1 d n ∙ row_entered l p a leaves.0 d n
+pub entered_stays : (l : Layout) (p : Plain) (acts : List Act) (app d : ℕ) → AllByRecursion (λ a. keeps_entered app d a ≡ true) acts
+    → EnteredStays app (p.server_at d) ((after_all l p acts).server_at d)
+entered_stays l p acts app d keeps = record { known = λ s k j low why is. rows_keep l p acts app d keeps s j is }
 
 -- acts that tell no session anything meet none
 pub none_met : (v w : Server) → SameMets v w → NoneMet v w

@@ -7,3 +7,4 @@ pub mod Relane
 pub mod EndStep
 pub mod OwnPuts
 pub mod CommandLinks
+pub mod Rests
