@@ -8,3 +8,4 @@ pub mod EndStep
 pub mod OwnPuts
 pub mod CommandLinks
 pub mod Rests
+pub mod RestWays
