@@ -9,3 +9,5 @@ pub mod OwnPuts
 pub mod CommandLinks
 pub mod Rests
 pub mod RestWays
+pub mod InputPlain
+pub mod RestLinks
