@@ -11,3 +11,4 @@ pub mod Rests
 pub mod RestWays
 pub mod InputPlain
 pub mod RestLinks
+pub mod ConnectedLinks

@@ -58,7 +58,7 @@ use Rattle.link_apps.proofs.RestWays.{ConnRests, LaneRests, Rests, link_kept_by_
 
 -- lanes
 
-lane_same : (a : Lane) → LaneRests a a
+pub lane_same : (a : Lane) → LaneRests a a
 lane_same a = record { up = refl; down = record { began = refl; up_taken = refl; down = refl; down_taken = refl } }
 
 -- a session that was given nothing
@@ -69,7 +69,7 @@ lane_rests m number u frames a taken = record {
   down = record { began = refl; up_taken = refl; down = refl; down_taken = taken };
 }
 
-place_number : (p : Place) (s k : ℕ) → ◌≡◌ {A = Option Place} (Some p) (Some (record { session = s; order = k })) → p.session ≡ s
+pub place_number : (p : Place) (s k : ℕ) → ◌≡◌ {A = Option Place} (Some p) (Some (record { session = s; order = k })) → p.session ≡ s
 place_number p s k same = (let is : p ≡ record { session = s; order = k } = cc in ap (λ (z : Place). z.session) is)
 
 pub none_new : (o q : Option Session) → (q ≡ o) ⊎ (q ≡ None) → is_told_new o q ≡ false

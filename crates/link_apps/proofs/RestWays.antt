@@ -68,7 +68,7 @@ pub record Rests (x y : Site) (app : ℕ) (f : End) : Type 0 where
   pub conns : (number : ℕ) (c : Connection) → (x.end_at app).connection_at number ≡ Some c → IfSome (f.connection_at number) (ConnRests c)
   pub none : (number : ℕ) → (x.end_at app).connection_at number ≡ None → f.connection_at number ≡ None
 
-put_of : (a b : Lane) → LaneRests a b → LanePut a b
+pub put_of : (a b : Lane) → LaneRests a b → LanePut a b
 put_of a b r = record {
   began = r.down.began;
   up = ([], r.up ∙ sym (append-nil a.up));
@@ -77,7 +77,7 @@ put_of a b r = record {
   down_taken = omega (arith, r.down.down_taken);
 }
 
-counts_rest : (a b : Lane) → LaneRests a b → LaneCounts a → LaneCounts b
+pub counts_rest : (a b : Lane) → LaneRests a b → LaneCounts a → LaneCounts b
 counts_rest a b r c = record {
   up_taken = omega (arith, c.up_taken, r.down.up_taken, ap (λ (ms : List Up). length ms) r.up);
   down_taken = omega (arith, c.down_taken, r.down.down_taken, ap (λ (ms : List Down). length ms) r.down.down);
