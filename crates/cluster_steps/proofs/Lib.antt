@@ -12,3 +12,4 @@ pub mod JobActs
 pub mod InputsBring
 pub mod Outcomes
 pub mod FrameAlone
+pub mod InputOuts

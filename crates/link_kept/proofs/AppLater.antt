@@ -23,7 +23,7 @@ use Rattle.cluster_invariant.specs.Link.{LaneCounts, WindowIs, DownWay, EndsWith
 use Rattle.cluster_invariant.specs.Words.{IsFront, numbered_behind, downs_left, stays_at}
 use Rattle.cluster_invariant.proofs.AllLists.{all_follow}
 use Rattle.cluster_invariant.proofs.Small.{some_kept}
-use Rattle.link_kept.proofs.Later.{Later, front_same, front_then, counts_front, header_later, place_later}
+use Rattle.link_kept.proofs.Later.{EnteredStays, Later, front_same, front_then, counts_front, header_later, place_later}
 
 -- lanes
 
@@ -141,26 +141,26 @@ le_or_above n m = go (nat_lt m n) refl
     go false is = inl (ltb-false m n is)
 
 -- a session that was entered and not met, in an order that goes on
-pub unmet_later : (v w : Server) (x y : Site) → Later x v w → ((s k : ℕ) → LaneGoes (x.lane_at s k) (y.lane_at s k)) → (app told s k : ℕ) → (s ≤ stays_at v k) ⊎ (k ≡ current v) → Unmet v x app told s k → Unmet w y app told s k
-unmet_later v w x y later lanes app told s k why u = record {
+pub unmet_later : (v w : Server) (x y : Site) → Later x v w → ((s k : ℕ) → (y.lane_at s k).began ≡ (x.lane_at s k).began) → (app told s k : ℕ) → EnteredStays app v w → (s ≤ stays_at v k) ⊎ (k ≡ current v) → Unmet v x app told s k → Unmet w y app told s k
+unmet_later v w x y later lanes app told s k still why u = record {
   there = omega (arith, u.there, later.there);
   above = u.above;
   unmet = later.met s u.unmet;
-  entered = known why ∙ u.entered;
+  entered = still.known s k k u.there (known why) u.entered;
   opened =
       subst (λ (xs : List Entry). entry_at xs s ≡ Some (Opened s app)) (sym (later.goes_on k u.there).1)
       (entry_append (order_at v k) (later.goes_on k u.there).0 (Opened s app) s u.opened);
   behind = subst (λ n. n < s) (sym (later.place k u.there)) u.behind;
   unused = later.counts s k u.there u.unlearnt ∙ u.unused;
-  unlearnt = (lanes s k).began ∙ u.unlearnt;
+  unlearnt = lanes s k ∙ u.unlearnt;
 }
   where
     low : k ≡ current v → s ≤ length (order_at v (current v))
     low same = subst (λ n. s ≤ length (order_at v n)) same (entry_low (order_at v k) (Opened s app) s u.opened)
 
-    known : (s ≤ stays_at v k) ⊎ (k ≡ current v) → w.entered_at s ≡ v.entered_at s
-    known (inl stays) = later.entered s k u.there stays
-    known (inr same) = later.entered_here s (low same)
+    known : (s ≤ stays_at v k) ⊎ (k ≡ current v) → (s ≤ stays_at v k) ⊎ (s ≤ length (order_at v (current v)))
+    known (inl stays) = inl stays
+    known (inr same) = inr (low same)
 
 module _ (v w : Server) (x y : Site) (later : Later x v w) (lanes : (s k : ℕ) → LaneGoes (x.lane_at s k) (y.lane_at s k))
     (counts : (s k : ℕ) → LaneCounts (x.lane_at s k)) where
@@ -175,12 +175,12 @@ module _ (v w : Server) (x y : Site) (later : Later x v w) (lanes : (s k : ℕ) 
       whole = subst (λ (l : List DownFrame). WholeIf y s.number k (y.lane_at s.number k) d l) (sym untold.left) (whole s.number k (downs_left c) j.its j.whole);
     }
 
-    new_later : (app told s epoch kept : ℕ) (front : Front) (taken : ℕ) → NewWelcomeOn v x app told c s epoch kept front taken
+    new_later : (app : ℕ) → EnteredStays app v w → (told s epoch kept : ℕ) (front : Front) (taken : ℕ) → NewWelcomeOn v x app told c s epoch kept front taken
         → NewWelcomeOn w y app told d s epoch kept front taken
-    new_later app told s epoch kept front taken n = record {
+    new_later app still told s epoch kept front taken n = record {
       order = n.order;
       its = untold.its ∙ n.its;
-      unmet = unmet_later v w x y later lanes app told s n.order (inl n.synced) n.unmet;
+      unmet = unmet_later v w x y later (λ q k. (lanes q k).began) app told s n.order still (inl n.synced) n.unmet;
       synced = omega (arith, n.synced, later.stays n.order n.unmet.there);
       its_epoch = n.its_epoch ∙ sym (later.last n.order n.unmet.there);
       stays = omega (arith, n.stays, later.place n.order n.unmet.there, later.stays n.order n.unmet.there);
@@ -292,29 +292,29 @@ module _ (v w : Server) (x y : Site) (later : Later x v w) (lanes : (s k : ℕ) 
         asked_later [] is = untold.its ∙ is
         asked_later (f ∷ fs) is = (is.0, asked_first f.message fs is.1)
 
-    greeted_first : (app told : ℕ) (m : Down) → GreetedFirst v x app told c m → GreetedFirst w y app told d m
-    greeted_first app told (Welcome session epoch kept front taken) n = new_later app told session epoch kept front taken n
-    greeted_first app told (Reset session at) is = is
-    greeted_first app told (Block front block) is = is
-    greeted_first app told (Drop front lo hi) is = is
-    greeted_first app told (Ack front) is = is
-    greeted_first app told (Grant front ticket at) is = is
-    greeted_first app told (Answer front about job number at sum) is = is
-    greeted_first app told (Normal front) is = is
-    greeted_first app told Bare is = is
+    greeted_first : (app : ℕ) → EnteredStays app v w → (told : ℕ) (m : Down) → GreetedFirst v x app told c m → GreetedFirst w y app told d m
+    greeted_first app still told (Welcome session epoch kept front taken) n = new_later app still told session epoch kept front taken n
+    greeted_first app still told (Reset session at) is = is
+    greeted_first app still told (Block front block) is = is
+    greeted_first app still told (Drop front lo hi) is = is
+    greeted_first app still told (Ack front) is = is
+    greeted_first app still told (Grant front ticket at) is = is
+    greeted_first app still told (Answer front about job number at sum) is = is
+    greeted_first app still told (Normal front) is = is
+    greeted_first app still told Bare is = is
 
-    greeted_later : (app told : ℕ) (left : List DownFrame) → GreetedWay v x app told c left → GreetedWay w y app told d left
-    greeted_later app told [] is = untold.its ∙ is
-    greeted_later app told (f ∷ fs) is = (is.0, greeted_first app told f.message is.1, is.2)
+    greeted_later : (app : ℕ) → EnteredStays app v w → (told : ℕ) (left : List DownFrame) → GreetedWay v x app told c left → GreetedWay w y app told d left
+    greeted_later app still told [] is = untold.its ∙ is
+    greeted_later app still told (f ∷ fs) is = (is.0, greeted_first app still told f.message is.1, is.2)
 
     -- what is on its way on the connection of an end
-    pub down_later : (line : Line) (app : ℕ) (e : End) → IfSome e.state.session (λ s. IfSome e.told (λ p. p.order ≤ current v)) → IfSome c.first (λ f. f.order ≤ current v)
+    pub down_later : (line : Line) (app : ℕ) (e : End) → EnteredStays app v w → IfSome e.state.session (λ s. IfSome e.told (λ p. p.order ≤ current v)) → IfSome c.first (λ f. f.order ≤ current v)
         → CountStays x y line e.state.session e.told → DownBy line v x app e c → DownBy line w y app e d
-    down_later Apart app e there firsts same is = tt
-    down_later Trying app e there firsts same is = tt
-    down_later Greeting app e there firsts same is =
-        subst (λ (l : List DownFrame). GreetedWay w y app e.state.told d l) (sym untold.left) (greeted_later app e.state.told (downs_left c) is)
-    down_later Asking app e there firsts same is = go e.state.session e.told there same is
+    down_later Apart app e still there firsts same is = tt
+    down_later Trying app e still there firsts same is = tt
+    down_later Greeting app e still there firsts same is =
+        subst (λ (l : List DownFrame). GreetedWay w y app e.state.told d l) (sym untold.left) (greeted_later app still e.state.told (downs_left c) is)
+    down_later Asking app e still there firsts same is = go e.state.session e.told there same is
       where
         go : (o : Option Session) (p : Option Place) → IfSome o (λ s. IfSome p (λ q. q.order ≤ current v)) → CountStays x y Asking o p
             → WithSession o p (λ s k. AskedWay v x s k c (downs_left c)) → WithSession o p (λ s k. AskedWay w y s k d (downs_left d))
@@ -322,7 +322,7 @@ module _ (v w : Server) (x y : Site) (later : Later x v w) (lanes : (s k : ℕ) 
         go (Some s) None low same at = at
         go (Some s) (Some p) low same at =
             subst (λ (l : List DownFrame). AskedWay w y s p.order d l) (sym untold.left) (asked_later s p.order low same firsts (downs_left c) at)
-    down_later Joined app e there firsts same is = go e.state.session e.told there is
+    down_later Joined app e still there firsts same is = go e.state.session e.told there is
       where
         go : (o : Option Session) (p : Option Place) → IfSome o (λ s. IfSome p (λ q. q.order ≤ current v))
             → WithSession o p (λ s k. JoinedWay v x e.state s k c) → WithSession o p (λ s k. JoinedWay w y e.state s k d)

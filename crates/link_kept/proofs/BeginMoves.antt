@@ -50,7 +50,7 @@ use Rattle.cluster_invariant.specs.Words.{IsFront, all_differ, downs_left, stays
 use Rattle.cluster_invariant.proofs.Small.{of_some, some_kept}
 use Rattle.cluster_invariant.proofs.PastOrders.{crashed_current, crashed_left, crashed_newest, crashed_order, crashed_stays, stays_within}
 use Rattle.cluster_invariant.proofs.SiteMoves.{LaterStart}
-use Rattle.link_kept.proofs.Later.{Later, front_same}
+use Rattle.link_kept.proofs.Later.{Later, entered_same, front_same}
 use Rattle.link_kept.proofs.AppLater.{same_lane, app_later}
 use Rattle.link_kept.proofs.ShortMoves.{app_quiet, some_both, count_same, quietly_same}
 
@@ -136,8 +136,6 @@ later_crashed x v clock round kept agree low within epochs = record {
   last = λ k under. ap last_epoch (crashed_order v clock round kept k under);
   place = λ k under. ap epoch_place (crashed_order v clock round kept k under);
   met = λ s is. is;
-  entered = λ s k under stays. refl;
-  entered_here = λ s under. refl;
   newer = λ i j under past there stays. newer i j under past there stays;
   counts = λ s k under unlearnt. ap (λ (es : List Entry). count es s) (crashed_order v clock round kept k under);
 }
@@ -175,7 +173,8 @@ link_kept_by_later l d now clock es v x dead its starts epochs = record {
       (started_empty d l.times es now);
   apps =
       λ app alive.
-      app_quiet v w x y dead (later_crashed x v clock l.times.round (length es) starts.agree starts.low starts.within epochs) (λ s k. same_lane (x.lane_at s k)) its.link its.ends its.dials app alive
+      app_quiet v w x y dead (later_crashed x v clock l.times.round (length es) starts.agree starts.low starts.within epochs) (λ a. entered_same a v w (λ s. refl))
+      (λ s k. same_lane (x.lane_at s k)) its.link its.ends its.dials app alive
       (x.end_at app) refl refl (quietly_same ((x.end_at app).connection_at (x.end_at app).state.dial)) (λ c e q made s k left carries is at here. absurd (gone app c s k made carries here))
       (count_same x y (λ s k. refl) (x.end_at app).state.line (x.end_at app).state.session (x.end_at app).told);
 }

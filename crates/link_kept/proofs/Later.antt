@@ -1,5 +1,5 @@
 -- A plain server later: each order that was there goes on, and more of it stays.
-use Rattle.std.proofs.Common.{◌≡◌, ◌≤◌, ◌<◌, ℕ, List, [], ◌∷◌, ◌++◌, length, take, Some, None, refl, sym, ◌∙◌, ap, subst, arith}
+use Rattle.std.proofs.Common.{◌≡◌, ◌≤◌, ◌<◌, ◌⊎◌, ℕ, false, List, [], ◌∷◌, ◌++◌, length, take, Some, None, refl, sym, ◌∙◌, ap, subst, arith}
 use Rattle.std.proofs.lemmas.List.{take-append-le, append_assoc, append-nil, length-append}
 use Rattle.plain_orders.specs.declared.entry.Entry.{Entry}
 use Rattle.plain_orders.specs.Entries.{count, last_epoch}
@@ -47,6 +47,16 @@ place_append n c es (f ∷ fs) k is =
 pub place_later : (n : ℕ) (es fs : List Entry) (k : ℕ) → IsFront es fs → place_of_epoch n 0 es ≡ Some k → place_of_epoch n 0 fs ≡ Some k
 place_later n es fs k front is = subst (λ (xs : List Entry). place_of_epoch n 0 xs ≡ Some k) (sym front.1) (place_append n 0 es front.0 k is)
 
+-- What was entered for an application server in an order that goes on is known still.
+pub record EnteredStays (app : ℕ) (v w : Server) : Type 0 where
+  pub known : (s k j : ℕ) → k ≤ current v → (s ≤ stays_at v k) ⊎ (s ≤ length (order_at v (current v)))
+      → v.entered_at s ≡ Some (record { app = app; in_order = j; lost_since = false })
+      → w.entered_at s ≡ Some (record { app = app; in_order = j; lost_since = false })
+
+-- where nothing more is
+pub entered_same : (app : ℕ) (v w : Server) → ((s : ℕ) → w.entered_at s ≡ v.entered_at s) → EnteredStays app v w
+entered_same app v w same = record { known = λ s k j low why is. same s ∙ is }
+
 -- What a data server's moves make of the plain server: of a session whose application server didn't learn of an order nothing more counts
 -- in it.
 pub record Later (x : Site) (v w : Server) : Type 0 where
@@ -59,9 +69,6 @@ pub record Later (x : Site) (v w : Server) : Type 0 where
   pub place : (k : ℕ) → k ≤ current v → epoch_place (order_at w k) ≡ epoch_place (order_at v k)
   -- none is met meanwhile
   pub met : (s : ℕ) → v.session_at s ≡ None → w.session_at s ≡ None
-  -- what was entered in an order that goes on is known still
-  pub entered : (s k : ℕ) → k ≤ current v → s ≤ stays_at v k → w.entered_at s ≡ v.entered_at s
-  pub entered_here : (s : ℕ) → s ≤ length (order_at v (current v)) → w.entered_at s ≡ v.entered_at s
   -- an order to come has a later Epoch than one whose Epoch stays
   pub newer : (i j : ℕ) → j ≤ current v → current v < i → i ≤ current w → epoch_place (order_at v j) ≤ stays_at v j
       → last_epoch (order_at v j) < last_epoch (order_at w i)

@@ -26,8 +26,8 @@ use Rattle.cluster_invariant.specs.Waiting.{OnLinked, IsUntold, WaitsNewOn, Wait
 use Rattle.cluster_invariant.specs.Words.{ups_left, is_reset_frame}
 use Rattle.cluster_invariant.proofs.AllLists.{all_follow}
 use Rattle.cluster_invariant.proofs.Small.{some_kept}
-use Rattle.link_kept.proofs.Later.{Later}
-use Rattle.link_kept.proofs.AppLater.{Untold, unmet_later, same_lane, lane_goes_on}
+use Rattle.link_kept.proofs.Later.{EnteredStays, Later}
+use Rattle.link_kept.proofs.AppLater.{Untold, unmet_later}
 
 -- A connection as it was, but for which end left it.
 pub record Quiet (c d : Connection) : Type 0 where
@@ -104,7 +104,8 @@ reset_quiet n s lane c d q r = record {
 not_joined : (e : AppEnd) (number s : ℕ) → is_joined_on true e number s ≡ false
 not_joined e number s = refl
 
-module _ (v w : Server) (x : Site) (ends : ℕ → End) (dead gone : ℕ → Bool) (n : DataState) (later : Later x v w) (same : current w ≡ current v)
+module _ (v w : Server) (x : Site) (ends : ℕ → End) (dead gone : ℕ → Bool) (n : DataState) (later : Later x v w) (still : (a : ℕ) → EnteredStays a v w)
+    (same : current w ≡ current v)
     (quiet : (app number : ℕ) → Quietly ((x.end_at app).connection_at number) ((ends app).connection_at number))
     (states : (app : ℕ) → (ends app).state ≡ (x.end_at app).state) (more : (app : ℕ) → gone app ≡ false → dead app ≡ false) where
   up_way : (lane : Lane) (app number s : ℕ) (c d : Connection) → Quiet c d → UpWayOn lane (dead app) (x.end_at app).state number s c
@@ -129,7 +130,7 @@ module _ (v w : Server) (x : Site) (ends : ℕ → End) (dead gone : ℕ → Boo
 
   -- a session that was entered for an end that greets
   unmet_beside : (app told s k : ℕ) → k ≡ current v → Unmet v x app told s k → Unmet w (with_ends ends x) app told s k
-  unmet_beside app told s k here u = go (unmet_later v w x (with_ends ends x) later (λ q j. lane_goes_on (x.lane_at q j) (x.lane_at q j) (same_lane (x.lane_at q j))) app told s k (inr here) u)
+  unmet_beside app told s k here u = go (unmet_later v w x (with_ends ends x) later (λ q j. refl) app told s k (still app) (inr here) u)
     where
       go : Unmet w (with_ends ends x) app told s k → Unmet w (with_ends ends x) app told s k
       go is = is

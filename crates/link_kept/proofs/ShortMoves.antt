@@ -25,7 +25,7 @@ use Rattle.cluster_invariant.proofs.Small.{some_kept}
 use Rattle.cluster_invariant.proofs.Frame.{kept_by_tick}
 use Rattle.cluster_invariant.proofs.PastOrders.{stays_within}
 use Rattle.cluster_invariant.proofs.SiteMoves.{kept_by_death, kept_by_halt, kept_by_look}
-use Rattle.link_kept.proofs.Later.{Later, front_same}
+use Rattle.link_kept.proofs.Later.{EnteredStays, Later, entered_same, front_same}
 use Rattle.link_kept.proofs.AppLater.{WholeStays, CountStays, LaneLater, same_lane, lane_goes_on, down_later, app_later}
 use Rattle.link_kept.proofs.NodeBeside.{Quiet, Quietly, quiet_untold, some_quiet, with_ends, node_beside}
 
@@ -53,8 +53,6 @@ later_known x v known agree = record {
   last = λ k low. refl;
   place = λ k low. refl;
   met = λ s is. is;
-  entered = λ s k low stays. refl;
-  entered_here = λ s low. refl;
   newer = λ i j low past there stays. absurd (omega (arith, past, there));
   counts = λ s k low unlearnt. refl;
 }
@@ -65,7 +63,7 @@ pub some_both : {X : Type 0} (P Q : X → Type 0) (o : Option X) → IfSome o P 
 some_both P Q None a b = tt
 some_both P Q (Some c) a b = (a, b)
 
-firsts_there : (v : Server) (x : Site) (app number : ℕ) (c : Connection) → ConnectionIs v x app number c → IfSome c.first (λ f. f.order ≤ current v)
+pub firsts_there : (v : Server) (x : Site) (app number : ℕ) (c : Connection) → ConnectionIs v x app number c → IfSome c.first (λ f. f.order ≤ current v)
 firsts_there v x app number c is = some_kept (FirstIs v x app number) (λ (f : FirstTaken). f.order ≤ current v) (λ (f : FirstTaken) its. its.there) c.first is.where_taken
 
 -- an end with a session is told of an order that was there
@@ -75,12 +73,12 @@ told_there v app e told =
     (λ (s : Session) is. subst (λ (o : Option Place). IfSome o (λ p. p.order ≤ current v)) (sym is.its) is.there) e.state.session told.place
 
 -- The half of an application end that a move leaves as it is, but for what is known of who left its connection.
-pub app_quiet : (v w : Server) (x y : Site) (dead : ℕ → Bool) → Later x v w → ((s k : ℕ) → LaneLater (x.lane_at s k) (y.lane_at s k)) → LinkHolds v x dead
+pub app_quiet : (v w : Server) (x y : Site) (dead : ℕ → Bool) → Later x v w → ((a : ℕ) → EnteredStays a v w) → ((s k : ℕ) → LaneLater (x.lane_at s k) (y.lane_at s k)) → LinkHolds v x dead
     → EndsAre v x dead → DialsAre v x dead → (app : ℕ) → dead app ≡ false → (f : End) → f.state ≡ (x.end_at app).state → f.told ≡ (x.end_at app).told
     → Quietly ((x.end_at app).connection_at (x.end_at app).state.dial) (f.connection_at (x.end_at app).state.dial)
     → ((c d : Connection) → Quiet c d → ConnectionIs v x app (x.end_at app).state.dial c → WholeStays x y c d)
     → CountStays x y (x.end_at app).state.line (x.end_at app).state.session (x.end_at app).told → AppWay w y app f
-app_quiet v w x y dead later lanes link ends dials app alive f state told quiet whole same =
+app_quiet v w x y dead later still lanes link ends dials app alive f state told quiet whole same =
     app_later w v x y lanes app (x.end_at app) f state told
     (some_quiet (λ (c : Connection). DownBy e.state.line v x app e c × ConnectionIs v x app e.state.dial c) (DownBy e.state.line w y app e) down
     (e.connection_at e.state.dial) (f.connection_at e.state.dial) quiet
@@ -93,7 +91,7 @@ app_quiet v w x y dead later lanes link ends dials app alive f state told quiet 
 
     down : (c d : Connection) → Quiet c d → DownBy e.state.line v x app e c × ConnectionIs v x app e.state.dial c → DownBy e.state.line w y app e d
     down c d q is =
-        down_later v w x y later (λ s k. lane_goes_on (x.lane_at s k) (y.lane_at s k) (lanes s k)) link.lanes c d (quiet_untold c d q) (whole c d q is.1) e.state.line app e (told_there v app e (ends.told app alive))
+        down_later v w x y later (λ s k. lane_goes_on (x.lane_at s k) (y.lane_at s k) (lanes s k)) link.lanes c d (quiet_untold c d q) (whole c d q is.1) e.state.line app e (still app) (told_there v app e (ends.told app alive))
         (firsts_there v x app e.state.dial c is.1) same is.0
 
 -- where lanes stay as they are, counts do
@@ -112,19 +110,19 @@ whole_beside x ends c d q s k left its is at here =
     (λ n got. subst (λ (o : Option FirstTaken). IsSomeAnd o (λ f. DownWhole n s f.conn (x.lane_at s k) left)) (sym q.first) got) x.node (is (q.data_left at) here)
 
 -- A site of which ends alone are changed, and of those the marks of who left.
-pub link_beside : (v w : Server) (x : Site) (ends : ℕ → End) (dead gone : ℕ → Bool) → Later x v w → current w ≡ current v → x.past ≡ current v
+pub link_beside : (v w : Server) (x : Site) (ends : ℕ → End) (dead gone : ℕ → Bool) → Later x v w → ((a : ℕ) → EnteredStays a v w) → current w ≡ current v → x.past ≡ current v
     → LinkHolds v x dead → EndsAre v x dead → DialsAre v x dead
     → ((app number : ℕ) → Quietly ((x.end_at app).connection_at number) ((ends app).connection_at number))
     → ((app : ℕ) → (ends app).state ≡ (x.end_at app).state) → ((app : ℕ) → (ends app).told ≡ (x.end_at app).told)
     → ((app : ℕ) → gone app ≡ false → dead app ≡ false) → LinkHolds w (with_ends ends x) gone
-link_beside v w x ends dead gone later same past link ends_are dials quiet states told more = record {
+link_beside v w x ends dead gone later still same past link ends_are dials quiet states told more = record {
   lanes = λ s k. link.lanes s k;
   node =
       some_kept (NodeLink v x dead) (NodeLink w (with_ends ends x) gone)
-      (λ n is. node_beside v w x ends dead gone n later same quiet states more past is) x.node link.node;
+      (λ n is. node_beside v w x ends dead gone n later still same quiet states more past is) x.node link.node;
   apps =
       λ app alive.
-      app_quiet v w x (with_ends ends x) dead later (λ s k. same_lane (x.lane_at s k)) link ends_are dials app (more app alive) (ends app) (states app) (told app)
+      app_quiet v w x (with_ends ends x) dead later still (λ s k. same_lane (x.lane_at s k)) link ends_are dials app (more app alive) (ends app) (states app) (told app)
       (quiet app (x.end_at app).state.dial) (λ c d q its. whole_beside x ends c d q)
       (count_same x (with_ends ends x) (λ s k. refl) (x.end_at app).state.line (x.end_at app).state.session (x.end_at app).told);
 }
@@ -148,7 +146,8 @@ pub link_kept_by_look : (l : Layout) (m : Machine) (app job line : ℕ) (at : Ta
 link_kept_by_look l m app job line at outs written new h agree goes =
     kept_by_look LinksPart l m app job line at outs written new goes (λ d. (h.sites d).link)
     (λ knows.
-    link_beside v (record v { known_at = knows }) x x.end_at m.is_dead_at m.is_dead_at (later_known x v knows (agree at.server)) refl its.order.past its.link its.ends
+    link_beside v (record v { known_at = knows }) x x.end_at m.is_dead_at m.is_dead_at (later_known x v knows (agree at.server))
+    (λ a. entered_same a v (record v { known_at = knows }) (λ s. refl)) refl its.order.past its.link its.ends
     its.dials (λ a n. quietly_same ((x.end_at a).connection_at n)) (λ a. refl) (λ a. refl) (λ a alive. alive))
   where
     v : Server
@@ -182,7 +181,8 @@ link_kept_by_die l m app outs written new h agree goes = kept_by_death LinksPart
         → LinkHolds ((state_after l m.trail).server_at d) ((dies app m).site_at d) (put m.is_dead_at app true)
     each alive d =
         link_beside ((state_after l m.trail).server_at d) ((state_after l m.trail).server_at d) (m.site_at d) (ends d) m.is_dead_at (put m.is_dead_at app true)
-        (later_known (m.site_at d) ((state_after l m.trail).server_at d) ((state_after l m.trail).server_at d).known_at (agree d)) refl (h.sites d).order.past
+        (later_known (m.site_at d) ((state_after l m.trail).server_at d) ((state_after l m.trail).server_at d).known_at (agree d))
+        (λ a. entered_same a ((state_after l m.trail).server_at d) ((state_after l m.trail).server_at d) (λ s. refl)) refl (h.sites d).order.past
         (h.sites d).link (h.sites d).ends (h.sites d).dials
         (λ a n. quietly_mapped (leaves a) (quiet a) (((m.site_at d).end_at a).connection_at n)) (λ a. refl) (λ a. refl) alive
 
@@ -210,7 +210,7 @@ link_kept_by_halt l m server outs written new h agree goes = kept_by_halt LinksP
       node = tt;
       apps =
           λ app alive.
-          app_quiet v v x (halted_site x) m.is_dead_at (later_known x v v.known_at (agree server)) (λ s k. same_lane (x.lane_at s k)) (h.sites server).link
+          app_quiet v v x (halted_site x) m.is_dead_at (later_known x v v.known_at (agree server)) (λ a. entered_same a v v (λ s. refl)) (λ s k. same_lane (x.lane_at s k)) (h.sites server).link
           (h.sites server).ends (h.sites server).dials app alive ((halted_site x).end_at app) refl refl
           (quietly_mapped leaves_linked quiet ((x.end_at app).connection_at (x.end_at app).state.dial)) (λ c d q made s k left its is at there. tt)
           (count_same x (halted_site x) (λ s k. refl) (x.end_at app).state.line (x.end_at app).state.session (x.end_at app).told);

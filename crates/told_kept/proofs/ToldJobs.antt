@@ -71,7 +71,7 @@ job_tells (Tick time) of_job = absurd of_job
 job_tells (Lose a e loss) of_job = absurd of_job
 job_tells (Died a) of_job = absurd of_job
 
-all_told : (ws : List Act) → AllByRecursion IsOfJob ws → AllByRecursion (λ a. leaves_told a ≡ true) ws
+pub all_told : (ws : List Act) → AllByRecursion IsOfJob ws → AllByRecursion (λ a. leaves_told a ≡ true) ws
 all_told [] of_job = tt
 all_told (a ∷ ws) of_job = (job_tells a of_job.0, all_told ws of_job.1)
 

@@ -1,0 +1,14 @@
+pub mod EnteredStays
+pub mod NodeApps
+pub mod EndsApps
+pub mod LanesApps
+pub mod PutsUp
+pub mod Relane
+pub mod EndStep
+pub mod OwnPuts
+pub mod CommandLinks
+pub mod Rests
+pub mod RestWays
+pub mod InputPlain
+pub mod RestLinks
+pub mod ConnectedLinks

@@ -1,0 +1,7 @@
+ghost use Rattle.link_apps.specs.Laws.{CommandsKeepLinks};
+
+/// Where the invariant holds, each command of a job keeps what is on its way between the two ends of each session, what
+/// waits to be put, and what a data server has of its sessions.
+pub fn what_is_on_its_way_is_kept_by_application_servers()
+    ensures commands { CommandsKeepLinks }
+{}
