@@ -33,7 +33,7 @@ use Rattle.cluster_steps.proofs.AppSites.{app_ends}
 use Rattle.cluster_steps.proofs.EndSteps.{session_put}
 use Rattle.cluster_steps.proofs.FrameEnds.{Learnt, MetNew}
 use Rattle.cluster_steps.proofs.JobEnds.{put_frames}
-use Rattle.cluster_steps.proofs.Outcomes.{WelcomeTold}
+use Rattle.cluster_steps.proofs.InputsBring.{WelcomeTold}
 use Rattle.ends_kept.proofs.MetTold.{EpochOn, epoch_on, new_on, no_session_of}
 use Rattle.ends_kept.proofs.TakenDown.{Taken}
 use Rattle.dials_frames.proofs.BeganDials.{TellsNew}

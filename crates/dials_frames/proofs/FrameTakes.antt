@@ -28,7 +28,7 @@ use Rattle.cluster_invariant.specs.Words.{has_wire}
 use Rattle.cluster_steps.proofs.EndSteps.{Here, bare_frames}
 use Rattle.cluster_steps.proofs.FrameEnds.{Acked, Delivered, EndsIt, FrameCame, NumberedCame, ResetCame, TookFresh, WentOn, ended_from}
 use Rattle.cluster_steps.proofs.JobEnds.{up_frame}
-use Rattle.cluster_steps.proofs.Outcomes.{WelcomeTold}
+use Rattle.cluster_steps.proofs.InputsBring.{WelcomeTold}
 use Rattle.dials_frames.proofs.FollowFrames.{again_numbered, all_follow, bare_follows, follow_joined, resent_follow}
 
 -- a session goes on and took no less, or is lost

@@ -33,7 +33,7 @@ use Rattle.cluster_invariant.proofs.Small.{put_same, some_kept}
 use Rattle.cluster_steps.proofs.AppSites.{app_ends, site_ends}
 use Rattle.cluster_steps.proofs.FrameAlone.{taken_silent}
 use Rattle.cluster_steps.proofs.FrameCases.{LineHas, frame_came}
-use Rattle.cluster_steps.proofs.Outcomes.{WelcomeTold}
+use Rattle.cluster_steps.proofs.InputsBring.{WelcomeTold}
 use Rattle.ends_kept.proofs.PairTables.{line_has}
 use Rattle.ends_kept.proofs.TablesMoves.{app_may}
 use Rattle.ends_kept.proofs.TakenDown.{Taken, taken_down}

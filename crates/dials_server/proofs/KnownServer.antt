@@ -34,9 +34,9 @@ use Rattle.cluster_invariant.proofs.OrderRows.{StepWrote}
 use Rattle.cluster_invariant.proofs.Written.{place_kept}
 use Rattle.told_kept.proofs.OrdersLater.{epoch_kept, grown_later}
 use Rattle.told_kept.proofs.ToldStays.{OrdersLater}
-use Rattle.dials_kept.proofs.BeginDials.{dials_at}
+use Rattle.cluster_invariant.proofs.SiteMoves.{kept_at_one}
 use Rattle.dials_kept.proofs.ConnectionsGrow.{StaysKnown}
-use Rattle.dials_kept.proofs.ShortDials.{EachDials}
+use Rattle.dials_kept.proofs.ShortDials.{DialsPart, EachDials}
 use Rattle.dials_kept.proofs.ToldStays.{rows_tell}
 
 -- whose a session is, as an ordered list goes on
@@ -155,7 +155,9 @@ dials_by_server l c m server now input outs written new h run after_run shows al
         (ordered_kept l (m.trail ++ written) server joined).now
 
     go : StepWrote server goes.node goes.state p q → EachDials l (state_after l new.trail) new
-    go w = dials_at l m new server (server_site goes.node now input goes.data_outs goes.state) written h goes.after w.others (here (by (deeds_grow w.deeds (p.server_at server).order)) w ordered)
+    go w =
+        kept_at_one DialsPart l m new server (server_site goes.node now input goes.data_outs goes.state) written (λ d. (h.sites d).dials) goes.after w.others
+        (here (by (deeds_grow w.deeds (p.server_at server).order)) w ordered)
       where
         by : (more : List Entry) × (order_by w.deeds (p.server_at server).order ≡ (p.server_at server).order ++ more) → StaysKnown (p.server_at server) (q.server_at server)
         by more =

@@ -29,7 +29,7 @@ use Rattle.cluster_invariant.proofs.Small.{put_other}
 use Rattle.cluster_invariant.proofs.OrderBeside.{SameOrders}
 use Rattle.told_kept.proofs.SameSessions.{SameMets, whose}
 use Rattle.link_kept.proofs.Later.{EnteredStays, Later, front_same}
-use Rattle.link_kept.proofs.ShortMoves.{stays_within}
+use Rattle.cluster_invariant.proofs.PastOrders.{stays_within}
 
 -- what was entered for an application server is known still
 abbrev pub KeepsFor : ℕ → Server → Server → Type 0
