@@ -1,0 +1,4 @@
+pub mod SentWindows
+pub mod HeldSteps
+pub mod HeldPieces
+pub mod HeldAll
