@@ -37,27 +37,34 @@ use Rattle.link_kept.proofs.FitsWell.{may_close}
 use Rattle.link_kept.proofs.ServesServer.{ServesAfter, serves_begin, serves_kept_by_step}
 use Rattle.link_kept.proofs.FramesFit.{FrameAt, frame_next}
 use Rattle.link_kept.proofs.OrderGrows.{order_grows}
+use Rattle.data_rules.specs.Step.{made}
+use Rattle.link_kept.proofs.WindowPieces.{PutsWell}
 use Rattle.link_kept.proofs.StepFits.{ConnsKnow, LeftToOthers, fits_well}
 
 -- has begun in no order
-none_begun : (v : Server) (x : Site) (s k : ℕ) (o a : Option ℕ) → a ≡ None → LearntBy v x s k o a → o ≡ None
+pub none_begun : (v : Server) (x : Site) (s k : ℕ) (o a : Option ℕ) → a ≡ None → LearntBy v x s k o a → o ≡ None
 none_begun v x s k None a none learnt = refl
 none_begun v x s k (Some dial) a none learnt = absurd (subst (λ (b : Option ℕ). LearntBy v x s k (Some dial) b) none learnt)
 
--- Each move of a data server keeps its windows, the counts of its lanes, and what it has of its sessions.
+-- Each move of a data server keeps its windows, the counts of its lanes, and what it has of its sessions, and whatever each piece keeps.
 pub serves_kept_by_server : (l : Layout) (c : CoresState) (m : Machine) (server now : ℕ) (input : DataIn) (outs : MoveOuts) (written : List Act) (new : Machine)
     → Holds l m → IsRun l m.trail → Mirrors c m → Allowed c (ServerMove server now input) → (goes : ServerGoes m server now input outs written new)
     → (E : Sofar → Type 0)
     → ((b : Sofar) → E b → ConnsKnow (λ s. (m.site_at server).lane_at s (m.site_at server).past) (record { old = goes.node; now = now; input = input }) b)
     → LeftToOthers (λ s. (m.site_at server).lane_at s (m.site_at server).past) (record { old = goes.node; now = now; input = input }) E
     → ((p : Piece) (b : Sofar) → MayMake (record { old = goes.node; now = now; input = input }) p b → E b → E (makes now p b))
-    → E (begins (record { old = goes.node; now = now; input = input })) → ServesAfter goes.node goes.state (m.site_at server) (new.site_at server) (may_close input)
-serves_kept_by_server l c m server now input outs written new h run shows allowed goes E know left keeps first =
-    subst (λ (y : Site). ServesAfter old goes.state x y (may_close input)) (sym after)
+    → E (begins (record { old = goes.node; now = now; input = input }))
+    → (G : Sofar → Type 0)
+    → ((p : Piece) (b : Sofar) → MayMake (record { old = goes.node; now = now; input = input }) p b
+    → PutsWell (λ s. (m.site_at server).lane_at s (m.site_at server).past) p b → G b → G (makes now p b))
+    → G (begins (record { old = goes.node; now = now; input = input }))
+    → ServesAfter goes.node goes.state (m.site_at server) (new.site_at server) (may_close input) × G (made goes.state goes.data_outs)
+serves_kept_by_server l c m server now input outs written new h run shows allowed goes E know left keeps first G more begun_so =
+    subst (λ (y : Site). ServesAfter old goes.state x y (may_close input) × G (made goes.state goes.data_outs)) (sym after)
     (serves_kept_by_step x old now input goes.data_outs goes.state (record { lanes = its.link.lanes; windows = node.windows })
     (serves_begin v x old (may_close input) from.ordered within dials node.serves node.replies) from may goes.steps F
     (λ p b made f s w. fits_well x m.is_dead_at t at_frame F (λ a g. know a g.0) (λ a g. g.1) to_open left_all node.serves.items p b made f)
-    (λ p b made f. (keeps p b made f.0, omega (arith, f.1, grown b (makes now p b) (order_grows now p b)))) (first, begins_long input))
+    (λ p b made f. (keeps p b made f.0, omega (arith, f.1, grown b (makes now p b) (order_grows now p b)))) (first, begins_long input) G more begun_so)
   where
     x : Site
     x = m.site_at server

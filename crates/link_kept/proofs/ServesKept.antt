@@ -82,7 +82,7 @@ pub node_kept_by_server : (l : Layout) (c : CoresState) (m : Machine) (server no
     → ((p : Piece) (b : Sofar) → MayMake (record { old = goes.node; now = now; input = input }) p b → E b → E (makes now p b))
     → E (begins (record { old = goes.node; now = now; input = input })) → NodeKept (m.site_at server) (new.site_at server) goes.state
 node_kept_by_server l c m server now input outs written new h run shows allowed goes E know left keeps first =
-    kept (serves_kept_by_server l c m server now input outs written new h run shows allowed goes E know left keeps first)
+    kept (serves_kept_by_server l c m server now input outs written new h run shows allowed goes E know left keeps first (λ b. Unit {0}) (λ p b may well g. tt) tt).0
   where
     x : Site
     x = m.site_at server

@@ -41,7 +41,7 @@ use Rattle.cluster_invariant.proofs.PiecesOfSteps.{StepFrom, synced_state}
 use Rattle.link_kept.proofs.AppLater.{LaneLater}
 use Rattle.link_kept.proofs.LockSessions.{RequestsOf}
 use Rattle.link_kept.proofs.WindowsGo.{WindowsGoOn, Served, open_or, close_live, still_live}
-use Rattle.link_kept.proofs.WindowPieces.{SaysServed}
+use Rattle.link_kept.proofs.WindowPieces.{PutsWell, SaysServed}
 use Rattle.link_kept.proofs.WindowsServer.{LanesGrow, WindowsAfter, StepKept, server_lanes, windows_kept_by_step}
 use Rattle.link_kept.proofs.ServesGo.{MayAsk, ServesGo}
 use Rattle.link_kept.proofs.FitsWell.{FitsWell, may_close}
@@ -151,15 +151,18 @@ serves_still old new x y closing still a =
     (λ (r : Request) is. is.0 still) new.locks.requests a.goes.table.requests)
 
 -- Each step of a data server keeps its windows, the counts of its lanes and what it has of its sessions, where what it puts to and takes from
--- them fits, piece by piece.
+-- them fits, piece by piece; and with it whatever each piece keeps where what it puts and takes is well.
 pub serves_kept_by_step : (x : Site) (old : DataState) (now : ℕ) (input : DataIn) (outs : DataOuts) (new : DataState) → WindowsAfter x old
     → ServesGo (λ s. x.lane_at s x.past) (may_close input) old → StepFrom old → DataMay old input → DataStep old now input outs new
     → (E : Sofar → Type 0)
     → ((p : Piece) (b : Sofar) → MayMake (record { old = old; now = now; input = input }) p b → E b → ServesGo (λ s. x.lane_at s x.past) (may_close input) b.state
     → WindowsGoOn (live old.order) (λ s. x.lane_at s x.past) b → FitsWell (λ s. x.lane_at s x.past) p b)
     → ((p : Piece) (b : Sofar) → MayMake (record { old = old; now = now; input = input }) p b → E b → E (makes now p b))
-    → E (begins (record { old = old; now = now; input = input })) → ServesAfter old new x (server_site old now input outs new x) (may_close input)
-serves_kept_by_step x old now input outs new h serves from may steps E fits keeps first = after (server_lanes old now input outs new x) went
+    → E (begins (record { old = old; now = now; input = input }))
+    → (G : Sofar → Type 0)
+    → ((p : Piece) (b : Sofar) → MayMake (record { old = old; now = now; input = input }) p b → PutsWell (λ s. x.lane_at s x.past) p b → G b → G (makes now p b))
+    → G (begins (record { old = old; now = now; input = input })) → ServesAfter old new x (server_site old now input outs new x) (may_close input) × G (made new outs)
+serves_kept_by_step x old now input outs new h serves from may steps E fits keeps first G more begun = (after (server_lanes old now input outs new x) went.0, went.1)
   where
     t : Coming
     t = record { old = old; now = now; input = input }
@@ -167,14 +170,15 @@ serves_kept_by_step x old now input outs new h serves from may steps E fits keep
     lane_of : ℕ → Lane
     lane_of s = x.lane_at s x.past
 
-    went : StepKept old now input outs new x × ServesGo lane_of (may_close input) new
+    went : (StepKept old now input outs new x × ServesGo lane_of (may_close input) new) × G (made new outs)
     went =
-        let both : StepKept old now input outs new x × (ServesGo lane_of (may_close input) new × E (made new outs)) =
-        windows_kept_by_step x old now input outs new h serves.noted from may steps (λ b. ServesGo lane_of (may_close input) b.state × E b)
-        (λ p b m s w. puts_well lane_of t p b m (fits p b m s.1 s.0 w) s.0)
-        (λ p b m s w. (serves_piece lane_of t p b m (fits p b m s.1 s.0 w) s.0, keeps p b m s.1))
-        (serves_begins lane_of (may_close input) old now input may serves, first) in
-        (both.0, both.1.0)
+        let both : StepKept old now input outs new x × ((ServesGo lane_of (may_close input) new × E (made new outs)) × G (made new outs)) =
+        windows_kept_by_step x old now input outs new h serves.noted from may steps (λ b. (ServesGo lane_of (may_close input) b.state × E b) × G b)
+        (λ p b m s w. puts_well lane_of t p b m (fits p b m s.0.1 s.0.0 w) s.0.0)
+        (λ p b m s w.
+        ((serves_piece lane_of t p b m (fits p b m s.0.1 s.0.0 w) s.0.0, keeps p b m s.0.1), more p b m (puts_well lane_of t p b m (fits p b m s.0.1 s.0.0 w) s.0.0) s.1))
+        ((serves_begins lane_of (may_close input) old now input may serves, first), begun) in
+        ((both.0, both.1.0.0), both.1.1)
 
     after : LanesGrow old new outs x (server_site old now input outs new x) → StepKept old now input outs new x × ServesGo lane_of (may_close input) new
         → ServesAfter old new x (server_site old now input outs new x) (may_close input)
