@@ -1,11 +1,11 @@
--- Coherence and fronts, for each start of a data server: in its new order nothing was put yet, and those before it are as they were.
-use Rattle.std.proofs.Common.{◌≡◌, ◌≤◌, ℕ, Bool, List, [], ◌∷◌, length, refl, sym, ◌∙◌, ap, subst, arith}
+-- Coherence, for each start of a data server: in its new order nothing was put yet, and those before it are as they were.
+use Rattle.std.proofs.Common.{◌≡◌, ◌<◌, ◌≤◌, ℕ, Bool, List, [], ◌∷◌, length, refl, sym, ◌∙◌, ap, subst, arith}
 use Rattle.plain_orders.specs.declared.act.Act.{Act}
 use Rattle.plain_orders.specs.declared.entry.Entry.{Entry}
 use Rattle.plain_orders.specs.declared.layout.Layout.{Layout}
 use Rattle.plain_orders.specs.declared.layout.Times.{Times}
 use Rattle.plain_orders.specs.Times.{until}
-use Rattle.plain_runs.specs.Plain.{Server, current, order_at}
+use Rattle.plain_runs.specs.Plain.{Plain, Server, current, order_at}
 use Rattle.plain_runs.specs.OrderRows.{crashed, opened_with}
 use Rattle.plain_runs.specs.Run.{IsRun, state_after}
 use Rattle.link_states.specs.declared.data_link.DataLink.TheVariants.{Recovering}
@@ -22,16 +22,16 @@ use Rattle.cluster_runs.specs.Mirrors.{Mirrors}
 use Rattle.cluster_runs.specs.Machine.{Machine, Site}
 use Rattle.cluster_runs.specs.Goes.{BeginGoes, begun_site, past_with}
 use Rattle.cluster_invariant.specs.Orders.{OrdersAgree}
-use Rattle.cluster_invariant.specs.Coherence.{IsCoherent}
+use Rattle.cluster_invariant.specs.Coherence.{CoherenceHolds}
+use Rattle.cluster_runs.specs.Sent.{no_lane}
 use Rattle.cluster_invariant.specs.Holds.{SiteHolds, Holds}
 use Rattle.cluster_invariant.specs.Words.{IsFront, stays_at}
 use Rattle.link_kept.proofs.Later.{front_same}
 use Rattle.cluster_invariant.proofs.PastOrders.{order_now, now_stays, stays_within, crashed_order, crashed_stays}
-use Rattle.cluster_invariant.proofs.SiteMoves.{FirstStart, LaterStart, kept_by_start}
+use Rattle.cluster_invariant.proofs.SiteMoves.{kept_by_start}
 use Rattle.coherence_kept.proofs.Grows.{OrdersOn}
 use Rattle.coherence_kept.proofs.CoherenceLater.{lanes_later, none_held}
-use Rattle.coherence_kept.proofs.FrontsLater.{same_taken, fronts_later}
-use Rattle.coherence_kept.proofs.ShortMoves.{BothHold, BothPart, AllCoherent, both_before}
+use Rattle.coherence_kept.proofs.ShortMoves.{CoherencePart, PutsCoherent}
 
 -- a node that starts has no notes
 
@@ -43,7 +43,7 @@ started_noted : (d : ℕ) (times : Times) (es : List Entry) (now : ℕ) → (sta
 started_noted d times es now = recovering_noted (live_ends es) (until now times.round) (with_epoch d times es)
 
 -- The orders before a start are as they were after it, and no less of them stays.
-crashed_on : (v : Server) (clock round kept : ℕ) → OrdersAgree v → v.synced ≤ kept → kept ≤ length v.order → OrdersOn v (crashed clock round v kept)
+pub crashed_on : (v : Server) (clock round kept : ℕ) → OrdersAgree v → v.synced ≤ kept → kept ≤ length v.order → OrdersOn v (crashed clock round v kept)
 crashed_on v clock round kept agree low within = record {
   goes_on = λ k under. subst (λ (es : List Entry). IsFront (order_at v k) es) (sym (crashed_order v clock round kept k under)) (front_same (order_at v k));
   within = stays_within v agree;
@@ -51,7 +51,7 @@ crashed_on v clock round kept agree low within = record {
 }
 
 -- the orders of a server that never started are empty
-opened_on : (v : Server) (clock round : ℕ) (es : List Entry) → v.order ≡ [] → v.past ≡ [] → v.synced ≤ length v.order → OrdersOn v (opened_with clock round v es)
+pub opened_on : (v : Server) (clock round : ℕ) (es : List Entry) → v.order ≡ [] → v.past ≡ [] → v.synced ≤ length v.order → OrdersOn v (opened_with clock round v es)
 opened_on v clock round es none first low = record {
   goes_on = λ k under. subst (λ (fs : List Entry). IsFront fs (order_at w k)) (sym (empty k under)) (order_at w k, refl);
   within = λ k under. omega (arith, stays k under);
@@ -71,54 +71,35 @@ opened_on v clock round es none first low = record {
     stays k under = ap (stays_at v) (only k under) ∙ now_stays v ∙ omega (arith, low, ap (λ (xs : List Entry). length xs) none)
 
 -- A site whose node starts.
-begun_both : (l : Layout) (d now : ℕ) (es : List Entry) (v w : Server) (x : Site) (dead : ℕ → Bool) → SiteHolds l d dead v x → OrdersOn v w
-    → ((s k : ℕ) → k ≤ current w → IsCoherent (order_at w k) (stays_at w k) s (x.lane_at s k).front (x.lane_at s k).down)
-    → BothHold w (begun_site l d now es x) dead
-begun_both l d now es v w x dead its on lanes = (
-  record {
-    lanes = lanes;
-    node = none_held (begun_site l d now es x) (started d l.times es now) (started_noted d l.times es now) (λ s. its.order.to_come s (past_with x.order x.past) (omega arith));
-  },
-  fronts_later v w x (begun_site l d now es x) on.goes_on (λ s k. same_taken (x.lane_at s k)) dead dead
-      (record { state = λ a. refl; told = λ a. refl; shown = λ a. refl }) (λ a is. is) its.ends its.fronts,
-)
+begun_coherent : (l : Layout) (d now : ℕ) (es : List Entry) (v w : Server) (x : Site) (dead : ℕ → Bool) → SiteHolds l d dead v x → OrdersOn v w
+    → ((q j : ℕ) → current v < j → x.lane_at q j ≡ no_lane) → CoherenceHolds w (begun_site l d now es x)
+begun_coherent l d now es v w x dead its on to_come = record {
+  lanes = λ s k there. lanes_later v w x on to_come its.coherence.lanes s k;
+  node = none_held (begun_site l d now es x) (started d l.times es now) (started_noted d l.times es now) (λ s. its.order.to_come s (past_with x.order x.past) (omega arith));
+}
 
--- a later start
-both_kept_by_later : (l : Layout) (d now clock : ℕ) (es : List Entry) (v : Server) (x : Site) (dead : ℕ → Bool) → SiteHolds l d dead v x → LaterStart v x es
-    → BothHold (crashed clock l.times.round v (length es)) (begun_site l d now es x) dead
-both_kept_by_later l d now clock es v x dead its starts =
-    begun_both l d now es v w x dead its on
-    (λ s k there. lanes_later v w x on (λ q j far. its.order.to_come q j (omega (arith, far, starts.next))) its.coherence.lanes s k)
-  where
-    w : Server
-    w = crashed clock l.times.round v (length es)
-
-    on : OrdersOn v w
-    on = crashed_on v clock l.times.round (length es) starts.agree starts.low starts.within
-
--- the first start
-both_kept_by_first : (l : Layout) (d now clock : ℕ) (es : List Entry) (v : Server) (x : Site) (dead : ℕ → Bool) → SiteHolds l d dead v x → FirstStart v x es
-    → BothHold (opened_with clock l.times.round v es) (begun_site l d now es x) dead
-both_kept_by_first l d now clock es v x dead its starts =
-    begun_both l d now es v w x dead its on
-    (λ s k there. lanes_later v w x on (λ q j far. its.order.to_come q j (omega (arith, far, starts.next))) its.coherence.lanes s k)
-  where
-    w : Server
-    w = opened_with clock l.times.round v es
-
-    on : OrdersOn v w
-    on = opened_on v clock l.times.round es starts.none starts.first (omega (arith, starts.synced))
-
--- Each start of a data server keeps both.
+-- Each start of a data server keeps it.
 pub coherence_kept_by_begin : (l : Layout) (c : CoresState) (m : Machine) (server now : ℕ) (es : List Entry) (outs : MoveOuts) (written : List Act) (new : Machine)
-    → Holds l m → IsRun l m.trail → Mirrors c m → Allowed c (Begin server now es) → BeginGoes m server now es outs written new → AllCoherent l (state_after l new.trail) new
+    → Holds l m → IsRun l m.trail → Mirrors c m → Allowed c (Begin server now es) → BeginGoes m server now es outs written new → PutsCoherent l new
 coherence_kept_by_begin l c m server now es outs written new h run shows allowed goes =
-    kept_by_start BothPart l c m server now es outs written new h run shows allowed goes (both_before l m h)
-    (λ starts. both_kept_by_first l server now (state_after l m.trail).clock es v x m.is_dead_at (h.sites server) starts)
-    (λ starts. both_kept_by_later l server now (state_after l m.trail).clock es v x m.is_dead_at (h.sites server) starts)
+    kept_by_start CoherencePart l c m server now es outs written new h run shows allowed goes (λ d. (h.sites d).coherence)
+    (λ starts.
+    begun_coherent l server now es v (opened_with p.clock l.times.round v es) x m.is_dead_at its
+    (opened_on v p.clock l.times.round es starts.none starts.first (omega (arith, starts.synced)))
+    (λ q j far. its.order.to_come q j (omega (arith, far, starts.next))))
+    (λ starts.
+    begun_coherent l server now es v (crashed p.clock l.times.round v (length es)) x m.is_dead_at its
+    (crashed_on v p.clock l.times.round (length es) starts.agree starts.low starts.within)
+    (λ q j far. its.order.to_come q j (omega (arith, far, starts.next))))
   where
+    p : Plain
+    p = state_after l m.trail
+
     x : Site
     x = m.site_at server
 
     v : Server
-    v = (state_after l m.trail).server_at server
+    v = p.server_at server
+
+    its : SiteHolds l server m.is_dead_at v x
+    its = h.sites server

@@ -52,10 +52,11 @@ use Rattle.ends_kept.proofs.OrderApps.{no_news, takes_its}
 use Rattle.ends_kept.proofs.PairTables.{line_has}
 use Rattle.ends_kept.proofs.TablesMoves.{app_may}
 use Rattle.ends_kept.proofs.TakenDown.{Taken, taken_down}
-use Rattle.coherence_kept.proofs.CoherenceJobs.{SameDown, told_down, step_down, coherence_beside, PutsCoherent}
+use Rattle.coherence_kept.proofs.ShortMoves.{PutsCoherent}
+use Rattle.coherence_kept.proofs.CoherenceJobs.{SameDown, told_down, step_down, coherence_beside}
 use Rattle.coherence_kept.proofs.CoherenceLater.{LaneCoherent}
 use Rattle.coherence_kept.proofs.Grows.{HeadersAre}
-use Rattle.coherence_kept.proofs.FrontsServer.{deeds_on}
+use Rattle.coherence_kept.proofs.DeedsOn.{deeds_on}
 
 -- the order that an application server learns of
 

@@ -42,8 +42,9 @@ use Rattle.cluster_steps.proofs.Outcomes.{EndKept, command_told}
 use Rattle.ends_kept.proofs.OrderApps.{no_news}
 use Rattle.ends_kept.proofs.OrderJobs.{all_leave}
 use Rattle.ends_kept.proofs.TablesKept.{normal_has}
+use Rattle.coherence_kept.proofs.ShortMoves.{PutsCoherent}
 use Rattle.coherence_kept.proofs.Grows.{OrdersOn, coherent_later}
-use Rattle.coherence_kept.proofs.FrontsServer.{deeds_on}
+use Rattle.coherence_kept.proofs.DeedsOn.{deeds_on}
 
 -- what was put to a session, and the front of its Welcome, are as they were
 pub record SameDown (a b : Lane) : Type 0 where
@@ -94,10 +95,6 @@ coherence_beside v w x y on now same lanes h = record {
     held n s is =
         subst (λ (k : ℕ). BlocksHold n.order (IsHeld n.order n.noted s) (y.lane_at s k).down) (sym same.past)
         (subst (BlocksHold n.order (IsHeld n.order n.noted s)) (sym (lanes s x.past).down) is)
-
--- what was put at each data server is coherent
-abbrev pub PutsCoherent : Layout → Machine → Type 0
-PutsCoherent l m = (d : ℕ) → CoherenceHolds ((state_after l m.trail).server_at d) (m.site_at d)
 
 -- Each command of a job keeps it.
 pub puts_kept_by_job : (l : Layout) (c : CoresState) (m : Machine) (job now line : ℕ) (command : Command) (outs : MoveOuts) (written : List Act) (new : Machine)

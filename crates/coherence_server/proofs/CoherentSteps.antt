@@ -65,9 +65,9 @@ use Rattle.link_kept.proofs.WindowLists.{none_there}
 use Rattle.link_kept.proofs.WindowPieces.{PutsWell}
 use Rattle.link_kept.proofs.WindowsGo.{AllServed, same_or}
 use Rattle.link_kept.proofs.WindowsServer.{LanesGrow, server_lanes}
-use Rattle.coherence_kept.proofs.CoherenceJobs.{PutsCoherent}
+use Rattle.coherence_kept.proofs.ShortMoves.{PutsCoherent}
 use Rattle.coherence_kept.proofs.CoherenceLater.{LaneCoherent}
-use Rattle.coherence_kept.proofs.FrontsServer.{deeds_grow, deeds_on}
+use Rattle.coherence_kept.proofs.DeedsOn.{deeds_grow, deeds_on}
 use Rattle.coherence_kept.proofs.Grows.{OrdersOn, coherent_later}
 use Rattle.coherence_kept.proofs.EntryDrops.{HeldBy}
 use Rattle.coherence_kept.proofs.Joined.{Held, held_coherent}

@@ -28,10 +28,10 @@ use Rattle.cluster_steps.proofs.InputsBring.{SessionStays}
 use Rattle.ends_kept.proofs.NextDown.{HasNumber, NextDown, joined_next}
 use Rattle.ends_kept.proofs.TakenDown.{Taken}
 use Rattle.link_kept.proofs.ShortMoves.{told_there}
-use Rattle.coherence_kept.proofs.FrontTakes.{all_dropped}
-use Rattle.coherence_kept.proofs.FrontsApps.{TakesOne, own_begins, own_takes, taken_beside}
-use Rattle.coherence_kept.proofs.FrontsEnds.{FrontWith, SessionsKeep, ShownWith, TakenAt, front_at, front_keeps, kept_taken, shown_as, shown_at, shown_keeps, stays_keep, taken_at, told_taken}
-use Rattle.coherence_kept.proofs.FrontsLater.{SameTaken}
+use Rattle.fronts_kept.proofs.FrontTakes.{all_dropped}
+use Rattle.fronts_kept.proofs.FrontsApps.{TakesOne, own_begins, own_takes, taken_beside}
+use Rattle.fronts_kept.proofs.FrontsEnds.{FrontWith, SessionsKeep, ShownWith, TakenAt, front_at, front_keeps, kept_taken, shown_as, shown_at, shown_keeps, stays_keep, taken_at, told_taken}
+use Rattle.fronts_kept.proofs.FrontsLater.{SameTaken}
 
 -- what is shown
 

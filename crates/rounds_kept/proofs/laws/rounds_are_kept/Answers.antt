@@ -1,5 +1,5 @@
-use Rattle.coherence_kept.proofs.RoundMoves.{rounds_kept_by_tick, rounds_kept_by_look, rounds_kept_by_die, rounds_kept_by_halt, rounds_kept_by_begin}
-use Rattle.coherence_kept.proofs.laws.rounds_are_kept.Goals as goal
+use Rattle.rounds_kept.proofs.RoundMoves.{rounds_kept_by_tick, rounds_kept_by_look, rounds_kept_by_die, rounds_kept_by_halt, rounds_kept_by_begin}
+use Rattle.rounds_kept.proofs.laws.rounds_are_kept.Goals as goal
 
 pub returns-clause-ticks : goal.returns-clause-ticks
 returns-clause-ticks c = rounds_kept_by_tick

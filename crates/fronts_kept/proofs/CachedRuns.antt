@@ -22,7 +22,7 @@ use Rattle.cluster_invariant.specs.Coherence.{BlockHolds, BlocksHold, CoherenceH
 use Rattle.cluster_invariant.specs.Fronts.{CameIn, FrontIs, FrontOf, ShownIs, ShownOf, Stands, last_front}
 use Rattle.cluster_invariant.specs.Holds.{Holds}
 use Rattle.link_kept.proofs.ShortMoves.{told_there}
-use Rattle.coherence_kept.specs.CacheLaws.{CacheIsTrue, PublishedIsTrue}
+use Rattle.fronts_kept.specs.CacheLaws.{CacheIsTrue, PublishedIsTrue}
 
 -- either of two that are both false
 neither : (a b : Bool) → (a || b) ≡ false → (a ≡ false) × (b ≡ false)

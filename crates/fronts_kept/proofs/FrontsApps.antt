@@ -29,9 +29,9 @@ use Rattle.cluster_invariant.specs.Fronts.{FrontIs, ShownIs, Stands, last_front}
 use Rattle.cluster_invariant.specs.Words.{IsFront}
 use Rattle.cluster_steps.proofs.EndSteps.{session_put}
 use Rattle.cluster_steps.proofs.FrameEnds.{Delivered, TookFresh}
-use Rattle.coherence_kept.proofs.FrontTakes.{RunsAfter, front_takes, shown_takes, take_more}
-use Rattle.coherence_kept.proofs.FrontsEnds.{FrontWith, ShownWith, TakenAt}
-use Rattle.coherence_kept.proofs.FrontsLater.{SameTaken, front_later, same_taken}
+use Rattle.fronts_kept.proofs.FrontTakes.{RunsAfter, front_takes, shown_takes, take_more}
+use Rattle.fronts_kept.proofs.FrontsEnds.{FrontWith, ShownWith, TakenAt}
+use Rattle.fronts_kept.proofs.FrontsLater.{SameTaken, front_later, same_taken}
 
 -- a fresh message
 

@@ -14,17 +14,17 @@ use Rattle.cluster_runs.specs.Machine.{Machine}
 use Rattle.cluster_runs.specs.Mirrors.{Mirrors}
 use Rattle.cluster_runs.specs.Moves.{Allowed}
 use Rattle.cluster_invariant.specs.Holds.{Holds}
-use Rattle.coherence_kept.proofs.BeginMoves.{coherence_kept_by_begin}
-use Rattle.coherence_kept.proofs.FrontsInputs.{fronts_kept_by_app}
-use Rattle.coherence_kept.proofs.FrontsJobs.{fronts_kept_by_job}
-use Rattle.coherence_kept.proofs.FrontsServer.{AllFronts, fronts_kept_by_server}
-use Rattle.coherence_kept.proofs.ShortMoves.{coherence_kept_by_tick, coherence_kept_by_look, coherence_kept_by_die, coherence_kept_by_halt}
+use Rattle.fronts_kept.proofs.FrontsInputs.{fronts_kept_by_app}
+use Rattle.fronts_kept.proofs.FrontsJobs.{fronts_kept_by_job}
+use Rattle.fronts_kept.proofs.FrontsShort.{AllFronts}
+use Rattle.fronts_kept.proofs.FrontsServer.{fronts_kept_by_server}
+use Rattle.fronts_kept.proofs.FrontsShort.{fronts_kept_by_begin, fronts_kept_by_die, fronts_kept_by_halt, fronts_kept_by_look, fronts_kept_by_tick}
 
 fronts_kept_by_looked : (l : Layout) (m : Machine) (app job line : ℕ) (command : Command) (outs : MoveOuts) (written : List Act) (new : Machine)
     → Holds l m → LookedGoes m app job line command outs written new → AllFronts l new
 fronts_kept_by_looked l m app job line (commands.Set at value) outs written new h goes = absurd goes
 fronts_kept_by_looked l m app job line (commands.Kill at) outs written new h goes = absurd goes
-fronts_kept_by_looked l m app job line (commands.Get at) outs written new h goes = λ d. (coherence_kept_by_look l m app job line at outs written new h goes d).1
+fronts_kept_by_looked l m app job line (commands.Get at) outs written new h goes = fronts_kept_by_look l m app job line at outs written new h goes
 fronts_kept_by_looked l m app job line (commands.Shape at) outs written new h goes = absurd goes
 fronts_kept_by_looked l m app job line (commands.Next parent sub) outs written new h goes = absurd goes
 fronts_kept_by_looked l m app job line (commands.Incr at amount) outs written new h goes = absurd goes
@@ -42,7 +42,7 @@ fronts_stay l c m (Looked job line command) outs written new h run shows allowed
 fronts_stay l c m (App app now input) outs written new h run shows allowed goes = fronts_kept_by_app l c m app now input outs written new h run shows allowed goes
 fronts_stay l c m (Server server now input) outs written new h run shows allowed goes = fronts_kept_by_server l c m server now input outs written new h run shows allowed goes
 fronts_stay l c m (Begin server now entries) outs written new h run shows allowed goes =
-    λ d. (coherence_kept_by_begin l c m server now entries outs written new h run shows allowed goes d).1
-fronts_stay l c m (Halt server) outs written new h run shows allowed goes = λ d. (coherence_kept_by_halt l m server outs written new h goes d).1
-fronts_stay l c m (Die app) outs written new h run shows allowed goes = λ d. (coherence_kept_by_die l m app outs written new h goes d).1
-fronts_stay l c m (Tick now) outs written new h run shows allowed goes = λ d. (coherence_kept_by_tick l m new now outs written h goes d).1
+    fronts_kept_by_begin l c m server now entries outs written new h run shows allowed goes
+fronts_stay l c m (Halt server) outs written new h run shows allowed goes = fronts_kept_by_halt l m server outs written new h goes
+fronts_stay l c m (Die app) outs written new h run shows allowed goes = fronts_kept_by_die l m app outs written new h goes
+fronts_stay l c m (Tick now) outs written new h run shows allowed goes = fronts_kept_by_tick l m new now outs written h goes

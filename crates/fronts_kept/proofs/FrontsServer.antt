@@ -1,20 +1,14 @@
 -- Fronts over a step of a data server: orders and lanes go on, and it leaves the states of the application ends.
-use Rattle.std.proofs.Common.{◌≡◌, ◌≢◌, ◌≤◌, ◌<◌, ◌⊎◌, inl, inr, ℕ, ◌+◌, ◌-◌, Bool, true, false, if◌then◌else◌, List, [], ◌∷◌, length, get_or, refl, sym, ◌∙◌, ap, subst, arith, ◌==◌}
-use Rattle.std.specs.List.{AllByRecursion}
-use Rattle.std.proofs.lemmas.Bool.{eqb-true, eq-eqb, ne_eqb, false≢true}
-use Rattle.std.proofs.lemmas.List.{get_or_append_left}
+use Rattle.std.proofs.Common.{◌≡◌, ◌≢◌, ◌⊎◌, inl, inr, ℕ, List, [], ◌∷◌, refl, sym, ◌∙◌, subst, arith}
 use Rattle.plain_orders.specs.declared.act.Act.{Act}
-use Rattle.plain_orders.specs.declared.entry.Entry.{Entry}
-use Rattle.plain_orders.specs.declared.entry.Entry.TheVariants.{Closed}
 use Rattle.plain_orders.specs.declared.layout.Layout.{Layout}
-use Rattle.plain_runs.specs.Plain.{Plain, Server, start, current, order_at}
+use Rattle.plain_runs.specs.Plain.{Plain, Server, start}
 use Rattle.plain_runs.specs.Run.{IsRun, after_all, state_after}
 use Rattle.plain_runs.proofs.RunLemmas.{after_all-append}
 use Rattle.data_rules.specs.DataState.{DataState}
 use Rattle.data_rules.specs.declared.data_in.DataIn.{DataIn}
 use Rattle.data_rules.specs.declared.data_in.DataIn.TheVariants as data_in
 use Rattle.data_rules.specs.declared.data_outs.DataOuts.{DataOuts}
-use Rattle.data_rules.specs.Places.{epoch_place}
 use Rattle.cluster_runs.specs.declared.move_outs.MoveOuts.{MoveOuts}
 use Rattle.cluster_runs.specs.declared.moves.Move.TheVariants.{Server as ServerMove}
 use Rattle.cluster_runs.specs.CoresState.{CoresState}
@@ -28,95 +22,16 @@ use Rattle.cluster_runs.specs.Goes.{ServerGoes, at_site, server_site, server_tak
 use Rattle.cluster_invariant.specs.Fronts.{FrontsHold}
 use Rattle.cluster_invariant.specs.Holds.{Holds}
 use Rattle.cluster_invariant.specs.Link.{LaneCounts}
-use Rattle.cluster_invariant.specs.Orders.{OrdersAgree}
-use Rattle.cluster_invariant.specs.Words.{IsFront, stays_at}
-use Rattle.cluster_invariant.proofs.Deeds.{Deed, DeedIs, Enters, Closes, Releases, ComesBack, Grants, Frees, Breaks, order_by, order_with}
 use Rattle.cluster_invariant.proofs.Frame.{others_left}
 use Rattle.cluster_invariant.proofs.OrderMoves.{server_wrote}
 use Rattle.cluster_invariant.proofs.OrderRows.{StepWrote}
 use Rattle.cluster_invariant.proofs.OrdersStay.{orders_agree}
-use Rattle.cluster_invariant.proofs.Written.{place_kept}
-use Rattle.link_kept.proofs.Later.{front_same, front_then}
-use Rattle.cluster_invariant.proofs.PastOrders.{order_now, stays_within}
 use Rattle.link_kept.proofs.WindowsGo.{same_or}
 use Rattle.link_kept.proofs.WindowsServer.{LanesGrow, server_lanes}
+use Rattle.coherence_kept.proofs.DeedsOn.{deeds_on}
 use Rattle.coherence_kept.proofs.Grows.{OrdersOn}
-use Rattle.coherence_kept.proofs.FrontsLater.{SameTaken, SameEnds, same_taken, taken_same, fronts_later}
-
--- the orders
-
-deed_grows : (x : Deed) (es : List Entry) → IsFront es (order_with x es)
-deed_grows (Enters e) es = (e ∷ [], refl)
-deed_grows (Closes s cause) es = (Closed s ∷ [], refl)
-deed_grows (Releases s) es = front_same es
-deed_grows ComesBack es = front_same es
-deed_grows (Grants s j m key at) es = front_same es
-deed_grows (Frees s j m key) es = front_same es
-deed_grows (Breaks app now) es = front_same es
-
--- an order goes on by deeds
-pub deeds_grow : (xs : List Deed) (es : List Entry) → IsFront es (order_by xs es)
-deeds_grow [] es = front_same es
-deeds_grow (x ∷ xs) es = front_then es (order_with x es) (order_by xs (order_with x es)) (deed_grows x es) (deeds_grow xs (order_with x es))
-
--- The orders of a plain server go on by the deeds of its data server.
-pub deeds_on : (v w : Server) (ds : List Deed) → OrdersAgree v → AllByRecursion DeedIs ds → w.past ≡ v.past → w.order ≡ order_by ds v.order → v.synced ≤ w.synced
-    → OrdersOn v w
-deeds_on v w ds agree may past order synced = record {
-  goes_on = λ k low. goes_on k (k == current v) refl low;
-  within = stays_within v agree;
-  stays = λ k low. stays k (k == current v) refl low;
-}
-  where
-    now : current w ≡ current v
-    now = ap (λ (xs : List (List Entry)). length xs) past
-
-    here : order_at w (current v) ≡ order_by ds v.order
-    here = ap (order_at w) (sym now) ∙ order_now w ∙ order
-
-    below : (k : ℕ) → k ≤ current v → (k == current v) ≡ false → k < current v
-    below k low other = go (λ same. false≢true (sym other ∙ eq-eqb k (current v) same))
-      where
-        go : k ≢ current v → k < current v
-        go apart = omega (arith, low, apart)
-
-    before : (k : ℕ) → k < current v → order_at w k ≡ order_at v k
-    before k low =
-        get_or_append_left w.past (w.order ∷ []) [] k (omega (arith, low, now)) ∙ ap (λ (xs : List (List Entry)). get_or xs k []) past
-        ∙ sym (get_or_append_left v.past (v.order ∷ []) [] k low)
-
-    goes_on : (k : ℕ) (b : Bool) → (k == current v) ≡ b → k ≤ current v → IsFront (order_at v k) (order_at w k)
-    goes_on k true same low =
-        subst (λ (n : ℕ). IsFront (order_at v n) (order_at w n)) (sym (eqb-true k (current v) same))
-        (subst (λ (es : List Entry). IsFront es (order_at w (current v))) (sym (order_now v))
-        (subst (λ (es : List Entry). IsFront v.order es) (sym here) (deeds_grow ds v.order)))
-    goes_on k false other low =
-        subst (λ (es : List Entry). IsFront (order_at v k) es) (sym (before k (below k low other))) (front_same (order_at v k))
-
-    places : (k : ℕ) (b : Bool) → (k == current v) ≡ b → k ≤ current v → epoch_place (order_at w k) ≡ epoch_place (order_at v k)
-    places k true same low =
-        subst (λ (n : ℕ). epoch_place (order_at w n) ≡ epoch_place (order_at v n)) (sym (eqb-true k (current v) same))
-        (ap epoch_place here ∙ place_kept ds v.order may ∙ ap epoch_place (sym (order_now v)))
-    places k false other low = ap epoch_place (before k (below k low other))
-
-    past_stays : (u : Server) (k : ℕ) → k ≢ current u → stays_at u k ≡ epoch_place (order_at u (k + 1)) - 1
-    past_stays u k other = ap (λ (b : Bool). if b then u.synced else epoch_place (order_at u (k + 1)) - 1) (ne_eqb k (current u) other)
-
-    now_stays : (u : Server) (k : ℕ) → k ≡ current u → stays_at u k ≡ u.synced
-    now_stays u k same = ap (λ (b : Bool). if b then u.synced else epoch_place (order_at u (k + 1)) - 1) (eq-eqb k (current u) same)
-
-    stays : (k : ℕ) (b : Bool) → (k == current v) ≡ b → k ≤ current v → stays_at v k ≤ stays_at w k
-    stays k true same low = omega (arith, now_stays v k (eqb-true k (current v) same), now_stays w k (eqb-true k (current v) same ∙ sym now), synced)
-    stays k false other low = go (below k low other)
-      where
-        go : k < current v → stays_at v k ≤ stays_at w k
-        go less =
-            omega (
-              arith,
-              past_stays v k (λ same. absurd (omega (arith, same, less))),
-              past_stays w k (λ same. absurd (omega (arith, same, less, now))),
-              places (k + 1) (k + 1 == current v) refl (omega (arith, less)),
-            )
+use Rattle.fronts_kept.proofs.FrontsShort.{AllFronts}
+use Rattle.fronts_kept.proofs.FrontsLater.{SameTaken, SameEnds, same_taken, taken_same, fronts_later}
 
 -- the site
 
@@ -157,10 +72,6 @@ server_taken old outs new x y counts g s k = by (same_or k x.past)
         (subst (λ (z : Lane). SameTaken (x.lane_at s x.past) z) (sym (g.here s))
         (taken_same (x.lane_at s x.past) (with_data_step old new outs.frames s (x.lane_at s x.past)) (counts s x.past).down_taken refl (_, refl) refl))
     by (inr other) = subst (λ (z : Lane). SameTaken (x.lane_at s k) z) (sym (g.others s k other)) (same_taken (x.lane_at s k))
-
--- the fronts of the application ends at each data server
-abbrev pub AllFronts : Layout → Machine → Type 0
-AllFronts l m = (d : ℕ) → FrontsHold ((state_after l m.trail).server_at d) (m.site_at d) m.is_dead_at
 
 -- Each step of a data server keeps the fronts.
 pub fronts_kept_by_server : (l : Layout) (c : CoresState) (m : Machine) (server now : ℕ) (input : DataIn) (outs : MoveOuts) (written : List Act) (new : Machine)

@@ -42,10 +42,10 @@ use Rattle.ends_kept.proofs.NextDown.{HasNumber}
 use Rattle.ends_kept.proofs.OrderApps.{takes_its, takes_told}
 use Rattle.ends_kept.proofs.TakenDown.{Taken, taken_down}
 use Rattle.coherence_kept.proofs.CoherenceApps.{open_header, told_where}
-use Rattle.coherence_kept.proofs.FrontsApps.{TakesOne, fresh_takes}
-use Rattle.coherence_kept.proofs.FrontsEnds.{ShownWith, shown_as, FrontWith, fronts_at_end}
-use Rattle.coherence_kept.proofs.FrontsJobs.{told_same}
-use Rattle.coherence_kept.proofs.FrontsOwn.{OwnIs, own_fresh, own_lost, own_new, own_stays, lost_shown, shown_if, some_if, stays_shown}
+use Rattle.fronts_kept.proofs.FrontsApps.{TakesOne, fresh_takes}
+use Rattle.fronts_kept.proofs.FrontsEnds.{ShownWith, shown_as, FrontWith, fronts_at_end}
+use Rattle.fronts_kept.proofs.FrontsJobs.{told_same}
+use Rattle.fronts_kept.proofs.FrontsOwn.{OwnIs, own_fresh, own_lost, own_new, own_stays, lost_shown, shown_if, some_if, stays_shown}
 use Rattle.plain_orders.specs.declared.act.Act.{Act}
 use Rattle.std.specs.List.{AllByRecursion}
 use Rattle.plain_runs.proofs.RunLemmas.{after_all-append}
@@ -59,7 +59,8 @@ use Rattle.cluster_invariant.proofs.OrdersStay.{orders_agree}
 use Rattle.cluster_steps.proofs.FrameCases.{LineHas}
 use Rattle.ends_kept.proofs.PairTables.{line_has}
 use Rattle.ends_kept.proofs.TablesMoves.{app_may}
-use Rattle.coherence_kept.proofs.FrontsServer.{AllFronts, deeds_on}
+use Rattle.coherence_kept.proofs.DeedsOn.{deeds_on}
+use Rattle.fronts_kept.proofs.FrontsShort.{AllFronts}
 
 -- by what the input brings
 

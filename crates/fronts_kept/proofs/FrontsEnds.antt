@@ -24,7 +24,7 @@ use Rattle.cluster_steps.proofs.InputsBring.{IsStill, SessionStays}
 use Rattle.cluster_steps.proofs.JobEnds.{SessionsGrow}
 use Rattle.cluster_steps.proofs.JobPieces.{IsAmong}
 use Rattle.link_kept.proofs.ShortMoves.{told_there}
-use Rattle.coherence_kept.proofs.FrontsLater.{SameTaken, front_later, same_taken, shown_later}
+use Rattle.fronts_kept.proofs.FrontsLater.{SameTaken, front_later, same_taken, shown_later}
 
 -- one session
 

@@ -36,10 +36,11 @@ use Rattle.cluster_steps.proofs.Outcomes.{EndKept, command_told}
 use Rattle.ends_kept.proofs.OrderApps.{no_news}
 use Rattle.ends_kept.proofs.OrderJobs.{all_leave}
 use Rattle.ends_kept.proofs.TablesKept.{normal_has}
-use Rattle.coherence_kept.proofs.FrontsLater.{SameTaken}
+use Rattle.fronts_kept.proofs.FrontsLater.{SameTaken}
 use Rattle.link_kept.proofs.ShortMoves.{told_there}
-use Rattle.coherence_kept.proofs.FrontsEnds.{FrontWith, SessionsKeep, ShownWith, front_at, front_keeps, fronts_at_end, grows_keep, kept_taken, shown_as, shown_at, shown_keeps, taken_at, told_taken}
-use Rattle.coherence_kept.proofs.FrontsServer.{AllFronts, deeds_on}
+use Rattle.fronts_kept.proofs.FrontsEnds.{FrontWith, SessionsKeep, ShownWith, front_at, front_keeps, fronts_at_end, grows_keep, kept_taken, shown_as, shown_at, shown_keeps, taken_at, told_taken}
+use Rattle.coherence_kept.proofs.DeedsOn.{deeds_on}
+use Rattle.fronts_kept.proofs.FrontsShort.{AllFronts}
 
 -- the moves
 

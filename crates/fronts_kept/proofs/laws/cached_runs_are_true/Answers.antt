@@ -1,5 +1,5 @@
-use Rattle.coherence_kept.proofs.CachedRuns.{cached_are_true, published_are_true}
-use Rattle.coherence_kept.proofs.laws.cached_runs_are_true.Goals as goal
+use Rattle.fronts_kept.proofs.CachedRuns.{cached_are_true, published_are_true}
+use Rattle.fronts_kept.proofs.laws.cached_runs_are_true.Goals as goal
 
 pub returns-clause-cached : goal.returns-clause-cached
 returns-clause-cached c = cached_are_true

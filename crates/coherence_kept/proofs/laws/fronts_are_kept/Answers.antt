@@ -1,5 +1,0 @@
-use Rattle.coherence_kept.proofs.FrontsMoves.{fronts_stay}
-use Rattle.coherence_kept.proofs.laws.fronts_are_kept.Goals as goal
-
-pub returns : goal.returns
-returns c = fronts_stay

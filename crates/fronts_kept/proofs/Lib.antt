@@ -1,0 +1,11 @@
+pub mod FrontsLater
+pub mod FrontsShort
+pub mod FrontsServer
+pub mod FrontsEnds
+pub mod FrontsJobs
+pub mod FrontTakes
+pub mod FrontsApps
+pub mod FrontsOwn
+pub mod FrontsInputs
+pub mod FrontsMoves
+pub mod CachedRuns
