@@ -15,6 +15,10 @@ pub mod RoundOn
 pub mod EndsGo
 pub mod EndsPieces
 pub mod EndsAlong
+pub mod EndsBegin
+pub mod AwaitsGo
+pub mod TakenSame
+pub mod AwaitsPieces
 pub mod NodeEndsBeside
 pub mod SameBreaks
 pub mod NodeEndsMoves

@@ -65,7 +65,7 @@ opens_acts app conn now b = enters_acts (Opened (length b.state.order + 1) app) 
 -- a Close
 
 -- by the connection that the session had
-abbrev ClosedTo : ℕ → ℕ → ShutCause → Option ℕ → ℕ → DataState → DataState → Type 0
+abbrev pub ClosedTo : ℕ → ℕ → ShutCause → Option ℕ → ℕ → DataState → DataState → Type 0
 ClosedTo s app c o now n k =
     ClosedWith s app (data_next n.times now (link_of n app) (event_of c)) (closed_conns c o s n.conns) (closed_callers c o n.callers) n k
 
