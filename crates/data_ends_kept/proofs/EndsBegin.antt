@@ -27,7 +27,7 @@ use Rattle.cluster_invariant.proofs.PieceMay.{begins}
 use Rattle.cluster_invariant.proofs.PiecesOfSteps.{synced_state}
 use Rattle.data_ends_kept.proofs.CallersGo.{CallersOf, WaitsOn, differs_all, none_has, parts}
 use Rattle.data_ends_kept.proofs.ConnLists.{Differ}
-use Rattle.data_ends_kept.proofs.EndsGo.{EndsGo}
+use Rattle.data_ends_kept.proofs.EndsGo.{grown_none, EndsGo}
 use Rattle.data_ends_kept.proofs.LinksGo.{LinksGo, link_same, links_stay}
 use Rattle.data_ends_kept.proofs.PlainView.{SameView, same_view, view}
 use Rattle.data_ends_kept.proofs.RoundOn.{RoundOn, ends_round}
@@ -105,27 +105,29 @@ saved_view l p d k upto old true = go (nat_lt k upto)
     go false = same_view (p.server_at d)
 
 -- All of it, as a step begins.
-pub ends_begin : (l : Layout) (p : Plain) (d k : ℕ) (x : Site) (old : DataState) (now : ℕ) (input : DataIn) → NodeHas d (p.server_at d) old → NodeEnds (p.server_at d) x old
-    → EndsGo (record { old = old; now = now; input = input }) d (view l p d k (begins (record { old = old; now = now; input = input })).outs.acts) (begins (record { old = old; now = now; input = input })).state
-ends_begin l p d k x old now input o h = go input
+pub ends_begin : (l : Layout) (p : Plain) (d k : ℕ) (W : Caller → Type 0) (x : Site) (old : DataState) (now : ℕ) (input : DataIn) → NodeHas d (p.server_at d) old → NodeEnds (p.server_at d) x old → AllByRecursion W old.callers
+    → EndsGo (record { old = old; now = now; input = input }) W d (view l p d k (begins (record { old = old; now = now; input = input })).outs.acts) (begins (record { old = old; now = now; input = input })).state
+ends_begin l p d k W x old now input o h whence = go input
   where
     on : RoundOn old
     on = record { over = h.round.is_on; calls = h.callers.out_of_round; within = o.within }
 
-    same : (i : DataIn) → (ends_round i ≡ false → RoundOn old) → EndsGo (record { old = old; now = now; input = i }) d (p.server_at d) old
-    same i still = record { links = links_begin d (p.server_at d) x old o h; callers = callers_begin old x h.callers; on = still }
+    same : (i : DataIn) → (ends_round i ≡ false → RoundOn old) → EndsGo (record { old = old; now = now; input = i }) W d (p.server_at d) old
+    same i still = record { links = links_begin d (p.server_at d) x old o h; callers = callers_begin old x h.callers; on = still; grown = grown_none old.order; whence = whence }
 
     go : (i : DataIn)
-        → EndsGo (record { old = old; now = now; input = i }) d (view l p d k (begins (record { old = old; now = now; input = i })).outs.acts) (begins (record { old = old; now = now; input = i })).state
+        → EndsGo (record { old = old; now = now; input = i }) W d (view l p d k (begins (record { old = old; now = now; input = i })).outs.acts) (begins (record { old = old; now = now; input = i })).state
     go (data_in.Frame conn up) = same (data_in.Frame conn up) (λ still. on)
     go (data_in.Connected conn) = same (data_in.Connected conn) (λ still. on)
     go (data_in.Broken conn) = same (data_in.Broken conn) (λ still. on)
     go data_in.Tick = same data_in.Tick (λ still. on)
     go (data_in.Saved upto) =
-        subst (λ (n : DataState). EndsGo (record { old = old; now = now; input = data_in.Saved upto }) d (view l p d k (writes_synced (nat_lt old.synced upto) upto (begun old)).outs.acts) n)
+        subst (λ (n : DataState). EndsGo (record { old = old; now = now; input = data_in.Saved upto }) W d (view l p d k (writes_synced (nat_lt old.synced upto) upto (begun old)).outs.acts) n)
         (sym (synced_state upto (begun old)))
         (record {
           links = links_synced d (p.server_at d) (view l p d k (writes_synced (nat_lt old.synced upto) upto (begun old)).outs.acts) old upto (saved_view l p d k upto old (nat_lt old.synced upto)) (links_begin d (p.server_at d) x old o h);
           callers = callers_begin old x h.callers;
           on = λ still. absurd (true≢false still);
+          grown = grown_none old.order;
+          whence = whence;
         })

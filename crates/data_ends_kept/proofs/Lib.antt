@@ -19,6 +19,9 @@ pub mod EndsBegin
 pub mod AwaitsGo
 pub mod TakenSame
 pub mod AwaitsPieces
+pub mod RecoverLearnt
+pub mod Spoken
+pub mod SpokenPieces
 pub mod NodeEndsBeside
 pub mod SameBreaks
 pub mod NodeEndsMoves
