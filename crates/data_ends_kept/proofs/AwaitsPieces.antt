@@ -38,11 +38,11 @@ use Rattle.data_ends_kept.proofs.QuietPieces.{quiet_calls, quiet_goes_on}
 use Rattle.data_ends_kept.proofs.TakenSame.{SameTaken, set_taken, taken_appends, taken_bare, taken_goes_on, taken_leaves, taken_puts}
 
 -- what is known of the messages of sessions
-pub record TakesKnown (lane_of : ℕ → Lane) (t : Coming) : Type 0 where
+pub record TakesKnown (lane_of : ℕ → Lane) (t : Coming) (E : Sofar → Type 0) : Type 0 where
   -- one that comes is the next that was put
   pub next : (conn session : ℕ) (up : UpFrame) (b : Sofar) → TakesMay t conn session up b → (rest : List Up) × (drop (window_of b.state session).taken (lane_of session).up ≡ up.message ∷ rest)
   -- of a session that comes again nothing was put
-  pub again : (session conn kept : ℕ) (b : Sofar) → ComesAgainMay t session conn kept b → (lane_of session).up ≡ []
+  pub again : (session conn kept : ℕ) (b : Sofar) → E b → ComesAgainMay t session conn kept b → (lane_of session).up ≡ []
   -- no Done comes
   pub undone : (conn : ℕ) (up : UpFrame) → t.input ≡ data_in.Frame conn up → is_done up.message ≡ false
 
@@ -97,9 +97,9 @@ module _ (lane_of : ℕ → Lane) where
           (subst (λ (es : List Entry). Awaits lane_of (option_map (λ r. without r s) b.state.round) (shuts s app cause now b).state.windows es) (sym f.order)
           (awaits_close lane_of b.state.round b.state.windows (shuts s app cause now b).state.windows b.state.order s windows h))
 
-  module _ (t : Coming) (known : TakesKnown lane_of t) where
-    awaits_again : (session conn kept : ℕ) (b : Sofar) → ComesAgainMay t session conn kept b → AwaitsOn b → AwaitsOn (makes t.now (ComesAgain session conn kept) b)
-    awaits_again session conn kept b may h =
+  module _ (t : Coming) (E : Sofar → Type 0) (known : TakesKnown lane_of t E) where
+    awaits_again : (session conn kept : ℕ) (b : Sofar) → E b → ComesAgainMay t session conn kept b → AwaitsOn b → AwaitsOn (makes t.now (ComesAgain session conn kept) b)
+    awaits_again session conn kept b e may h =
         awaits_live lane_of b.state.round b.state.windows (set_window b.state.windows session fresh) b.state.order (λ s is. go s (same_or s session)) h
       where
         none_at : (n : ℕ) → undone_at [] n ≡ true
@@ -108,55 +108,55 @@ module _ (lane_of : ℕ → Lane) where
 
         go : (s : ℕ) → (s ≡ session) ⊎ (s ≢ session) → undone_in lane_of (set_window b.state.windows session fresh) s ≡ undone_in lane_of b.state.windows s
         go s (inl same) =
-            ap (λ (ups : List Up). undone_at ups (window_in (set_window b.state.windows session fresh) s).taken) (ap (λ (n : ℕ). (lane_of n).up) same ∙ known.again session conn kept b may)
+            ap (λ (ups : List Up). undone_at ups (window_in (set_window b.state.windows session fresh) s).taken) (ap (λ (n : ℕ). (lane_of n).up) same ∙ known.again session conn kept b e may)
             ∙ none_at _
-            ∙ sym (ap (λ (ups : List Up). undone_at ups (window_in b.state.windows s).taken) (ap (λ (n : ℕ). (lane_of n).up) same ∙ known.again session conn kept b may) ∙ none_at _)
+            ∙ sym (ap (λ (ups : List Up). undone_at ups (window_in b.state.windows s).taken) (ap (λ (n : ℕ). (lane_of n).up) same ∙ known.again session conn kept b e may) ∙ none_at _)
         go s (inr differs) = ap (λ (w : Window Down). undone_at (lane_of s).up w.taken) (set_elsewhere b.state.windows session s fresh differs)
 
     -- Each of them.
-    pub awaits_piece : (q : Piece) (b : Sofar) → MayMake t q b → AwaitsOn b → AwaitsOn (makes t.now q b)
-    awaits_piece (Accepts conn) b may h = h
-    awaits_piece (Forgets ending conn) b may h = awaits_beside (becomes (without_conn conn) b) (makes t.now (Forgets ending conn) b) (cut_round ending conn (becomes (without_conn conn) b)) (same_cuts ending conn (becomes (without_conn conn) b)) h
-    awaits_piece (Breaks ending conn session app) b may h =
+    pub awaits_piece : (q : Piece) (b : Sofar) → MayMake t q b → E b → AwaitsOn b → AwaitsOn (makes t.now q b)
+    awaits_piece (Accepts conn) b may e h = h
+    awaits_piece (Forgets ending conn) b may e h = awaits_beside (becomes (without_conn conn) b) (makes t.now (Forgets ending conn) b) (cut_round ending conn (becomes (without_conn conn) b)) (same_cuts ending conn (becomes (without_conn conn) b)) h
+    awaits_piece (Breaks ending conn session app) b may e h =
         awaits_beside (end_breaks (Some app) t.now (becomes (without_conn conn) b)) (makes t.now (Breaks ending conn session app) b) (cut_round ending conn (end_breaks (Some app) t.now (becomes (without_conn conn) b)))
         (same_cuts ending conn (end_breaks (Some app) t.now (becomes (without_conn conn) b))) (awaits_breaks app t.now (becomes (without_conn conn) b) h)
-    awaits_piece (Dials app dial) b may h = h
-    awaits_piece (Waits app conn) b may h = awaits_beside b (makes t.now (Waits app conn) b) (dropped_round (waiting_conn b.state app) b) (record { windows = (same_drops (waiting_conn b.state app) b).windows; order = (same_drops (waiting_conn b.state app) b).order }) h
-    awaits_piece (Opens app conn) b may h = no_round (makes t.now (Opens app conn) b) (opens_round app conn t.now b ∙ none_is b.state.round may.round)
-    awaits_piece (OpensNext app conn) b may h = no_round (makes t.now (OpensNext app conn) b) (opens_round app conn t.now (becomes next_caller b) ∙ may.over)
-    awaits_piece (Resumes app session conn) b may h =
+    awaits_piece (Dials app dial) b may e h = h
+    awaits_piece (Waits app conn) b may e h = awaits_beside b (makes t.now (Waits app conn) b) (dropped_round (waiting_conn b.state app) b) (record { windows = (same_drops (waiting_conn b.state app) b).windows; order = (same_drops (waiting_conn b.state app) b).order }) h
+    awaits_piece (Opens app conn) b may e h = no_round (makes t.now (Opens app conn) b) (opens_round app conn t.now b ∙ none_is b.state.round may.round)
+    awaits_piece (OpensNext app conn) b may e h = no_round (makes t.now (OpensNext app conn) b) (opens_round app conn t.now (becomes next_caller b) ∙ may.over)
+    awaits_piece (Resumes app session conn) b may e h =
         awaits_beside b (makes t.now (Resumes app session conn) b) (dropped_round (conn_of b.state session) b)
         (record { windows = (same_drops (conn_of b.state session) b).windows; order = (same_drops (conn_of b.state session) b).order }) h
-    awaits_piece (GoesOn session conn taken) b may h =
+    awaits_piece (GoesOn session conn taken) b may e h =
         awaits_same b (makes t.now (GoesOn session conn taken) b) (quiet_goes_on session conn taken b).core.round (quiet_goes_on session conn taken b).core.order (taken_goes_on session conn taken b) h
-    awaits_piece (ComesAgain session conn kept) b may h = awaits_again session conn kept b may h
-    awaits_piece (AwaitsReset session conn at) b may h = h
-    awaits_piece (Closes session app cause) b may h = closes_on session app cause t.now b h
-    awaits_piece (Acknowledges conn session up) b may h =
+    awaits_piece (ComesAgain session conn kept) b may e h = awaits_again session conn kept b e may h
+    awaits_piece (AwaitsReset session conn at) b may e h = h
+    awaits_piece (Closes session app cause) b may e h = closes_on session app cause t.now b h
+    awaits_piece (Acknowledges conn session up) b may e h =
         awaits_same b (makes t.now (Acknowledges conn session up) b) refl refl (set_taken b.state.windows session (with_ack (window_in b.state.windows session) up.ack) refl) h
-    awaits_piece (Takes conn session up) b may h =
+    awaits_piece (Takes conn session up) b may e h =
         awaits_more lane_of b.state.round b.state.windows b.state.order session (with_taken (window_in b.state.windows session) up.ack) up.message (known.next conn session up b may).0 refl
         (known.next conn session up b may).1 (known.undone conn up may.on.came) h
-    awaits_piece (TakesDone conn session up) b may h = absurd (true≢false (sym (ap is_done may.done) ∙ known.undone conn up may.takes.on.came))
-    awaits_piece (Enters e) b may h =
+    awaits_piece (TakesDone conn session up) b may e h = absurd (true≢false (sym (ap is_done may.done) ∙ known.undone conn up may.takes.on.came))
+    awaits_piece (Enters e) b may along h =
         subst (λ (o : Option Round). Awaits lane_of o (enters e b).state.windows (enters e b).state.order) (sym (enters_facts e b).round)
         (subst (λ (es : List Entry). Awaits lane_of b.state.round (enters e b).state.windows es) (sym (enters_facts e b).order)
         (awaits_quiet lane_of b.state.round (enters e b).state.windows b.state.order e (item_is may.session may.its.up.message e may.item).quiet
         (awaits_taken lane_of b.state.round b.state.windows (enters e b).state.windows b.state.order (taken_appends e (writes (act.Enter b.state.server e) b)) h)))
-    awaits_piece (Fetches session run block) b may h =
+    awaits_piece (Fetches session run block) b may e h =
         awaits_same b (makes t.now (Fetches session run block) b) (ap (λ (d : DataState). d.round) (only_puts session (down.Block (head_of b.state session) block) b).state)
         (ap (λ (d : DataState). d.order) (only_puts session (down.Block (head_of b.state session) block) b).state) (taken_puts session (down.Block (head_of b.state session) block) b) h
-    awaits_piece (PutsNormal app session) b may h =
+    awaits_piece (PutsNormal app session) b may e h =
         awaits_same b (makes t.now (PutsNormal app session) b) (ap (λ (d : DataState). d.round) (only_puts session (down.Normal (head_of b.state session)) b).state)
         (ap (λ (d : DataState). d.order) (only_puts session (down.Normal (head_of b.state session)) b).state) (taken_puts session (down.Normal (head_of b.state session)) b) h
-    awaits_piece (PutsAck session) b may h =
+    awaits_piece (PutsAck session) b may e h =
         awaits_same b (makes t.now (PutsAck session) b) (ap (λ (d : DataState). d.round) (only_puts session (down.Ack (head_of b.state session)) b).state)
         (ap (λ (d : DataState). d.order) (only_puts session (down.Ack (head_of b.state session)) b).state) (taken_puts session (down.Ack (head_of b.state session)) b) h
-    awaits_piece (Replies at says) b may h = h
-    awaits_piece (Leaves before r behind) b may h =
+    awaits_piece (Replies at says) b may e h = h
+    awaits_piece (Leaves before r behind) b may e h =
         awaits_same b (makes t.now (Leaves before r behind) b) (ap (λ (d : DataState). d.round) (only_leaves r.says (becomes (with_replies (before ++ behind)) b)).state)
         (ap (λ (d : DataState). d.order) (only_leaves r.says (becomes (with_replies (before ++ behind)) b)).state) (taken_leaves r.says (becomes (with_replies (before ++ behind)) b)) h
-    awaits_piece (Bares session conn) b may h = awaits_same b (makes t.now (Bares session conn) b) refl refl (taken_bare session conn b) h
-    awaits_piece (Locks call) b may h = awaits_beside b (calls call b) (quiet_calls call b).core.round (same_calls call b) h
-    awaits_piece RoundEnds b may h = no_round (makes t.now RoundEnds b) ((ends_aside (live_ends b.state.order) t.now).round (back_written b))
-    awaits_piece (Ticks app session) b may h = h
+    awaits_piece (Bares session conn) b may e h = awaits_same b (makes t.now (Bares session conn) b) refl refl (taken_bare session conn b) h
+    awaits_piece (Locks call) b may e h = awaits_beside b (calls call b) (quiet_calls call b).core.round (same_calls call b) h
+    awaits_piece RoundEnds b may e h = no_round (makes t.now RoundEnds b) ((ends_aside (live_ends b.state.order) t.now).round (back_written b))
+    awaits_piece (Ticks app session) b may e h = h

@@ -22,6 +22,8 @@ pub mod AwaitsPieces
 pub mod RecoverLearnt
 pub mod Spoken
 pub mod SpokenPieces
+pub mod SpokenAlong
+pub mod StepAwaits
 pub mod NodeEndsBeside
 pub mod SameBreaks
 pub mod NodeEndsMoves

@@ -100,7 +100,7 @@ says_mark v app dial k session epoch taken to says = go k.mark refl says
 
 module _ (v : Server) (x : Site) (dead : ℕ → Bool) (n : DataState) (dials : DialsAre v x dead) (node : NodeDials x n) (order : n.order ≡ v.order) (past : x.past ≡ current v)
     (app session epoch taken dial : ℕ) (f : UpFrame) (came : FirstCame x (record { app = app; dial = dial }) f) (says : f.message ≡ Recover app session epoch taken dial)
-    (low : app < APP_LIMIT) (opened : app_in n.order session ≡ Some app) (older : epoch < last_epoch n.order) (later : dial_of n app ≤ dial) where
+    (low : app < APP_LIMIT) (opened : (a : ℕ) → app_in n.order session ≡ Some a → a ≡ app) (older : epoch < last_epoch n.order) (later : dial_of n app ≤ dial) where
   now_order : order_at v x.past ≡ n.order
   now_order = ap (order_at v) past ∙ order_now v ∙ sym order
 
@@ -164,6 +164,11 @@ module _ (v : Server) (x : Site) (dead : ℕ → Bool) (n : DataState) (dials : 
   pub recover_unlearnt : (x.lane_at session x.past).began ≡ None
   recover_unlearnt = go (x.lane_at session x.past).began (dials.learnt session x.past)
     where
+      of_app : (b : ℕ) (a : Option ℕ) → app_in n.order session ≡ a → LearntBy v x session x.past (Some b) a → ⊥
+      of_app b None is learnt = learnt
+      of_app b (Some a) is learnt = learnt_on b (subst (λ (q : ℕ). LearntOn v (x.end_at q) q session x.past b) (opened a is) learnt)
+
       go : (o : Option ℕ) → LearntBy v x session x.past o (app_in (order_at v x.past) session) → o ≡ None
       go None learnt = refl
-      go (Some b) learnt = absurd (learnt_on b (subst (λ (a : Option ℕ). LearntBy v x session x.past (Some b) a) (ap (λ (es : List Entry). app_in es session) now_order ∙ opened) learnt))
+      go (Some b) learnt =
+          absurd (of_app b (app_in n.order session) refl (subst (λ (a : Option ℕ). LearntBy v x session x.past (Some b) a) (ap (λ (es : List Entry). app_in es session) now_order) learnt))

@@ -53,7 +53,7 @@ abbrev pub SpeaksAt : Sofar → Type 0
 SpeaksAt b = Speaks b.state.conns b.outs.frames b.state.replies
 
 -- the same by their parts
-speaks_as : (b : Sofar) (cs : List Conn) (rs : List Reply) → b.state.conns ≡ cs → b.state.replies ≡ rs → FramesOn cs b.outs.frames → RepliesOn cs rs → SpeaksAt b
+pub speaks_as : (b : Sofar) (cs : List Conn) (rs : List Reply) → b.state.conns ≡ cs → b.state.replies ≡ rs → FramesOn cs b.outs.frames → RepliesOn cs rs → SpeaksAt b
 speaks_as b cs rs conns replies frames on = record {
   frames = subst (λ (xs : List Conn). FramesOn xs b.outs.frames) (sym conns) frames;
   replies = subst (λ (xs : List Conn). RepliesOn xs b.state.replies) (sym conns) (subst (RepliesOn cs) (sym replies) on);
