@@ -24,6 +24,9 @@ pub mod Spoken
 pub mod SpokenPieces
 pub mod SpokenAlong
 pub mod StepAwaits
+pub mod EndsAfter
+pub mod RoundAfter
+pub mod HellosAfter
 pub mod NodeEndsBeside
 pub mod SameBreaks
 pub mod NodeEndsMoves

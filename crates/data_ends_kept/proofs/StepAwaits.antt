@@ -63,7 +63,7 @@ module _ (lane_of : ℕ → Lane) (old : DataState) (now : ℕ) where
       tick_no : (conn : ℕ) (f : UpFrame) → data_in.Tick ≡ data_in.Frame conn f → ⊥
       tick_no conn f is = cc
 
-  settled_awaits : (conn : ℕ) (b : Sofar) → AwaitsOn lane_of b → AwaitsOn lane_of (settled conn now b)
+  pub settled_awaits : (conn : ℕ) (b : Sofar) → AwaitsOn lane_of b → AwaitsOn lane_of (settled conn now b)
   settled_awaits conn b h =
       kept_by_pieces (tick_of old now) (AwaitsOn lane_of) (λ q c may is. awaits_piece lane_of (tick_of old now) (λ e. Unit {0}) none_known q c may tt is) b (settled conn now b)
       (settled_pieces (tick_of old now) conn b) h
@@ -86,7 +86,7 @@ module _ (lane_of : ℕ → Lane) (old : DataState) (now : ℕ) where
   module _ (conn : ℕ) (f : UpFrame)
     (next : (session : ℕ) → TakesMay (record { old = old; now = now; input = data_in.Frame conn f }) conn session f (begun old)
         → (rest : List Up) × (drop (window_of old session).taken (lane_of session).up ≡ f.message ∷ rest)) where
-    done_awaits : f.message ≡ up.Done → (c : Sofar) → TakesFrame (role_of old conn) (begun old) conn now f c → AwaitsOn lane_of (begun old) → AwaitsOn lane_of c
+    pub done_awaits : f.message ≡ up.Done → (c : Sofar) → TakesFrame (role_of old conn) (begun old) conn now f c → AwaitsOn lane_of (begun old) → AwaitsOn lane_of c
     done_awaits says c takes h = go (role_of old conn) refl takes
       where
         numbered : (s : ℕ) → role_of old conn ≡ Some (Bound s) → (r : Result Taken WindowError) → answers body_of (window_of old s) f.seq f.ack ≡ r
@@ -111,7 +111,7 @@ module _ (lane_of : ℕ → Lane) (old : DataState) (now : ℕ) where
         go (Some (Closing s)) role closing = subst (AwaitsOn lane_of) (sym (subst (λ (k : Kind). TakesClosing k (begun old) conn now c) (ap kind_of says) closing).after) h
 
     -- a Recover on an older dial
-    late_awaits : (app session epoch taken dial : ℕ) → f.message ≡ up.Recover app session epoch taken dial → dial < dial_of old app → (c : Sofar) → TakesFrame (role_of old conn) (begun old) conn now f c
+    pub late_awaits : (app session epoch taken dial : ℕ) → f.message ≡ up.Recover app session epoch taken dial → dial < dial_of old app → (c : Sofar) → TakesFrame (role_of old conn) (begun old) conn now f c
         → AwaitsOn lane_of (begun old) → AwaitsOn lane_of c
     late_awaits app session epoch taken dial says older c takes h = go (role_of old conn) takes
       where
