@@ -32,7 +32,7 @@ alone_then : (a b c : Connection) → AloneStill a b → AloneStill b c → Alon
 alone_then a b c s t = (t.0 ∙ s.0, t.1)
 
 -- a site at which its link and its connection are as they were
-linked_stays : (x y : Site) (conn app : ℕ) (h : LinkedTo x conn app HelloAlone) → link_of y conn ≡ link_of x conn → y.past ≡ x.past
+pub linked_stays : (x y : Site) (conn app : ℕ) (h : LinkedTo x conn app HelloAlone) → link_of y conn ≡ link_of x conn → y.past ≡ x.past
     → ((c : Connection) → (x.end_at app).connection_at h.dial ≡ Some c → c.first ≡ Some (record { order = x.past; conn = conn }) → HelloAlone c → IsSomeAnd ((y.end_at app).connection_at h.dial) (AloneStill c))
     → LinkedTo y conn app HelloAlone
 linked_stays x y conn app h link past still = go (some_of ((x.end_at app).connection_at h.dial) (λ c. c.first ≡ Some (record { order = x.past; conn = conn })) HelloAlone h.first h.its)
@@ -64,12 +64,12 @@ if_link : (b : Bool) (o : Option DataConnection) → link_in (if b then option_m
 if_link true o = left_link o
 if_link false o = refl
 
-linked_leaves_one : (gone conn app : ℕ) (x : Site) → LinkedTo x conn app HelloAlone → LinkedTo (leaves_conn gone x) conn app HelloAlone
+pub linked_leaves_one : (gone conn app : ℕ) (x : Site) → LinkedTo x conn app HelloAlone → LinkedTo (leaves_conn gone x) conn app HelloAlone
 linked_leaves_one gone conn app x h =
     linked_stays x (leaves_conn gone x) conn app h (if_link (conn == gone) (x.connection_at conn)) refl
     (λ c there first alone. subst (λ (o : Option Connection). IsSomeAnd (option_map (λ (k : Connection). if is_link app h.dial (link_of x gone) then data_leaves k else k) o) (AloneStill c)) (sym there)
     (data_left_alone (is_link app h.dial (link_of x gone)) c alone))
 
-linked_leaves : (conns : List ℕ) (conn app : ℕ) (x : Site) → LinkedTo x conn app HelloAlone → LinkedTo (leaves_conns conns x) conn app HelloAlone
+pub linked_leaves : (conns : List ℕ) (conn app : ℕ) (x : Site) → LinkedTo x conn app HelloAlone → LinkedTo (leaves_conns conns x) conn app HelloAlone
 linked_leaves [] conn app x h = h
 linked_leaves (gone ∷ conns) conn app x h = linked_leaves conns conn app (leaves_conn gone x) (linked_leaves_one gone conn app x h)

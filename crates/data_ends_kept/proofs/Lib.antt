@@ -27,6 +27,8 @@ pub mod StepAwaits
 pub mod EndsAfter
 pub mod RoundAfter
 pub mod HellosAfter
+pub mod HellosTaken
+pub mod HelloComes
 pub mod NodeEndsBeside
 pub mod SameBreaks
 pub mod NodeEndsMoves
