@@ -29,6 +29,7 @@ pub mod RoundAfter
 pub mod HellosAfter
 pub mod HellosTaken
 pub mod HelloComes
+pub mod WaitingGone
 pub mod NodeEndsBeside
 pub mod SameBreaks
 pub mod NodeEndsMoves
