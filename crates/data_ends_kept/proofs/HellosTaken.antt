@@ -26,7 +26,7 @@ use Rattle.data_ends_kept.proofs.NodeEndsMoves.{AloneStill}
 use Rattle.data_ends_kept.proofs.RecoverLearnt.{FirstCame, first_put}
 
 -- a link to this connection
-link_is : (app n : ℕ) (o : Option Linked) → is_link app n o ≡ true → o ≡ Some (record { app = app; dial = n })
+pub link_is : (app n : ℕ) (o : Option Linked) → is_link app n o ≡ true → o ≡ Some (record { app = app; dial = n })
 link_is app n None is = absurd (false≢true is)
 link_is app n (Some l) is = go (l.app == app) (l.dial == n) refl refl is
   where
@@ -35,7 +35,7 @@ link_is app n (Some l) is = go (l.app == app) (l.dial == n) refl refl is
     go true false at to both = absurd (false≢true both)
     go false b at to both = absurd (false≢true both)
 
-not_link : (app n : ℕ) (o : Option Linked) → (o ≡ Some (record { app = app; dial = n }) → ⊥) → is_link app n o ≡ false
+pub not_link : (app n : ℕ) (o : Option Linked) → (o ≡ Some (record { app = app; dial = n }) → ⊥) → is_link app n o ≡ false
 not_link app n o apart = go (is_link app n o) refl
   where
     go : (b : Bool) → is_link app n o ≡ b → is_link app n o ≡ false

@@ -30,6 +30,8 @@ pub mod HellosAfter
 pub mod HellosTaken
 pub mod HelloComes
 pub mod WaitingGone
+pub mod ServerBegins
+pub mod NodeEndsServer
 pub mod NodeEndsBeside
 pub mod SameBreaks
 pub mod NodeEndsMoves
