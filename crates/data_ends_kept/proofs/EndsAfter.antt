@@ -1,52 +1,33 @@
 -- What holds of a node's ends once a step of it is made.
-use Rattle.std.proofs.Common.{◌≡◌, ◌<◌, ◌≤◌, ◌⊎◌, inl, inr, ℕ, Bool, true, false, List, [], ◌∷◌, drop, filter, Option, Some, None, option_map, refl, sym, ◌∙◌, ap, subst, arith}
-use Rattle.std.specs.Prelude.{Ok, Err, Result, nat_lt}
-use Rattle.std.specs.List.{AllByRecursion, list_any}
-use Rattle.std.proofs.lemmas.Bool.{ltb-false, ltb-true, true≢false, false≢true}
+use Rattle.std.proofs.Common.{◌≡◌, ◌<◌, ◌≤◌, ℕ, Bool, true, false, List, [], ◌∷◌, drop, Some, refl, sym, ◌∙◌, ap, subst}
+use Rattle.std.specs.Prelude.{nat_lt}
+use Rattle.std.specs.List.{list_any}
+use Rattle.std.proofs.lemmas.Bool.{ltb-false, ltb-true}
 use Rattle.plain_orders.specs.declared.layout.Layout.{Layout}
 use Rattle.plain_orders.specs.Entries.{last_epoch}
 use Rattle.plain_orders.specs.Sessions.{app_in}
 use Rattle.plain_runs.specs.Plain.{Plain}
-use Rattle.link_window.specs.declared.window.Taken.{Taken}
-use Rattle.link_window.specs.declared.window.Taken.TheVariants.{Fresh, Repeat}
-use Rattle.link_window.specs.declared.window.WindowError.{WindowError}
 use Rattle.ecp_messages.specs.declared.up.Up.{Up}
 use Rattle.ecp_messages.specs.declared.up.Up.TheVariants as up
 use Rattle.ecp_messages.specs.declared.up.UpFrame.{UpFrame}
-use Rattle.end_words.specs.Windows.{answers}
-use Rattle.recovery_round.specs.RoundWords.{Round, without}
 use Rattle.data_rules.specs.DataState.{DataState}
 use Rattle.data_rules.specs.declared.data_in.DataIn.{DataIn}
 use Rattle.data_rules.specs.declared.data_in.DataIn.TheVariants as data_in
 use Rattle.data_rules.specs.declared.data_outs.DataOuts.{DataOuts}
 use Rattle.data_rules.specs.declared.limits.TheConstants.{APP_LIMIT}
 use Rattle.data_rules.specs.declared.rows.Caller.{Caller}
-use Rattle.data_rules.specs.declared.rows.Kind.{Kind}
-use Rattle.data_rules.specs.declared.rows.Role.{Role}
-use Rattle.data_rules.specs.declared.rows.Role.TheVariants.{Bound, Closing, New, Waiting}
 use Rattle.data_rules.specs.Callers.{dial_of}
-use Rattle.data_rules.specs.Conns.{breaks_if, end_breaks, is_normal, is_other_caller, link_of, loses_conn, role_of, with_event, without_conn}
-use Rattle.data_rules.specs.Frames.{Ends, TakesBound, TakesClosing, TakesFirst, TakesFrame, TakesNumbered, kind_of, settled, took}
-use Rattle.data_rules.specs.Leaving.{flushed}
-use Rattle.data_rules.specs.Messages.{Takes}
-use Rattle.data_rules.specs.Opening.{all_apps, is_round_over}
-use Rattle.data_rules.specs.Puts.{Sofar, becomes, begun, body_of, window_of}
-use Rattle.data_rules.specs.Saving.{acks, acks_one, closed_in, part_saved, releases, releases_all, savers}
+use Rattle.data_rules.specs.Opening.{all_apps}
+use Rattle.data_rules.specs.Puts.{Sofar, begun, window_of}
 use Rattle.data_rules.specs.Step.{DataMay, DataStep, FrameStep, made}
 use Rattle.cluster_runs.specs.Sent.{Lane}
 use Rattle.cluster_invariant.specs.Ends.{is_done}
 use Rattle.cluster_invariant.specs.Words.{is_same}
-use Rattle.link_states.specs.declared.link_event.LinkEvent.TheVariants as event
-use Rattle.cluster_invariant.proofs.PieceKinds.{Piece, Releases, makes}
-use Rattle.cluster_invariant.proofs.PieceMay.{ComesAgainMay, Coming, HelloMay, TakesMay, begins, synced_to}
-use Rattle.cluster_invariant.proofs.Pieces.{MayMake, kept_by_pieces}
-use Rattle.cluster_invariant.proofs.PiecesOfSteps.{StepFrom, step_pieces, synced_state}
-use Rattle.cluster_invariant.proofs.PutLaws.{only_flushed, only_puts, with_waiting}
-use Rattle.cluster_invariant.proofs.StepEnds.{rounds_calls, rounds_over, settled_calls, settled_over}
+use Rattle.cluster_invariant.proofs.PieceMay.{Coming, HelloMay, TakesMay, begins}
+use Rattle.cluster_invariant.proofs.Pieces.{kept_by_pieces}
+use Rattle.cluster_invariant.proofs.PiecesOfSteps.{StepFrom, step_pieces}
 use Rattle.data_ends_kept.proofs.AwaitsPieces.{AwaitsOn, TakesKnown, awaits_piece}
 use Rattle.data_ends_kept.proofs.EndsPieces.{ConnsHold}
-use Rattle.data_ends_kept.proofs.LinksGo.{SameCore, core_then, same_core}
-use Rattle.data_ends_kept.proofs.QuietPieces.{quiet_calls, quiet_windows}
 use Rattle.data_ends_kept.proofs.SpokenAlong.{Along, along_piece}
 use Rattle.data_ends_kept.proofs.StepAwaits.{done_awaits, late_awaits, settled_awaits}
 

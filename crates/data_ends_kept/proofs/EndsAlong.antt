@@ -75,7 +75,7 @@ some_round n None over = absurd (false≢true over)
 some_round n (Some r) over = refl
 
 module _ (l : Layout) (p : Plain) (d k : ℕ) (t : Coming) (W : Caller → Type 0) (hold : ConnsHold t.old) (all : (app : ℕ) → app < APP_LIMIT → list_any (is_same app) all_apps ≡ true)
-  (greets : (app conn : ℕ) (b : Sofar) → HelloMay t app conn true b → W (record { conn = conn; app = app })) where
+    (greets : (app conn : ℕ) (b : Sofar) → HelloMay t app conn true b → W (record { conn = conn; app = app })) where
   abbrev Goes : Sofar → Type 0
   Goes b = EndsGo t W d (view l p d k b.outs.acts) b.state
 

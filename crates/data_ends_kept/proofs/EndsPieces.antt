@@ -1,6 +1,6 @@
 -- Each small change of a data server's step keeps what goes along of its ends.
-use Rattle.std.proofs.Common.{◌≡◌, ◌<◌, ◌≤◌, ℕ, ◌+◌, Bool, true, false, List, [], ◌∷◌, ◌++◌, map, length, Option, Some, None, is_some, option_map, refl, sym, ◌∙◌, ap, subst, arith}
-use Rattle.std.specs.List.{AllByRecursion, list_any}
+use Rattle.std.proofs.Common.{◌≡◌, ◌≤◌, ℕ, ◌+◌, Bool, true, false, List, [], ◌∷◌, ◌++◌, map, length, Option, Some, None, is_some, option_map, refl, sym, ◌∙◌, ap, subst, arith}
+use Rattle.std.specs.List.{AllByRecursion}
 use Rattle.plain_orders.specs.declared.act.Act.TheVariants as act
 use Rattle.plain_orders.specs.declared.causes.ShutCause.{ShutCause}
 use Rattle.plain_orders.specs.declared.entry.Entry.{Entry}
@@ -23,16 +23,14 @@ use Rattle.data_rules.specs.DataState.{DataState}
 use Rattle.data_rules.specs.declared.rows.Caller.{Caller}
 use Rattle.data_rules.specs.declared.data_in.DataIn.{DataIn}
 use Rattle.data_rules.specs.declared.data_in.DataIn.TheVariants as data_in
-use Rattle.data_rules.specs.declared.limits.TheConstants.{APP_LIMIT}
 use Rattle.data_rules.specs.declared.rows.Conn.{Conn}
 use Rattle.data_rules.specs.declared.rows.LiveEnd.{LiveEnd}
 use Rattle.data_rules.specs.declared.rows.Role.{Role}
 use Rattle.data_rules.specs.declared.rows.Role.TheVariants.{Bound}
 use Rattle.data_rules.specs.Conns.{with_role_if, breaks_if, end_breaks, is_normal, link_of, role_in, with_event, without_conn}
 use Rattle.data_rules.specs.Entering.{enters}
-use Rattle.data_rules.specs.Opening.{all_apps, breaks_unless, opens}
+use Rattle.data_rules.specs.Opening.{breaks_unless, opens}
 use Rattle.data_rules.specs.Puts.{Sofar, becomes, begun, conn_of}
-use Rattle.cluster_invariant.specs.Words.{is_same}
 use Rattle.cluster_invariant.proofs.ConnRoles.{bound_role}
 use Rattle.cluster_invariant.proofs.PieceKinds.{Ending, There, Here, cuts_if, ends_back, event_of, shuts}
 use Rattle.cluster_invariant.proofs.PieceMay.{Coming, begins}

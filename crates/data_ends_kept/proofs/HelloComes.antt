@@ -1,12 +1,10 @@
 -- A Hello that comes is alone on its connection, which no other data connection is linked to.
-use Rattle.std.proofs.Common.{◌≡◌, ◌≢◌, ◌⊎◌, inl, inr, ◌==◌, ◌+◌, ℕ, Bool, true, false, List, [], ◌∷◌, drop, Option, Some, None, is_some, option_map, refl, sym, ◌∙◌, ap, subst, arith, if◌then◌else◌}
+use Rattle.std.proofs.Common.{◌≡◌, ◌⊎◌, inl, inr, ℕ, Bool, true, Option, Some, None, is_some, option_map, refl, sym, ◌∙◌, ap, subst, arith, if◌then◌else◌}
 use Rattle.std.specs.Prelude.{IfSome, IsSomeAnd}
 use Rattle.std.proofs.lemmas.Bool.{eq-eqb, false≢true}
 use Rattle.plain_runs.specs.Plain.{Server}
-use Rattle.ecp_messages.specs.declared.up.Up.{Up}
 use Rattle.ecp_messages.specs.declared.up.Up.TheVariants.{Hello}
 use Rattle.ecp_messages.specs.declared.up.UpFrame.{UpFrame}
-use Rattle.data_rules.specs.declared.data_in.DataIn.{DataIn}
 use Rattle.data_rules.specs.declared.data_in.DataIn.TheVariants as data_in
 use Rattle.cluster_runs.specs.CoresState.{Linked}
 use Rattle.cluster_runs.specs.Connections.{at_conn, first_else, is_link, link_else, link_in, link_of, linked_if, up_taken}
@@ -14,7 +12,7 @@ use Rattle.cluster_runs.specs.Goes.{server_takes}
 use Rattle.cluster_runs.specs.Machine.{DataConnection, Site}
 use Rattle.cluster_runs.specs.Moves.{named_dial}
 use Rattle.cluster_runs.specs.Sent.{Connection, FirstTaken, Mark, Place}
-use Rattle.cluster_invariant.specs.Dials.{CarriesOf, DialsAre, IsLinkedBy, LinkedTo, first_frame, first_message}
+use Rattle.cluster_invariant.specs.Dials.{CarriesOf, DialsAre, IsLinkedBy, LinkedTo, first_message}
 use Rattle.cluster_invariant.specs.Ends.{HelloAlone}
 use Rattle.cluster_invariant.proofs.Small.{of_some}
 use Rattle.data_ends_kept.proofs.HellosTaken.{FirstFrames, its_link, link_after, not_first, untaken}
@@ -28,7 +26,8 @@ module _ (v : Server) (x : Site) (dead : ℕ → Bool) (dials : DialsAre v x dea
   came : FirstCame x (record { app = app; dial = dial }) f
   came = first conn f (record { app = app; dial = dial }) refl none named
 
-  linked_now : link_of (server_takes (data_in.Frame conn f) x) conn ≡ Some (record { app = app; dial = dial })
+  -- it is linked then
+  pub linked_now : link_of (server_takes (data_in.Frame conn f) x) conn ≡ Some (record { app = app; dial = dial })
   linked_now = ap (λ (b : Bool). link_in (if b then option_map (linked_if (named_dial f.message)) (x.connection_at conn) else x.connection_at conn)) (eq-eqb conn conn refl) ∙ go (x.connection_at conn) there none
     where
       go : (o : Option DataConnection) → is_some o ≡ true → link_in o ≡ None → link_in (option_map (linked_if (named_dial f.message)) o) ≡ Some (record { app = app; dial = dial })

@@ -1,27 +1,12 @@
 -- The connections that waiting Hellos came on stay as they were over a step of a data server, and so is that of one that comes.
-use Rattle.std.proofs.Common.{◌≡◌, ◌≢◌, ◌⊎◌, inl, inr, ◌==◌, ◌&&◌, ◌+◌, ℕ, Bool, true, false, List, [], ◌∷◌, map, drop, filter, length, Option, Some, None, is_some, option_map, refl, sym, ◌∙◌, ap, subst, arith, if◌then◌else◌}
-use Rattle.std.specs.Prelude.{IfSome, IsSomeAnd}
-use Rattle.std.specs.List.{AllByRecursion}
-use Rattle.std.proofs.lemmas.Bool.{eq-eqb, eqb-true, ne_eqb, false≢true, true≢false}
-use Rattle.plain_runs.specs.Plain.{Server}
-use Rattle.ecp_messages.specs.declared.up.Up.TheVariants.{Hello}
-use Rattle.ecp_messages.specs.declared.up.UpFrame.{UpFrame}
-use Rattle.data_rules.specs.DataState.{DataState}
-use Rattle.data_rules.specs.declared.data_in.DataIn.{DataIn}
-use Rattle.data_rules.specs.declared.data_in.DataIn.TheVariants as data_in
-use Rattle.data_rules.specs.declared.data_outs.DataOuts.{DataOuts}
-use Rattle.data_rules.specs.declared.down_frames.DownOut.{DownOut}
-use Rattle.cluster_runs.specs.CoresState.{Linked}
-use Rattle.cluster_runs.specs.Connections.{at_conn, at_link, data_leaves, down_of, hears_downs, is_link, is_out_on, leaves_conn, leaves_conns, left, link_else, link_in, link_of, linked_if, up_taken, with_downs}
-use Rattle.cluster_runs.specs.Goes.{server_site, server_takes, with_node}
+use Rattle.std.proofs.Common.{◌≡◌, ◌==◌, ℕ, Bool, true, false, List, [], ◌∷◌, Option, Some, None, option_map, refl, sym, ◌∙◌, ap, subst, if◌then◌else◌}
+use Rattle.std.specs.Prelude.{IsSomeAnd}
+use Rattle.cluster_runs.specs.Connections.{data_leaves, is_link, leaves_conn, leaves_conns, left, link_in, link_of}
 use Rattle.cluster_runs.specs.Machine.{DataConnection, Site}
-use Rattle.cluster_runs.specs.Moves.{named_dial}
-use Rattle.cluster_runs.specs.Sent.{Connection, FirstTaken}
-use Rattle.cluster_invariant.specs.Dials.{ConnectionIs, DialsAre, IsLinkedBy, LinkedTo}
+use Rattle.cluster_runs.specs.Sent.{Connection}
+use Rattle.cluster_invariant.specs.Dials.{LinkedTo}
 use Rattle.cluster_invariant.specs.Ends.{HelloAlone}
-use Rattle.cluster_invariant.proofs.Small.{of_some}
 use Rattle.data_ends_kept.proofs.NodeEndsMoves.{AloneStill}
-use Rattle.data_ends_kept.proofs.RecoverLearnt.{FirstCame, first_put}
 
 -- one that stays alone
 some_of : (o : Option Connection) (P Q : Connection → Type 0) → IsSomeAnd o P → IsSomeAnd o Q → (c : Connection) × ((o ≡ Some c) × P c × Q c)

@@ -1,29 +1,25 @@
 -- What an input of a data server, and the frames that it puts then, leave of the connections that Hellos wait on.
-use Rattle.std.proofs.Common.{◌≡◌, ◌≢◌, ◌⊎◌, inl, inr, ◌==◌, ◌&&◌, ◌+◌, ℕ, Bool, true, false, List, [], ◌∷◌, map, drop, filter, length, Option, Some, None, is_some, option_map, refl, sym, ◌∙◌, ap, subst, arith, if◌then◌else◌, cond}
-use Rattle.std.specs.Prelude.{IfSome, IsSomeAnd}
+use Rattle.std.proofs.Common.{◌≡◌, ◌≢◌, ◌⊎◌, inl, inr, ◌==◌, ◌&&◌, ℕ, Bool, true, false, List, [], ◌∷◌, map, filter, Option, Some, None, is_some, option_map, refl, sym, ◌∙◌, ap, subst, if◌then◌else◌, cond}
+use Rattle.std.specs.Prelude.{IsSomeAnd}
 use Rattle.std.specs.List.{AllByRecursion}
 use Rattle.std.proofs.lemmas.Bool.{eq-eqb, eqb-true, ne_eqb, false≢true, true≢false}
 use Rattle.plain_runs.specs.Plain.{Server}
-use Rattle.ecp_messages.specs.declared.up.Up.{Up}
-use Rattle.ecp_messages.specs.declared.up.Up.TheVariants.{Hello}
 use Rattle.ecp_messages.specs.declared.up.UpFrame.{UpFrame}
-use Rattle.data_rules.specs.DataState.{DataState}
 use Rattle.data_rules.specs.declared.data_in.DataIn.{DataIn}
 use Rattle.data_rules.specs.declared.data_in.DataIn.TheVariants as data_in
-use Rattle.data_rules.specs.declared.data_outs.DataOuts.{DataOuts}
 use Rattle.data_rules.specs.declared.down_frames.DownOut.{DownOut}
 use Rattle.cluster_runs.specs.CoresState.{Linked}
-use Rattle.cluster_runs.specs.Connections.{at_conn, at_link, down_of, first_else, hears_downs, is_link, is_out_on, leaves_conns, link_else, link_in, link_of, linked_if, up_taken, with_downs}
-use Rattle.cluster_runs.specs.Goes.{server_site, server_takes, with_node}
+use Rattle.cluster_runs.specs.Connections.{at_conn, down_of, hears_downs, is_link, is_out_on, link_else, link_in, link_of, linked_if, up_taken, with_downs}
+use Rattle.cluster_runs.specs.Goes.{server_takes}
 use Rattle.cluster_runs.specs.Machine.{DataConnection, Site}
 use Rattle.cluster_runs.specs.Moves.{named_dial}
-use Rattle.cluster_runs.specs.Sent.{Connection, FirstTaken, Knew, Mark}
-use Rattle.cluster_invariant.specs.Dials.{CarriesOf, ConnectionIs, DialsAre, IsLinkedBy, LinkedTo, first_frame, first_message}
+use Rattle.cluster_runs.specs.Sent.{Connection, FirstTaken}
+use Rattle.cluster_invariant.specs.Dials.{ConnectionIs, DialsAre, IsLinkedBy, LinkedTo}
 use Rattle.cluster_invariant.specs.Ends.{HelloAlone}
 use Rattle.cluster_invariant.proofs.Small.{of_some}
-use Rattle.data_ends_kept.proofs.HellosAfter.{linked_leaves, linked_leaves_one, linked_stays}
+use Rattle.data_ends_kept.proofs.HellosAfter.{linked_leaves_one, linked_stays}
 use Rattle.data_ends_kept.proofs.NodeEndsMoves.{AloneStill}
-use Rattle.data_ends_kept.proofs.RecoverLearnt.{FirstCame, first_put}
+use Rattle.data_ends_kept.proofs.RecoverLearnt.{FirstCame}
 
 -- a link to this connection
 pub link_is : (app n : ℕ) (o : Option Linked) → is_link app n o ≡ true → o ≡ Some (record { app = app; dial = n })
@@ -136,7 +132,6 @@ module _ (v : Server) (x : Site) (dead : ℕ → Bool) (dials : DialsAre v x dea
     where
       differs : conn ≢ m
       differs same = apart f (ap (λ (n : ℕ). data_in.Frame n f) (sym same))
-
   old_takes (data_in.Connected m) first conn app h apart new =
       linked_stays x (server_takes (data_in.Connected m) x) conn app h
       (ap (λ (b : Bool). link_in (if b then Some (record { link = None; left = false }) else x.connection_at conn)) (ne_eqb conn m (λ same. new (ap data_in.Connected (sym same))))) refl

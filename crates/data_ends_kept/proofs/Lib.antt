@@ -44,3 +44,4 @@ pub mod NodeEndsInputs
 pub mod NodeEndsFrames
 pub mod NodeEndsStarts
 pub mod NodeEndsBegin
+pub mod NodeEndsAll

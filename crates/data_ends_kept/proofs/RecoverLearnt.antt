@@ -1,27 +1,25 @@
 -- A Recover in an older epoch, on a dial that is no older than those before, is of a session that didn't learn of the order.
-use Rattle.std.proofs.Common.{◌≡◌, ◌≢◌, ◌<◌, ◌≤◌, ◌⊎◌, inl, inr, ◌+◌, ◌==◌, ℕ, Bool, true, false, List, [], ◌∷◌, ◌++◌, drop, length, Option, Some, None, is_some, option_map, refl, sym, ◌∙◌, ap, subst, arith, if◌then◌else◌}
-use Rattle.std.specs.Prelude.{IfSome, IsSomeAnd, get_or, nat_lt}
+use Rattle.std.proofs.Common.{◌≡◌, ◌≢◌, ◌<◌, ◌≤◌, ◌⊎◌, inl, inr, ◌==◌, ℕ, Bool, true, false, List, [], ◌∷◌, drop, Option, Some, None, is_some, option_map, refl, sym, ◌∙◌, ap, subst, arith, if◌then◌else◌}
+use Rattle.std.specs.Prelude.{IsSomeAnd, nat_lt}
 use Rattle.std.proofs.lemmas.Bool.{eq-eqb, eqb-true, false≢true, ltb-false, ltb-true, true≢false}
-use Rattle.std.proofs.lemmas.List.{get_or-append-add}
 use Rattle.plain_orders.specs.declared.entry.Entry.{Entry}
 use Rattle.plain_orders.specs.Entries.{last_epoch}
 use Rattle.plain_orders.specs.Sessions.{app_in}
 use Rattle.plain_runs.specs.Plain.{Server, current, order_at}
-use Rattle.ecp_messages.specs.declared.up.Up.{Up}
-use Rattle.ecp_messages.specs.declared.up.Up.TheVariants.{Hello, Recover}
+use Rattle.ecp_messages.specs.declared.up.Up.TheVariants.{Recover}
 use Rattle.ecp_messages.specs.declared.up.UpFrame.{UpFrame}
 use Rattle.data_rules.specs.DataState.{DataState}
 use Rattle.data_rules.specs.declared.data_in.DataIn.TheVariants as data_in
 use Rattle.data_rules.specs.declared.limits.TheConstants.{APP_LIMIT}
 use Rattle.data_rules.specs.Callers.{dial_of}
-use Rattle.cluster_runs.specs.CoresState.{Accepted, CoresState, Dial, Linked, dial_at}
+use Rattle.cluster_runs.specs.CoresState.{Accepted, CoresState, Dial, Linked}
 use Rattle.cluster_runs.specs.Connections.{dial_of as dial_in, link_in, link_of}
 use Rattle.cluster_runs.specs.declared.moves.Move.TheVariants.{Server as ServerMove}
 use Rattle.cluster_runs.specs.Machine.{DataConnection, Machine, Site}
 use Rattle.cluster_runs.specs.Mirrors.{Mirrors, accepted_of}
 use Rattle.cluster_runs.specs.Moves.{Allowed, FirstMay, LinkedMay, TakenMay, dial_of as dial_named, first_of, is_unlinked, named_dial, next_up}
-use Rattle.cluster_runs.specs.Sent.{Connection, FirstTaken, Knew, Mark, Place}
-use Rattle.cluster_invariant.specs.Dials.{ConnectionIs, DialsAre, GreatestDial, LearntBy, LearntOn, NodeDials, as_it_learns, first_frame, first_message, is_connection_in, is_taken_in}
+use Rattle.cluster_runs.specs.Sent.{Connection, FirstTaken, Knew, Mark}
+use Rattle.cluster_invariant.specs.Dials.{ConnectionIs, DialsAre, LearntBy, LearntOn, NodeDials, as_it_learns, first_frame, first_message, is_connection_in, is_taken_in}
 use Rattle.cluster_invariant.specs.Words.{MarkNoLess, NoLess, ups_left}
 use Rattle.cluster_invariant.proofs.Small.{of_some}
 use Rattle.link_kept.proofs.ShortMoves.{order_now}

@@ -1,5 +1,5 @@
 -- After each step of a data server no round is on that is over, and Hellos wait only in a round.
-use Rattle.std.proofs.Common.{◌≡◌, ◌⊎◌, inl, inr, ℕ, Bool, true, false, List, [], ◌∷◌, filter, Option, Some, None, option_map, refl, sym, ◌∙◌, ap, subst}
+use Rattle.std.proofs.Common.{◌≡◌, inl, inr, ℕ, Bool, true, false, List, [], ◌∷◌, filter, Option, Some, None, option_map, refl, sym, ◌∙◌, ap, subst}
 use Rattle.std.specs.Prelude.{Ok, Err, Result}
 use Rattle.std.proofs.lemmas.Bool.{false≢true}
 use Rattle.link_window.specs.declared.window.Taken.{Taken}
@@ -21,13 +21,13 @@ use Rattle.data_rules.specs.declared.rows.Kind.{Kind}
 use Rattle.data_rules.specs.declared.rows.Role.{Role}
 use Rattle.data_rules.specs.declared.rows.Role.TheVariants.{Bound, Closing, New, Waiting}
 use Rattle.data_rules.specs.Conns.{breaks_if, end_breaks, is_normal, is_other_caller, link_of, loses_conn, role_of, with_event, without_conn}
-use Rattle.data_rules.specs.Frames.{Ends, TakesBound, TakesClosing, TakesFirst, TakesFrame, TakesNumbered, kind_of, settled, took}
+use Rattle.data_rules.specs.Frames.{Ends, TakesBound, TakesClosing, TakesFirst, TakesFrame, TakesNumbered, kind_of, took}
 use Rattle.data_rules.specs.Leaving.{flushed}
 use Rattle.data_rules.specs.Messages.{Takes}
-use Rattle.data_rules.specs.Opening.{is_round_over, rounds}
+use Rattle.data_rules.specs.Opening.{is_round_over}
 use Rattle.data_rules.specs.Puts.{Sofar, becomes, begun, body_of, window_of}
 use Rattle.data_rules.specs.Saving.{acks, acks_one, closed_in, part_saved, releases, releases_all, savers}
-use Rattle.data_rules.specs.Step.{DataStep, FrameStep, made}
+use Rattle.data_rules.specs.Step.{DataStep}
 use Rattle.cluster_invariant.specs.Ends.{is_done}
 use Rattle.cluster_invariant.proofs.PieceKinds.{Releases}
 use Rattle.cluster_invariant.proofs.PieceMay.{synced_to}

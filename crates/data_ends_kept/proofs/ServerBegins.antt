@@ -1,18 +1,10 @@
 -- What a step of a data server begins with, and what its lanes make of what a round awaits.
-use Rattle.std.proofs.Common.{◌≡◌, ◌≢◌, ◌<◌, ◌≤◌, ◌⊎◌, inl, inr, ◌+◌, ℕ, Bool, true, false, not, List, [], ◌∷◌, ◌++◌, filter, length, take, drop, Option, Some, None, is_some, refl, sym, ◌∙◌, ap, subst, arith, if◌then◌else◌}
-use Rattle.std.specs.Prelude.{IfSome, IsSomeAnd}
+use Rattle.std.proofs.Common.{◌≡◌, ◌<◌, ℕ, Bool, true, not, List, filter, take, Option, Some, None, sym, ◌∙◌, ap, subst, arith, if◌then◌else◌}
+use Rattle.std.specs.Prelude.{IfSome}
 use Rattle.std.specs.List.{AllByRecursion, list_any}
-use Rattle.std.proofs.lemmas.Bool.{false≢true, true≢false}
-use Rattle.plain_orders.specs.declared.act.Act.{Act}
-use Rattle.plain_orders.specs.declared.entry.Entry.{Entry}
-use Rattle.plain_orders.specs.declared.layout.Layout.{Layout}
-use Rattle.plain_orders.specs.Entries.{last_epoch, live}
-use Rattle.plain_orders.specs.Sessions.{app_in, live_sessions, opened_sessions}
-use Rattle.plain_runs.specs.Plain.{Plain, Server, current}
-use Rattle.plain_runs.specs.Run.{IsRun, after_all, state_after}
-use Rattle.plain_runs.proofs.OrderLaws.{orders_kept}
-use Rattle.plain_runs.proofs.Ordered.{ordered_kept}
-use Rattle.ecp_messages.specs.declared.up.Up.{Up}
+use Rattle.plain_orders.specs.Entries.{live}
+use Rattle.plain_orders.specs.Sessions.{live_sessions, opened_sessions}
+use Rattle.plain_runs.specs.Plain.{Server}
 use Rattle.ecp_messages.specs.declared.up.Up.TheVariants as up
 use Rattle.ecp_messages.specs.declared.up.UpFrame.{UpFrame}
 use Rattle.recovery_round.specs.RoundWords.{Round}
@@ -24,59 +16,24 @@ use Rattle.data_rules.specs.declared.down_frames.DownOut.{DownOut}
 use Rattle.data_rules.specs.declared.limits.TheConstants.{APP_LIMIT}
 use Rattle.data_rules.specs.declared.rows.Caller.{Caller}
 use Rattle.data_rules.specs.declared.rows.Reply.{Reply}
-use Rattle.data_rules.specs.declared.rows.Role.TheVariants.{Bound, Waiting}
 use Rattle.data_rules.specs.declared.rows.Says.{Says}
 use Rattle.data_rules.specs.declared.rows.Says.TheVariants.{NewWelcome, EpochWelcome, ResetOf, GrantOf, AnswerOf}
-use Rattle.data_rules.specs.Callers.{dial_of}
-use Rattle.data_rules.specs.Conns.{role_of}
 use Rattle.data_rules.specs.Opening.{all_apps}
-use Rattle.data_rules.specs.Puts.{Sofar, begun, window_in}
-use Rattle.data_rules.specs.Step.{DataMay, DataStep, made}
-use Rattle.cluster_runs.specs.declared.move_outs.MoveOuts.{MoveOuts}
-use Rattle.cluster_runs.specs.declared.moves.Move.TheVariants.{Server as ServerMove}
-use Rattle.cluster_runs.specs.CoresState.{CoresState, Linked}
-use Rattle.cluster_runs.specs.Connections.{hears_downs, is_out_on, leaves_conns, link_of}
-use Rattle.cluster_runs.specs.Goes.{ServerGoes, server_site, server_takes, with_node}
-use Rattle.cluster_runs.specs.Machine.{Machine, Site}
-use Rattle.cluster_runs.specs.Mirrors.{Mirrors}
-use Rattle.cluster_runs.specs.Moves.{Allowed, NodeMay, named_dial}
-use Rattle.cluster_runs.specs.Sent.{Connection, Lane, ups_taken}
-use Rattle.cluster_runs.specs.Steps.{raised}
-use Rattle.cluster_invariant.specs.Dials.{BoundIs, DialsAre, LinkedTo, NodeDials, RoleIs}
-use Rattle.cluster_invariant.specs.Ends.{CallerIs, CallersAre, HelloAlone, NodeEnds, RoundIs, is_done, is_undone}
-use Rattle.cluster_invariant.specs.Holds.{Holds, SiteHolds}
-use Rattle.cluster_invariant.specs.Link.{NodeLink}
-use Rattle.cluster_invariant.specs.Orders.{NodeOrder}
+use Rattle.data_rules.specs.Puts.{begun, window_in}
+use Rattle.cluster_runs.specs.Machine.{Site}
+use Rattle.cluster_runs.specs.Sent.{Lane, ups_taken}
+use Rattle.cluster_invariant.specs.Ends.{is_done, is_undone}
 use Rattle.cluster_invariant.specs.Waiting.{ReplyWaits, WaitsFor, conns_of}
 use Rattle.cluster_invariant.specs.Words.{is_same}
-use Rattle.cluster_invariant.proofs.AllLists.{all_both, all_follow}
-use Rattle.cluster_invariant.proofs.OrderKept.{step_site}
-use Rattle.cluster_invariant.proofs.OrderMoves.{server_wrote, step_from}
-use Rattle.cluster_invariant.proofs.PieceMay.{Coming, HelloMay, begins}
-use Rattle.cluster_invariant.proofs.PiecesOfSteps.{StepFrom, synced_state}
-use Rattle.cluster_invariant.proofs.Small.{of_some}
-use Rattle.link_kept.proofs.FramesFit.{FrameAt, frame_next, taken_next}
-use Rattle.link_kept.proofs.WindowsServer.{LanesGrow, server_lanes}
+use Rattle.cluster_invariant.proofs.PieceMay.{begins}
+use Rattle.cluster_invariant.proofs.PiecesOfSteps.{synced_state}
+use Rattle.link_kept.proofs.WindowsServer.{LanesGrow}
 use Rattle.data_ends_kept.proofs.AwaitsGo.{Awaits, same_passed, undone_in}
 use Rattle.data_ends_kept.proofs.AwaitsPieces.{AwaitsOn}
-use Rattle.data_ends_kept.proofs.CallersGo.{WaitsOn}
 use Rattle.data_ends_kept.proofs.ConnLists.{role_at}
-use Rattle.data_ends_kept.proofs.EndsAfter.{InputKnown, along_after, awaits_after}
-use Rattle.data_ends_kept.proofs.EndsBegin.{NodeHas, ends_begin}
-use Rattle.data_ends_kept.proofs.EndsPieces.{ConnsHold}
-use Rattle.data_ends_kept.proofs.HelloComes.{hello_only, hello_takes}
-use Rattle.data_ends_kept.proofs.HellosAfter.{linked_leaves}
-use Rattle.data_ends_kept.proofs.HellosTaken.{FirstFrames, link_is, linked_hears, not_link, old_only, old_takes}
-use Rattle.data_ends_kept.proofs.NodeEndsBegin.{node_ends_at_one}
-use Rattle.data_ends_kept.proofs.NodeEndsMoves.{NodeEndsAt, NodeEndsHold}
 use Rattle.data_ends_kept.proofs.NodeEndsStarts.{in_range}
-use Rattle.data_ends_kept.proofs.PlainView.{view}
-use Rattle.data_ends_kept.proofs.RecoverLearnt.{first_came, recover_unlearnt}
-use Rattle.data_ends_kept.proofs.RoundAfter.{calls_after, over_after}
-use Rattle.data_ends_kept.proofs.Spoken.{ReplyOn, SpokenOn, is_for_session, is_spoken}
-use Rattle.data_ends_kept.proofs.SpokenAlong.{Along}
-use Rattle.data_ends_kept.proofs.SpokenPieces.{Speaks, SpeaksAt, begins_frames}
-use Rattle.data_ends_kept.proofs.WaitingGone.{opening_unlinked, waiting_gone}
+use Rattle.data_ends_kept.proofs.Spoken.{ReplyOn, SpokenOn, is_for_session}
+use Rattle.data_ends_kept.proofs.SpokenPieces.{SpeaksAt, begins_frames}
 
 -- all application servers have their places
 pub places_all : (app : ℕ) → app < APP_LIMIT → list_any (is_same app) all_apps ≡ true

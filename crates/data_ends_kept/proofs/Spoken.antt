@@ -1,10 +1,9 @@
 -- Frames go out and replies wait on connections of sessions alone, in the midst of a step.
-use Rattle.std.proofs.Common.{◌≡◌, ◌≢◌, ◌==◌, ℕ, ◌+◌, Bool, true, false, not, List, [], ◌∷◌, ◌++◌, map, length, filter, Option, Some, None, is_some, option_map, refl, sym, ◌∙◌, ap, subst, eqb}
+use Rattle.std.proofs.Common.{◌≡◌, ◌==◌, ℕ, ◌+◌, Bool, true, false, not, List, [], ◌∷◌, map, length, filter, Option, Some, None, is_some, option_map, refl, sym, ◌∙◌, ap, subst, eqb}
 use Rattle.std.specs.List.{AllByRecursion, find}
 use Rattle.std.proofs.lemmas.Bool.{eqb-true, eq-eqb, false≢true, true≢false}
 use Rattle.plain_orders.specs.declared.entry.Entry.{Entry}
 use Rattle.ecp_messages.specs.declared.down.Down.{Down}
-use Rattle.ecp_messages.specs.declared.down.Down.TheVariants as down
 use Rattle.end_words.specs.Windows.{sent, with_sent, resent}
 use Rattle.block_holders.specs.declared.noted.Noted.{Noted}
 use Rattle.block_holders.specs.HolderWords.{touched}
@@ -25,10 +24,10 @@ use Rattle.data_rules.specs.Leaving.{leaves}
 use Rattle.data_rules.specs.Puts.{Sofar, becomes, conn_of, is_bound_to, is_reply_elsewhere, puts, says_on, tells, tells_on, window_of, with_window}
 use Rattle.cluster_invariant.specs.Waiting.{conns_in, conns_of}
 use Rattle.cluster_invariant.proofs.AllLists.{all_both, all_filtered, all_follow, all_joined, all_passed}
-use Rattle.cluster_invariant.proofs.ConnRoles.{bound_role, dropped, other_stays}
+use Rattle.cluster_invariant.proofs.ConnRoles.{bound_role, other_stays}
 use Rattle.cluster_invariant.proofs.PiecesOfCloses.{role_given}
 use Rattle.cluster_invariant.proofs.PutLaws.{only_puts}
-use Rattle.data_ends_kept.proofs.CallersGo.{role_more, role_other}
+use Rattle.data_ends_kept.proofs.CallersGo.{role_other}
 use Rattle.data_ends_kept.proofs.ConnLists.{Differ, role_at}
 use Rattle.data_ends_kept.proofs.ConnPieces.{role_gone}
 

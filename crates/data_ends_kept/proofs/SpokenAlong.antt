@@ -1,6 +1,6 @@
 -- What goes along of a node's ends, with the frames that were put, over each small change of a step.
 use Rattle.std.proofs.Common.{◌≡◌, ◌≢◌, ◌<◌, ℕ, true, option_map, List, [], ◌∷◌, Option, Some, None, is_some, refl, sym, ◌∙◌, ap, subst}
-use Rattle.std.specs.List.{AllByRecursion, find, list_any}
+use Rattle.std.specs.List.{find, list_any}
 use Rattle.plain_orders.specs.declared.layout.Layout.{Layout}
 use Rattle.plain_runs.specs.Plain.{Plain}
 use Rattle.ecp_messages.specs.declared.down.Down.{Down}
@@ -9,11 +9,11 @@ use Rattle.data_rules.specs.DataState.{DataState}
 use Rattle.data_rules.specs.declared.limits.TheConstants.{APP_LIMIT}
 use Rattle.data_rules.specs.declared.rows.Caller.{Caller}
 use Rattle.data_rules.specs.declared.rows.Conn.{Conn}
-use Rattle.data_rules.specs.declared.rows.Role.TheVariants.{Bound, Closing, New, Waiting}
+use Rattle.data_rules.specs.declared.rows.Role.TheVariants.{Closing, New, Waiting}
 use Rattle.data_rules.specs.Callers.{goes_on, old_welcome, sends_again, waiting_conn}
 use Rattle.data_rules.specs.Conns.{end_breaks, is_conn, role_in, with_role, without_conn}
 use Rattle.data_rules.specs.Opening.{all_apps, live_ends}
-use Rattle.data_rules.specs.Puts.{Sofar, becomes, conn_of, head_of, puts, tells, window_of}
+use Rattle.data_rules.specs.Puts.{Sofar, becomes, head_of, puts, tells, window_of}
 use Rattle.end_words.specs.Windows.{resent}
 use Rattle.cluster_invariant.specs.Words.{is_same}
 use Rattle.cluster_invariant.proofs.AllLists.{all_joined}
@@ -33,7 +33,7 @@ use Rattle.data_ends_kept.proofs.EndsPieces.{ConnsHold, some_role}
 use Rattle.data_ends_kept.proofs.PlainView.{view}
 use Rattle.data_ends_kept.proofs.QuietPieces.{quiet_goes_on}
 use Rattle.data_ends_kept.proofs.Spoken.{ReplyOn, goes_on_conn, is_for_session, is_spoken, puts_on_conn, spoken_of, tells_on_conn}
-use Rattle.data_ends_kept.proofs.SpokenPieces.{Speaks, SpeaksAt, speaks_accepts, speaks_as, speaks_back, speaks_breaks, speaks_calls, speaks_closing, speaks_cut, speaks_enters, speaks_gone, speaks_leaves, speaks_opens, speaks_replies, speaks_resumes, speaks_shuts, speaks_waits}
+use Rattle.data_ends_kept.proofs.SpokenPieces.{SpeaksAt, speaks_accepts, speaks_as, speaks_back, speaks_breaks, speaks_calls, speaks_closing, speaks_cut, speaks_enters, speaks_gone, speaks_leaves, speaks_opens, speaks_replies, speaks_resumes, speaks_shuts, speaks_waits}
 
 -- the ends with what was put
 pub record Along (l : Layout) (p : Plain) (d k : ℕ) (t : Coming) (W : Caller → Type 0) (b : Sofar) : Type 0 where

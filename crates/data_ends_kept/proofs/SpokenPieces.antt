@@ -1,5 +1,5 @@
 -- Each small change of a data server's step puts frames and keeps replies back on connections of sessions alone.
-use Rattle.std.proofs.Common.{◌≡◌, ◌≢◌, ℕ, ◌+◌, Bool, true, false, not, List, [], ◌∷◌, ◌++◌, map, length, filter, Option, Some, None, is_some, option_map, refl, sym, ◌∙◌, ap, subst}
+use Rattle.std.proofs.Common.{◌≡◌, ℕ, ◌+◌, Bool, true, false, List, [], ◌∷◌, ◌++◌, map, length, filter, Option, Some, None, is_some, refl, sym, ◌∙◌, ap, subst}
 use Rattle.std.specs.Prelude.{nat_lt}
 use Rattle.std.specs.List.{AllByRecursion, find}
 use Rattle.plain_orders.specs.declared.act.Act.TheVariants as act
@@ -21,28 +21,26 @@ use Rattle.data_rules.specs.declared.rows.Role.{Role}
 use Rattle.data_rules.specs.declared.rows.Role.TheVariants.{Bound, Closing, New, Waiting}
 use Rattle.data_rules.specs.declared.rows.Says.{Says}
 use Rattle.data_rules.specs.declared.rows.Says.TheVariants.{NewWelcome, EpochWelcome, ResetOf, GrantOf, AnswerOf}
-use Rattle.data_rules.specs.Callers.{resumed, waiting_conn, with_caller}
+use Rattle.data_rules.specs.Callers.{resumed, with_caller}
 use Rattle.data_rules.specs.Closing.{silenced}
-use Rattle.data_rules.specs.Conns.{breaks_if, drops_conn, end_breaks, is_conn, is_normal, is_other_conn, link_of, with_event, with_role, with_role_if, without_conn}
+use Rattle.data_rules.specs.Conns.{breaks_if, drops_conn, end_breaks, is_conn, is_normal, is_other_conn, link_of, with_event, with_role_if, without_conn}
 use Rattle.data_rules.specs.Entering.{enters}
 use Rattle.data_rules.specs.Granting.{frees, locks_become, with_locks}
-use Rattle.data_rules.specs.Opening.{breaks_unless, live_ends, opens}
-use Rattle.data_rules.specs.Puts.{Sofar, becomes, begun, conn_of, is_reply_elsewhere, puts, says_on, says_to, writes}
+use Rattle.data_rules.specs.Opening.{breaks_unless, opens}
+use Rattle.data_rules.specs.Puts.{Sofar, becomes, begun, conn_of, is_reply_elsewhere, says_to, writes}
 use Rattle.data_rules.specs.Saving.{writes_synced}
 use Rattle.cluster_invariant.specs.Waiting.{conns_of}
 use Rattle.cluster_invariant.proofs.AllLists.{all_filtered, all_joined}
-use Rattle.cluster_invariant.proofs.ConnRoles.{bound_role, dropped, dropped_conns, new_stays}
-use Rattle.cluster_invariant.proofs.PieceKinds.{Ending, There, Here, LockCall, Asks, Unlocks, Withdraws, GivesBack, ForgetsTicket, Claims, Cancels, Releases, Piece, Accepts, Forgets, Breaks, Dials, Waits, Opens, OpensNext, Resumes, GoesOn, ComesAgain, AwaitsReset, Closes, Acknowledges, Takes, TakesDone, Enters, Fetches, PutsNormal, PutsAck, Replies, Leaves, Bares, Locks, RoundEnds, Ticks, calls, cuts_if, ends_back, event_of, makes, next_caller, parts_from, round_over, shuts, with_close, with_replies}
+use Rattle.cluster_invariant.proofs.ConnRoles.{dropped, dropped_conns}
+use Rattle.cluster_invariant.proofs.PieceKinds.{Ending, There, Here, LockCall, Asks, Unlocks, Withdraws, GivesBack, ForgetsTicket, Claims, Cancels, Releases, Accepts, Resumes, Replies, Leaves, calls, cuts_if, ends_back, event_of, makes, parts_from, shuts, with_close, with_replies}
 use Rattle.cluster_invariant.proofs.PieceMay.{Coming, RepliesMay, begins}
-use Rattle.cluster_invariant.proofs.Pieces.{MayMake}
 use Rattle.cluster_invariant.proofs.PiecesOfCloses.{close_conns, conn_there, role_given}
-use Rattle.cluster_invariant.proofs.PiecesOfRounds.{back_written}
-use Rattle.cluster_invariant.proofs.PutLaws.{appends_state, only_leaves, only_locks, only_puts}
+use Rattle.cluster_invariant.proofs.PutLaws.{appends_state, only_leaves, only_locks}
 use Rattle.data_ends_kept.proofs.CallersGo.{role_more}
 use Rattle.data_ends_kept.proofs.ConnLists.{Differ, role_at}
 use Rattle.data_ends_kept.proofs.EndsPieces.{some_role}
-use Rattle.data_ends_kept.proofs.PieceFacts.{enters_facts, opens_facts}
-use Rattle.data_ends_kept.proofs.Spoken.{FramesOn, RepliesOn, ReplyOn, SpokenOn, appends_on_conn, frames_conns, goes_on_conn, gone_spoken, grants_on_conn, is_for_session, is_spoken, leaves_on_conn, puts_on_conn, replies_conns, replies_gone, role_spoken, spoken_for, spoken_of, tells_on_conn, waits_spoken}
+use Rattle.data_ends_kept.proofs.PieceFacts.{enters_facts}
+use Rattle.data_ends_kept.proofs.Spoken.{FramesOn, RepliesOn, ReplyOn, appends_on_conn, frames_conns, gone_spoken, grants_on_conn, is_for_session, is_spoken, leaves_on_conn, replies_conns, replies_gone, role_spoken, waits_spoken}
 
 -- the frames that were put, and the replies that wait
 pub record Speaks (cs : List Conn) (fs : List DownOut) (rs : List Reply) : Type 0 where

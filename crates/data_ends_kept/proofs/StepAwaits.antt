@@ -1,11 +1,7 @@
 -- What a round awaits stays as it is to be over each step of a data server.
-use Rattle.std.proofs.Common.{◌≡◌, ◌<◌, ◌≤◌, ◌⊎◌, inl, inr, ◌+◌, ℕ, Bool, true, false, List, [], ◌∷◌, drop, Option, Some, None, refl, sym, ◌∙◌, ap, subst, arith}
-use Rattle.std.specs.Prelude.{Ok, Err, Result, nat_lt}
-use Rattle.std.proofs.lemmas.Bool.{ltb-false, ltb-true}
-use Rattle.plain_orders.specs.declared.layout.Layout.{Layout}
-use Rattle.plain_orders.specs.Entries.{last_epoch}
+use Rattle.std.proofs.Common.{◌≡◌, ◌<◌, ◌≤◌, inl, inr, ℕ, List, ◌∷◌, drop, Option, Some, None, refl, sym, ◌∙◌, ap, subst, arith}
+use Rattle.std.specs.Prelude.{Ok, Err, Result}
 use Rattle.plain_orders.specs.Sessions.{app_in}
-use Rattle.plain_runs.specs.Plain.{Plain}
 use Rattle.link_window.specs.declared.window.Taken.{Taken}
 use Rattle.link_window.specs.declared.window.Taken.TheVariants.{Fresh, Repeat}
 use Rattle.link_window.specs.declared.window.WindowError.{WindowError}
@@ -14,33 +10,24 @@ use Rattle.ecp_messages.specs.declared.up.Up.TheVariants as up
 use Rattle.ecp_messages.specs.declared.up.UpFrame.{UpFrame}
 use Rattle.end_words.specs.Windows.{answers, with_ack, with_taken}
 use Rattle.data_rules.specs.DataState.{DataState}
-use Rattle.data_rules.specs.declared.data_in.DataIn.{DataIn}
 use Rattle.data_rules.specs.declared.data_in.DataIn.TheVariants as data_in
-use Rattle.data_rules.specs.declared.data_outs.DataOuts.{DataOuts}
-use Rattle.data_rules.specs.declared.rows.Caller.{Caller}
 use Rattle.data_rules.specs.declared.rows.Kind.{Kind}
-use Rattle.data_rules.specs.declared.rows.Kind.TheVariants.{Numbered, Opening}
 use Rattle.data_rules.specs.declared.rows.Role.{Role}
 use Rattle.data_rules.specs.declared.rows.Role.TheVariants.{Bound, Closing, New, Waiting}
 use Rattle.data_rules.specs.Callers.{TakesRecover, dial_of}
-use Rattle.data_rules.specs.Conns.{end_breaks, ends_conn, loses_conn, role_of, without_conn}
+use Rattle.data_rules.specs.Conns.{end_breaks, loses_conn, role_of, without_conn}
 use Rattle.data_rules.specs.Frames.{Ends, TakesBound, TakesClosing, TakesFirst, TakesFrame, TakesNumbered, acknowledged, kind_of, settled, took}
 use Rattle.data_rules.specs.Leaving.{flushed}
 use Rattle.data_rules.specs.Messages.{Takes}
 use Rattle.data_rules.specs.Opening.{rounds}
 use Rattle.data_rules.specs.Puts.{Sofar, becomes, begun, body_of, window_in, window_of}
-use Rattle.data_rules.specs.Step.{DataMay, DataStep, FrameStep, made}
 use Rattle.cluster_runs.specs.Sent.{Lane}
-use Rattle.cluster_invariant.specs.Ends.{is_done}
-use Rattle.cluster_invariant.proofs.PieceMay.{ComesAgainMay, Coming, TakesMay, begins}
-use Rattle.cluster_invariant.proofs.Pieces.{MayMake, Pieced, and_then, kept_by_pieces}
-use Rattle.cluster_invariant.proofs.PieceKinds.{Piece, makes}
+use Rattle.cluster_invariant.proofs.PieceMay.{Coming, TakesMay}
+use Rattle.cluster_invariant.proofs.Pieces.{Pieced, and_then, kept_by_pieces}
 use Rattle.cluster_invariant.proofs.PiecesOfReplies.{bares_role_pieces, flush_pieces}
 use Rattle.cluster_invariant.proofs.PiecesOfRounds.{rounds_pieces}
-use Rattle.cluster_invariant.proofs.PiecesOfSteps.{StepFrom, step_pieces}
 use Rattle.data_ends_kept.proofs.AwaitsGo.{awaits_done}
 use Rattle.data_ends_kept.proofs.AwaitsPieces.{AwaitsOn, TakesKnown, awaits_breaks, awaits_piece, awaits_same}
-use Rattle.data_ends_kept.proofs.SpokenAlong.{Along}
 use Rattle.data_ends_kept.proofs.TakenSame.{set_taken}
 
 -- what follows each frame, as if it followed a tick
@@ -84,8 +71,8 @@ module _ (lane_of : ℕ → Lane) (old : DataState) (now : ℕ) where
 
   -- a Done
   module _ (conn : ℕ) (f : UpFrame)
-    (next : (session : ℕ) → TakesMay (record { old = old; now = now; input = data_in.Frame conn f }) conn session f (begun old)
-        → (rest : List Up) × (drop (window_of old session).taken (lane_of session).up ≡ f.message ∷ rest)) where
+      (next : (session : ℕ) → TakesMay (record { old = old; now = now; input = data_in.Frame conn f }) conn session f (begun old)
+      → (rest : List Up) × (drop (window_of old session).taken (lane_of session).up ≡ f.message ∷ rest)) where
     pub done_awaits : f.message ≡ up.Done → (c : Sofar) → TakesFrame (role_of old conn) (begun old) conn now f c → AwaitsOn lane_of (begun old) → AwaitsOn lane_of c
     done_awaits says c takes h = go (role_of old conn) refl takes
       where

@@ -1,31 +1,32 @@
 -- A frame on the connection of a Hello that waits ends it; and no first frame comes on a connection that is linked.
-use Rattle.std.proofs.Common.{◌≡◌, ◌≢◌, ◌<◌, ℕ, zero, suc, Bool, true, false, not, List, [], ◌∷◌, drop, filter, Option, Some, None, is_some, refl, sym, ◌∙◌, ap, subst, ◌&&◌}
-use Rattle.std.specs.Prelude.{IfSome, IsSomeAnd, nat_lt}
+use Rattle.std.proofs.Common.{◌≡◌, ◌≢◌, ◌<◌, ℕ, zero, suc, Bool, true, not, List, [], ◌∷◌, drop, filter, Option, Some, None, is_some, refl, sym, ◌∙◌, ap, subst}
+use Rattle.std.specs.Prelude.{IsSomeAnd, nat_lt}
 use Rattle.std.specs.List.{AllByRecursion, list_all, list_any}
 use Rattle.std.proofs.lemmas.Bool.{eq-eqb, false≢true, true≢false, and_parts}
 use Rattle.plain_orders.specs.declared.layout.Layout.{Layout}
 use Rattle.plain_runs.specs.Plain.{Plain, Server}
 use Rattle.ecp_messages.specs.declared.up.UpFrame.{UpFrame}
 use Rattle.data_rules.specs.DataState.{DataState}
+use Rattle.data_rules.specs.declared.data_in.DataIn.{DataIn}
 use Rattle.data_rules.specs.declared.data_in.DataIn.TheVariants as data_in
 use Rattle.data_rules.specs.declared.data_outs.DataOuts.{DataOuts}
 use Rattle.data_rules.specs.declared.limits.TheConstants.{APP_LIMIT}
 use Rattle.data_rules.specs.declared.rows.Caller.{Caller}
 use Rattle.data_rules.specs.declared.rows.Kind.TheVariants.{Opening}
 use Rattle.data_rules.specs.declared.rows.Role.{Role}
-use Rattle.data_rules.specs.declared.rows.Role.TheVariants.{Bound, Waiting}
+use Rattle.data_rules.specs.declared.rows.Role.TheVariants.{Bound, Closing, New, Waiting}
 use Rattle.data_rules.specs.Conns.{is_other_caller, loses_conn, role_of, without_conn}
 use Rattle.data_rules.specs.Frames.{Ends, TakesFrame, kind_of, settled}
 use Rattle.data_rules.specs.Opening.{all_apps}
 use Rattle.data_rules.specs.Puts.{Sofar, becomes, begun, cuts}
-use Rattle.data_rules.specs.Step.{FrameStep, made}
+use Rattle.data_rules.specs.Step.{DataStep, FrameStep, made}
 use Rattle.cluster_runs.specs.CoresState.{Linked}
 use Rattle.cluster_runs.specs.Connections.{link_of}
 use Rattle.cluster_runs.specs.Machine.{Site}
 use Rattle.cluster_runs.specs.Sent.{Connection, FirstTaken}
 use Rattle.cluster_invariant.specs.Dials.{ConnectionIs, DialsAre, IsLinkedBy, follows, is_following}
 use Rattle.cluster_invariant.specs.Ends.{NodeEnds}
-use Rattle.cluster_invariant.specs.Words.{is_same, ups_left}
+use Rattle.cluster_invariant.specs.Words.{is_same}
 use Rattle.cluster_invariant.proofs.AllLists.{all_follow, all_passed}
 use Rattle.cluster_invariant.proofs.Pieces.{kept_by_pieces}
 use Rattle.cluster_invariant.proofs.Small.{of_some}
@@ -69,7 +70,7 @@ opening_unlinked v x dead dials conn f kind next = go (link_of x conn) refl
       where
         by : NextIs x l f → ⊥
         by at = true≢false (sym (follows_it at.on.ups_taken at.on.ups at.rest (sym its.linked ∙ sym its.taken ∙ some_first ((x.end_at l.app).connection_at l.dial) at.on at.there (of_some (IsLinkedBy x conn) (link_of x conn) l is (dials.links conn))) its.behind at.left)
-          ∙ ap (λ k. follows k f.seq) kind)
+            ∙ ap (λ k. follows k f.seq) kind)
           where
             its : ConnectionIs v x l.app l.dial at.on
             its = of_some (ConnectionIs v x l.app l.dial) ((x.end_at l.app).connection_at l.dial) at.on at.there ((dials.pairs l.app).each l.dial)
@@ -127,3 +128,37 @@ module _ (l : Layout) (p : Plain) (d k : ℕ) (x : Site) (old : DataState) (now 
       (λ q b may h. ends_piece l p d k (tick_of old now) (Elsewhere conn) hold all (λ app c e m. absurd (tick_no c m.came.up m.came.its)) q b may h) steps.taken (settled conn now steps.taken)
       (settled_pieces (tick_of old now) conn steps.taken)
       (after_end steps.taken (subst (λ (r : Option Role). TakesFrame r (begun old) conn now f steps.taken) waits steps.takes))).whence
+
+-- what holds of any
+any_of : (P : Caller → Type 0) → ((w : Caller) → P w) → (ws : List Caller) → AllByRecursion P ws
+any_of P all [] = tt
+any_of P all (w ∷ ws) = (all w, any_of P all ws)
+
+-- so a Hello that waits after a step is of another connection than the frame that came
+abbrev pub AwayFrom : DataState → DataIn → Caller → Type 0
+AwayFrom old i w = role_at w.conn old.conns ≡ Some Waiting → (f : UpFrame) → i ≡ data_in.Frame w.conn f → ⊥
+
+pub away : (l : Layout) (p : Plain) (d k : ℕ) (x : Site) (old : DataState) (now : ℕ) → NodeHas d (p.server_at d) old → NodeEnds (p.server_at d) x old → ConnsHold old
+    → ((app : ℕ) → app < APP_LIMIT → list_any (is_same app) all_apps ≡ true) → (i : DataIn) (outs : DataOuts) (new : DataState) → DataStep old now i outs new
+    → AllByRecursion (AwayFrom old i) new.callers
+away l p d k x old now has ends hold all (data_in.Frame conn f) outs new steps = by (role_of old conn) refl
+  where
+    same : (n : ℕ) (g : UpFrame) → data_in.Frame conn f ≡ data_in.Frame n g → n ≡ conn
+    same n g is = cc
+
+    others : (r : Option Role) → role_of old conn ≡ r → (r ≡ Some Waiting → ⊥) → AllByRecursion (AwayFrom old (data_in.Frame conn f)) new.callers
+    others r role apart =
+        any_of (AwayFrom old (data_in.Frame conn f)) (λ w at g is. apart (sym role ∙ ap (λ (n : ℕ). role_at n old.conns) (sym (same w.conn g is)) ∙ at)) new.callers
+
+    by : (r : Option Role) → role_of old conn ≡ r → AllByRecursion (AwayFrom old (data_in.Frame conn f)) new.callers
+    by None role = others None role (λ is. absurd cc)
+    by (Some New) role = others (Some New) role (λ is. absurd cc)
+    by (Some Waiting) waits =
+        all_follow (Elsewhere conn) (AwayFrom old (data_in.Frame conn f)) (λ w differs at g is. differs (same w.conn g is)) new.callers
+        (waiting_gone l p d k x old now conn has ends hold waits all f outs new steps)
+    by (Some (Bound s)) role = others (Some (Bound s)) role (λ is. absurd cc)
+    by (Some (Closing s)) role = others (Some (Closing s)) role (λ is. absurd cc)
+away l p d k x old now has ends hold all (data_in.Connected conn) outs new steps = any_of (AwayFrom old (data_in.Connected conn)) (λ w at f is. absurd cc) new.callers
+away l p d k x old now has ends hold all (data_in.Broken conn) outs new steps = any_of (AwayFrom old (data_in.Broken conn)) (λ w at f is. absurd cc) new.callers
+away l p d k x old now has ends hold all data_in.Tick outs new steps = any_of (AwayFrom old data_in.Tick) (λ w at f is. absurd cc) new.callers
+away l p d k x old now has ends hold all (data_in.Saved upto) outs new steps = any_of (AwayFrom old (data_in.Saved upto)) (λ w at f is. absurd cc) new.callers
