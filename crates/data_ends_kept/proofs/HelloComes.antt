@@ -16,7 +16,7 @@ use Rattle.cluster_invariant.specs.Dials.{CarriesOf, DialsAre, IsLinkedBy, Linke
 use Rattle.cluster_invariant.specs.Ends.{HelloAlone}
 use Rattle.cluster_invariant.proofs.Small.{of_some}
 use Rattle.data_ends_kept.proofs.HellosTaken.{FirstFrames, its_link, link_after, not_first, untaken}
-use Rattle.data_ends_kept.proofs.RecoverLearnt.{FirstCame, first_put}
+use Rattle.data_puts.proofs.RecoverLearnt.{FirstCame, first_put}
 
 module _ (v : Server) (x : Site) (dead : ℕ → Bool) (dials : DialsAre v x dead) (conn app dial : ℕ) (f : UpFrame) (says : f.message ≡ Hello app dial) (there : is_some (x.connection_at conn) ≡ true)
     (none : link_of x conn ≡ None) (first : FirstFrames v x dead dials (data_in.Frame conn f)) where

@@ -19,7 +19,7 @@ use Rattle.cluster_invariant.specs.Ends.{HelloAlone}
 use Rattle.cluster_invariant.proofs.Small.{of_some}
 use Rattle.data_ends_kept.proofs.HellosAfter.{linked_leaves_one, linked_stays}
 use Rattle.data_ends_kept.proofs.NodeEndsMoves.{AloneStill}
-use Rattle.data_ends_kept.proofs.RecoverLearnt.{FirstCame}
+use Rattle.data_puts.proofs.RecoverLearnt.{FirstCame}
 
 -- a link to this connection
 pub link_is : (app n : ℕ) (o : Option Linked) → is_link app n o ≡ true → o ≡ Some (record { app = app; dial = n })
@@ -114,7 +114,7 @@ module _ (v : Server) (x : Site) (dead : ℕ → Bool) (dials : DialsAre v x dea
 
       no_first : (o : Option Connection) (c : Connection) → o ≡ Some c → c.first ≡ None → IsSomeAnd o (λ k. k.first ≡ Some (record { order = x.past; conn = conn })) → ⊥
       no_first None c at none is = absurd is
-      no_first (Some k) c at none is = (let same : k ≡ c = cc in let both : None ≡ Some (record { order = x.past; conn = conn }) = sym none ∙ ap (λ (y : Connection). y.first) (sym same) ∙ is in cc)
+      no_first (Some k) c at none is = (let same : k ≡ c = cc in let both : ◌≡◌ {A = Option FirstTaken} None (Some (record { order = x.past; conn = conn })) = sym none ∙ ap (λ (y : Connection). y.first) (sym same) ∙ is in cc)
 
       go : (link_of x m ≡ Some (record { app = app; dial = h.dial })) ⊎ ((f : UpFrame) × (FirstCame x (record { app = app; dial = h.dial }) f × (input ≡ data_in.Frame m f))) → m ≡ conn
       go (inl linked) = same_conn ((x.end_at app).connection_at h.dial) (of_some (IsLinkedBy x m) (link_of x m) (record { app = app; dial = h.dial }) linked (dials.links m)) h.first

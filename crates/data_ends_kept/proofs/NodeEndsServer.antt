@@ -51,24 +51,24 @@ use Rattle.cluster_invariant.proofs.PiecesOfSteps.{StepFrom}
 use Rattle.cluster_invariant.proofs.Small.{of_some}
 use Rattle.link_kept.proofs.FramesFit.{FrameAt, frame_next, taken_next}
 use Rattle.link_kept.proofs.WindowsServer.{server_lanes}
-use Rattle.data_ends_kept.proofs.AwaitsPieces.{AwaitsOn}
-use Rattle.data_ends_kept.proofs.CallersGo.{WaitsOn}
-use Rattle.data_ends_kept.proofs.ConnLists.{conn_for, role_at}
-use Rattle.data_ends_kept.proofs.EndsAfter.{InputKnown, along_after, awaits_after}
-use Rattle.data_ends_kept.proofs.EndsBegin.{NodeHas, ends_begin}
-use Rattle.data_ends_kept.proofs.EndsPieces.{ConnsHold}
+use Rattle.data_puts.proofs.AwaitsPieces.{AwaitsOn}
+use Rattle.data_pieces.proofs.CallersGo.{WaitsOn}
+use Rattle.data_pieces.proofs.ConnLists.{conn_for, role_at}
+use Rattle.data_puts.proofs.EndsAfter.{InputKnown, along_after, awaits_after}
+use Rattle.data_pieces.proofs.EndsBegin.{NodeHas, ends_begin}
+use Rattle.data_pieces.proofs.EndsPieces.{ConnsHold}
 use Rattle.data_ends_kept.proofs.HelloComes.{hello_only, hello_takes, linked_now}
 use Rattle.data_ends_kept.proofs.HellosAfter.{linked_leaves}
 use Rattle.data_ends_kept.proofs.HellosTaken.{FirstFrames, link_after, linked_hears, not_link, old_only, old_takes}
 use Rattle.data_ends_kept.proofs.NodeEndsBegin.{node_ends_at_one}
 use Rattle.data_ends_kept.proofs.NodeEndsMoves.{NodeEndsAt, NodeEndsHold}
-use Rattle.data_ends_kept.proofs.PlainView.{view}
-use Rattle.data_ends_kept.proofs.RecoverLearnt.{FirstCame, first_came, recover_unlearnt}
+use Rattle.data_pieces.proofs.PlainView.{view}
+use Rattle.data_puts.proofs.RecoverLearnt.{FirstCame, first_came, recover_unlearnt}
 use Rattle.data_ends_kept.proofs.ServerBegins.{Greets, awaited_begin, awaited_end, awaits_begin, places_all, speaks_begin, waits_spoken}
-use Rattle.data_ends_kept.proofs.RoundAfter.{calls_after, over_after}
-use Rattle.data_ends_kept.proofs.Spoken.{ReplyOn, SpokenOn, is_spoken}
-use Rattle.data_ends_kept.proofs.SpokenAlong.{Along}
-use Rattle.data_ends_kept.proofs.WaitingGone.{AwayFrom, away, opening_unlinked}
+use Rattle.data_puts.proofs.RoundAfter.{calls_after, over_after}
+use Rattle.data_puts.proofs.Spoken.{ReplyOn, SpokenOn, is_spoken}
+use Rattle.data_puts.proofs.SpokenAlong.{Along}
+use Rattle.data_puts.proofs.WaitingGone.{AwayFrom, away, opening_unlinked}
 
 same_dials : (a b : Linked) → Some a ≡ Some b → a.dial ≡ b.dial
 same_dials a b is = ap (λ (k : Linked). k.dial) (one a b is)

@@ -28,12 +28,12 @@ use Rattle.cluster_invariant.specs.Words.{is_same}
 use Rattle.cluster_invariant.proofs.PieceMay.{begins}
 use Rattle.cluster_invariant.proofs.PiecesOfSteps.{synced_state}
 use Rattle.link_kept.proofs.WindowsServer.{LanesGrow}
-use Rattle.data_ends_kept.proofs.AwaitsGo.{Awaits, same_passed, undone_in}
-use Rattle.data_ends_kept.proofs.AwaitsPieces.{AwaitsOn}
-use Rattle.data_ends_kept.proofs.ConnLists.{role_at}
+use Rattle.data_puts.proofs.AwaitsGo.{Awaits, same_passed, undone_in}
+use Rattle.data_puts.proofs.AwaitsPieces.{AwaitsOn}
+use Rattle.data_pieces.proofs.ConnLists.{role_at}
 use Rattle.data_ends_kept.proofs.NodeEndsStarts.{in_range}
-use Rattle.data_ends_kept.proofs.Spoken.{ReplyOn, SpokenOn, is_for_session}
-use Rattle.data_ends_kept.proofs.SpokenPieces.{SpeaksAt, begins_frames}
+use Rattle.data_puts.proofs.Spoken.{ReplyOn, SpokenOn, is_for_session}
+use Rattle.data_puts.proofs.SpokenPieces.{SpeaksAt, begins_frames}
 
 -- all application servers have their places
 pub places_all : (app : ℕ) → app < APP_LIMIT → list_any (is_same app) all_apps ≡ true

@@ -26,10 +26,10 @@ use Rattle.cluster_invariant.specs.Words.{is_same}
 use Rattle.cluster_invariant.proofs.PieceMay.{Coming, HelloMay, TakesMay, begins}
 use Rattle.cluster_invariant.proofs.Pieces.{kept_by_pieces}
 use Rattle.cluster_invariant.proofs.PiecesOfSteps.{StepFrom, step_pieces}
-use Rattle.data_ends_kept.proofs.AwaitsPieces.{AwaitsOn, TakesKnown, awaits_piece}
-use Rattle.data_ends_kept.proofs.EndsPieces.{ConnsHold}
-use Rattle.data_ends_kept.proofs.SpokenAlong.{Along, along_piece}
-use Rattle.data_ends_kept.proofs.StepAwaits.{done_awaits, late_awaits, settled_awaits}
+use Rattle.data_puts.proofs.AwaitsPieces.{AwaitsOn, TakesKnown, awaits_piece}
+use Rattle.data_pieces.proofs.EndsPieces.{ConnsHold}
+use Rattle.data_puts.proofs.SpokenAlong.{Along, along_piece}
+use Rattle.data_puts.proofs.StepAwaits.{done_awaits, late_awaits, settled_awaits}
 
 -- what is known of the messages of an input
 pub record InputKnown (lane_of : ℕ → Lane) (old : DataState) (now : ℕ) (input : DataIn) : Type 0 where

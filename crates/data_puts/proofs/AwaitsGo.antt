@@ -18,7 +18,7 @@ use Rattle.cluster_runs.specs.Sent.{Lane}
 use Rattle.cluster_invariant.specs.Ends.{is_done}
 use Rattle.link_kept.proofs.WindowLists.{set_elsewhere, set_here}
 use Rattle.link_kept.proofs.WindowsGo.{same_or}
-use Rattle.data_ends_kept.proofs.AwaitedSessions.{both_filter, closed_sessions, is_quiet, quiet_sessions, same_filter}
+use Rattle.data_pieces.proofs.AwaitedSessions.{both_filter, closed_sessions, is_quiet, quiet_sessions, same_filter}
 
 -- no Done is among the first messages
 abbrev pub undone_at : List Up → ℕ → Bool

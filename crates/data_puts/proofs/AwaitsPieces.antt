@@ -31,11 +31,11 @@ use Rattle.link_kept.proofs.WindowLists.{gone_elsewhere, set_elsewhere}
 use Rattle.link_kept.proofs.WindowsGo.{same_or}
 use Rattle.link_states.specs.declared.link_event.LinkEvent.TheVariants as event
 use Rattle.link_kept.proofs.WindowPieces.{SameWindows, same_calls, same_cuts, same_drops, same_parts}
-use Rattle.data_ends_kept.proofs.AwaitsGo.{Awaits, awaits_close, awaits_live, awaits_more, awaits_quiet, awaits_taken, undone_at, undone_in}
-use Rattle.data_ends_kept.proofs.EntryPieces.{item_is}
-use Rattle.data_ends_kept.proofs.PieceFacts.{ClosedTo, enters_facts, shuts_facts}
-use Rattle.data_ends_kept.proofs.QuietPieces.{quiet_calls, quiet_goes_on}
-use Rattle.data_ends_kept.proofs.TakenSame.{SameTaken, set_taken, taken_appends, taken_bare, taken_goes_on, taken_leaves, taken_puts}
+use Rattle.data_puts.proofs.AwaitsGo.{Awaits, awaits_close, awaits_live, awaits_more, awaits_quiet, awaits_taken, undone_at, undone_in}
+use Rattle.data_pieces.proofs.EntryPieces.{item_is}
+use Rattle.data_pieces.proofs.PieceFacts.{ClosedTo, enters_facts, shuts_facts}
+use Rattle.data_pieces.proofs.QuietPieces.{quiet_calls, quiet_goes_on}
+use Rattle.data_puts.proofs.TakenSame.{SameTaken, set_taken, taken_appends, taken_bare, taken_goes_on, taken_leaves, taken_puts}
 
 -- what is known of the messages of sessions
 pub record TakesKnown (lane_of : ℕ → Lane) (t : Coming) (E : Sofar → Type 0) : Type 0 where

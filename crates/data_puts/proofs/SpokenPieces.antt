@@ -36,11 +36,11 @@ use Rattle.cluster_invariant.proofs.PieceKinds.{Ending, There, Here, LockCall, A
 use Rattle.cluster_invariant.proofs.PieceMay.{Coming, RepliesMay, begins}
 use Rattle.cluster_invariant.proofs.PiecesOfCloses.{close_conns, conn_there, role_given}
 use Rattle.cluster_invariant.proofs.PutLaws.{appends_state, only_leaves, only_locks}
-use Rattle.data_ends_kept.proofs.CallersGo.{role_more}
-use Rattle.data_ends_kept.proofs.ConnLists.{Differ, role_at}
-use Rattle.data_ends_kept.proofs.EndsPieces.{some_role}
-use Rattle.data_ends_kept.proofs.PieceFacts.{enters_facts}
-use Rattle.data_ends_kept.proofs.Spoken.{FramesOn, RepliesOn, ReplyOn, appends_on_conn, frames_conns, gone_spoken, grants_on_conn, is_for_session, is_spoken, leaves_on_conn, replies_conns, replies_gone, role_spoken, waits_spoken}
+use Rattle.data_pieces.proofs.CallersGo.{role_more}
+use Rattle.data_pieces.proofs.ConnLists.{Differ, role_at}
+use Rattle.data_pieces.proofs.EndsPieces.{some_role}
+use Rattle.data_pieces.proofs.PieceFacts.{enters_facts}
+use Rattle.data_puts.proofs.Spoken.{FramesOn, RepliesOn, ReplyOn, appends_on_conn, frames_conns, gone_spoken, grants_on_conn, is_for_session, is_spoken, leaves_on_conn, replies_conns, replies_gone, role_spoken, waits_spoken}
 
 -- the frames that were put, and the replies that wait
 pub record Speaks (cs : List Conn) (fs : List DownOut) (rs : List Reply) : Type 0 where

@@ -36,19 +36,19 @@ use Rattle.cluster_invariant.proofs.PieceKinds.{Ending, There, Here, cuts_if, en
 use Rattle.cluster_invariant.proofs.PieceMay.{Coming, begins}
 use Rattle.cluster_invariant.proofs.PiecesOfCloses.{conn_there}
 use Rattle.cluster_invariant.proofs.PiecesOfSteps.{synced_state}
-use Rattle.data_ends_kept.proofs.BreakPieces.{HadConn, links_breaks}
-use Rattle.data_ends_kept.proofs.CallersGo.{CallersOf, callers_gone, callers_order}
-use Rattle.data_ends_kept.proofs.CallerPieces.{dropped_callers}
-use Rattle.data_ends_kept.proofs.ClosePieces.{ClosedWith, closed_callers, closed_conns, links_closes}
-use Rattle.data_ends_kept.proofs.ConnLists.{conn_for, role_at}
-use Rattle.data_ends_kept.proofs.ConnPieces.{links_forgets}
-use Rattle.data_ends_kept.proofs.EndsGo.{Grown, grown_push, grown_same, whence_closed, whence_dropped, EndsGo, callers_as, callers_close, callers_core, close_still, on_core}
-use Rattle.data_ends_kept.proofs.EntryPieces.{Entered, IsItemOf, OpenedOn, links_enters, links_opens}
-use Rattle.data_ends_kept.proofs.LinksGo.{LinksGo}
-use Rattle.data_ends_kept.proofs.PieceFacts.{enters_acts, enters_facts, opens_acts, opens_facts, shuts_acts, shuts_facts}
-use Rattle.data_ends_kept.proofs.PlainView.{view, view_enter, view_shut}
-use Rattle.data_ends_kept.proofs.QuietPieces.{Quiet, links_quiet}
-use Rattle.data_ends_kept.proofs.RoundOn.{ends_round, on_beside, on_closes, on_enters, on_none}
+use Rattle.data_pieces.proofs.BreakPieces.{HadConn, links_breaks}
+use Rattle.data_pieces.proofs.CallersGo.{CallersOf, callers_gone, callers_order}
+use Rattle.data_pieces.proofs.CallerPieces.{dropped_callers}
+use Rattle.data_pieces.proofs.ClosePieces.{ClosedWith, closed_callers, closed_conns, links_closes}
+use Rattle.data_pieces.proofs.ConnLists.{conn_for, role_at}
+use Rattle.data_pieces.proofs.ConnPieces.{links_forgets}
+use Rattle.data_pieces.proofs.EndsGo.{Grown, grown_push, grown_same, whence_closed, whence_dropped, EndsGo, callers_as, callers_close, callers_core, close_still, on_core}
+use Rattle.data_pieces.proofs.EntryPieces.{Entered, IsItemOf, OpenedOn, links_enters, links_opens}
+use Rattle.data_pieces.proofs.LinksGo.{LinksGo}
+use Rattle.data_pieces.proofs.PieceFacts.{enters_acts, enters_facts, opens_acts, opens_facts, shuts_acts, shuts_facts}
+use Rattle.data_pieces.proofs.PlainView.{view, view_enter, view_shut}
+use Rattle.data_pieces.proofs.QuietPieces.{Quiet, links_quiet}
+use Rattle.data_pieces.proofs.RoundOn.{ends_round, on_beside, on_closes, on_enters, on_none}
 
 pub some_role : (o : Option Conn) (r : Role) → option_map role_in o ≡ Some r → is_some o ≡ true
 some_role None r is = absurd cc

@@ -27,9 +27,9 @@ use Rattle.cluster_invariant.proofs.AllLists.{all_both, all_filtered, all_follow
 use Rattle.cluster_invariant.proofs.ConnRoles.{bound_role, other_stays}
 use Rattle.cluster_invariant.proofs.PiecesOfCloses.{role_given}
 use Rattle.cluster_invariant.proofs.PutLaws.{only_puts}
-use Rattle.data_ends_kept.proofs.CallersGo.{role_other}
-use Rattle.data_ends_kept.proofs.ConnLists.{Differ, role_at}
-use Rattle.data_ends_kept.proofs.ConnPieces.{role_gone}
+use Rattle.data_pieces.proofs.CallersGo.{role_other}
+use Rattle.data_pieces.proofs.ConnLists.{Differ, role_at}
+use Rattle.data_pieces.proofs.ConnPieces.{role_gone}
 
 -- a connection of a session, live or closed
 abbrev pub is_for_session : Option Role → Bool

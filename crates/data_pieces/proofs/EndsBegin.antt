@@ -25,12 +25,12 @@ use Rattle.cluster_invariant.specs.Words.{all_differ, is_same}
 use Rattle.cluster_invariant.proofs.AllLists.{all_both, all_follow}
 use Rattle.cluster_invariant.proofs.PieceMay.{begins}
 use Rattle.cluster_invariant.proofs.PiecesOfSteps.{synced_state}
-use Rattle.data_ends_kept.proofs.CallersGo.{CallersOf, WaitsOn, differs_all, none_has, parts}
-use Rattle.data_ends_kept.proofs.ConnLists.{Differ}
-use Rattle.data_ends_kept.proofs.EndsGo.{grown_none, EndsGo}
-use Rattle.data_ends_kept.proofs.LinksGo.{LinksGo, link_same, links_stay}
-use Rattle.data_ends_kept.proofs.PlainView.{SameView, same_view, view}
-use Rattle.data_ends_kept.proofs.RoundOn.{RoundOn, ends_round}
+use Rattle.data_pieces.proofs.CallersGo.{CallersOf, WaitsOn, differs_all, none_has, parts}
+use Rattle.data_pieces.proofs.ConnLists.{Differ}
+use Rattle.data_pieces.proofs.EndsGo.{grown_none, EndsGo}
+use Rattle.data_pieces.proofs.LinksGo.{LinksGo, link_same, links_stay}
+use Rattle.data_pieces.proofs.PlainView.{SameView, same_view, view}
+use Rattle.data_pieces.proofs.RoundOn.{RoundOn, ends_round}
 
 -- the Hellos
 

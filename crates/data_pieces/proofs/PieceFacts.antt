@@ -17,8 +17,8 @@ use Rattle.data_rules.specs.Opening.{opens}
 use Rattle.data_rules.specs.Puts.{Sofar, becomes, conn_of, writes}
 use Rattle.cluster_invariant.proofs.PieceKinds.{event_of, parts_from, shuts, with_close}
 use Rattle.cluster_invariant.proofs.PutLaws.{Appended, appends_state, with_appended}
-use Rattle.data_ends_kept.proofs.ClosePieces.{ClosedWith, closed_callers, closed_conns}
-use Rattle.data_ends_kept.proofs.EntryPieces.{Entered, OpenedOn}
+use Rattle.data_pieces.proofs.ClosePieces.{ClosedWith, closed_callers, closed_conns}
+use Rattle.data_pieces.proofs.EntryPieces.{Entered, OpenedOn}
 
 -- an entry that enters
 

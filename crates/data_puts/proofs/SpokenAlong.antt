@@ -24,16 +24,16 @@ use Rattle.cluster_invariant.proofs.Pieces.{MayMake}
 use Rattle.cluster_invariant.proofs.PiecesOfCloses.{role_given}
 use Rattle.cluster_invariant.proofs.PiecesOfRounds.{back_written}
 use Rattle.cluster_invariant.proofs.PutLaws.{only_puts}
-use Rattle.data_ends_kept.proofs.CallersGo.{CallersOf}
-use Rattle.data_ends_kept.proofs.CallerPieces.{waiting_role}
-use Rattle.data_ends_kept.proofs.ConnLists.{Differ, role_at}
-use Rattle.data_ends_kept.proofs.EndsAlong.{ends_piece}
-use Rattle.data_ends_kept.proofs.EndsGo.{EndsGo}
-use Rattle.data_ends_kept.proofs.EndsPieces.{ConnsHold, some_role}
-use Rattle.data_ends_kept.proofs.PlainView.{view}
-use Rattle.data_ends_kept.proofs.QuietPieces.{quiet_goes_on}
-use Rattle.data_ends_kept.proofs.Spoken.{ReplyOn, goes_on_conn, is_for_session, is_spoken, puts_on_conn, spoken_of, tells_on_conn}
-use Rattle.data_ends_kept.proofs.SpokenPieces.{SpeaksAt, speaks_accepts, speaks_as, speaks_back, speaks_breaks, speaks_calls, speaks_closing, speaks_cut, speaks_enters, speaks_gone, speaks_leaves, speaks_opens, speaks_replies, speaks_resumes, speaks_shuts, speaks_waits}
+use Rattle.data_pieces.proofs.CallersGo.{CallersOf}
+use Rattle.data_pieces.proofs.CallerPieces.{waiting_role}
+use Rattle.data_pieces.proofs.ConnLists.{Differ, role_at}
+use Rattle.data_pieces.proofs.EndsAlong.{ends_piece}
+use Rattle.data_pieces.proofs.EndsGo.{EndsGo}
+use Rattle.data_pieces.proofs.EndsPieces.{ConnsHold, some_role}
+use Rattle.data_pieces.proofs.PlainView.{view}
+use Rattle.data_pieces.proofs.QuietPieces.{quiet_goes_on}
+use Rattle.data_puts.proofs.Spoken.{ReplyOn, goes_on_conn, is_for_session, is_spoken, puts_on_conn, spoken_of, tells_on_conn}
+use Rattle.data_puts.proofs.SpokenPieces.{SpeaksAt, speaks_accepts, speaks_as, speaks_back, speaks_breaks, speaks_calls, speaks_closing, speaks_cut, speaks_enters, speaks_gone, speaks_leaves, speaks_opens, speaks_replies, speaks_resumes, speaks_shuts, speaks_waits}
 
 -- the ends with what was put
 pub record Along (l : Layout) (p : Plain) (d k : ℕ) (t : Coming) (W : Caller → Type 0) (b : Sofar) : Type 0 where

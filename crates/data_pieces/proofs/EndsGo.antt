@@ -24,12 +24,12 @@ use Rattle.data_rules.specs.Conns.{is_other_caller, is_conn, drops_conn}
 use Rattle.data_rules.specs.Puts.{Sofar}
 use Rattle.cluster_invariant.specs.Ends.{due_in}
 use Rattle.cluster_invariant.proofs.PieceMay.{Coming}
-use Rattle.data_ends_kept.proofs.CallersGo.{CallersOf, callers_role}
-use Rattle.data_ends_kept.proofs.CallerPieces.{callers_dropped, dropped_callers}
-use Rattle.data_ends_kept.proofs.ClosePieces.{closed_callers, closed_conns}
-use Rattle.data_ends_kept.proofs.ConnLists.{Differ, conn_for, role_at}
-use Rattle.data_ends_kept.proofs.LinksGo.{LinksGo, SameCore, link_same, links_stay}
-use Rattle.data_ends_kept.proofs.RoundOn.{RoundOn, ends_round, on_beside}
+use Rattle.data_pieces.proofs.CallersGo.{CallersOf, callers_role}
+use Rattle.data_pieces.proofs.CallerPieces.{callers_dropped, dropped_callers}
+use Rattle.data_pieces.proofs.ClosePieces.{closed_callers, closed_conns}
+use Rattle.data_pieces.proofs.ConnLists.{Differ, conn_for, role_at}
+use Rattle.data_pieces.proofs.LinksGo.{LinksGo, SameCore, link_same, links_stay}
+use Rattle.data_pieces.proofs.RoundOn.{RoundOn, ends_round, on_beside}
 
 -- a list that goes on by no Epoch, and the application servers of its sessions
 pub record Grown (es fs : List Entry) : Type 0 where

@@ -36,18 +36,18 @@ use Rattle.cluster_invariant.proofs.PieceMay.{ClosesBy, Coming, HelloMay, OpensN
 use Rattle.cluster_invariant.proofs.Pieces.{MayMake}
 use Rattle.cluster_invariant.proofs.PiecesOfRounds.{back_written, ends_aside}
 use Rattle.cluster_invariant.proofs.PutLaws.{only_leaves, only_puts}
-use Rattle.data_ends_kept.proofs.CallersGo.{CallersOf, callers_conn, callers_role}
-use Rattle.data_ends_kept.proofs.CallerPieces.{callers_dropped, callers_next, callers_wait, dropped_callers, waiting_role}
-use Rattle.data_ends_kept.proofs.ConnLists.{for_bound, role_at}
-use Rattle.data_ends_kept.proofs.ConnPieces.{links_accepts, links_closing, links_conns, links_resumes, links_waits}
-use Rattle.data_ends_kept.proofs.EndsGo.{grown_same, whence_dropped, EndsGo, callers_as, callers_none, dropped_none, dropped_waiting, links_unawaited, open_still}
-use Rattle.data_ends_kept.proofs.EndsPieces.{ConnsHold, back_callers, breaks_go, closes_go, enters_go, forgets_go, going_cut, going_quiet, had_conn, opens_go, some_role}
-use Rattle.data_ends_kept.proofs.EntryPieces.{item_is}
-use Rattle.data_ends_kept.proofs.LinksGo.{LinksGo}
-use Rattle.data_ends_kept.proofs.PlainView.{view}
-use Rattle.data_ends_kept.proofs.QuietPieces.{Quiet, quiet_calls, quiet_goes_on, quiet_more, quiet_state, quiet_windows}
-use Rattle.data_ends_kept.proofs.RoundOn.{ends_round, on_beside, on_in_round}
-use Rattle.data_ends_kept.proofs.RoundPieces.{links_round, links_ticks}
+use Rattle.data_pieces.proofs.CallersGo.{CallersOf, callers_conn, callers_role}
+use Rattle.data_pieces.proofs.CallerPieces.{callers_dropped, callers_next, callers_wait, dropped_callers, waiting_role}
+use Rattle.data_pieces.proofs.ConnLists.{for_bound, role_at}
+use Rattle.data_pieces.proofs.ConnPieces.{links_accepts, links_closing, links_conns, links_resumes, links_waits}
+use Rattle.data_pieces.proofs.EndsGo.{grown_same, whence_dropped, EndsGo, callers_as, callers_none, dropped_none, dropped_waiting, links_unawaited, open_still}
+use Rattle.data_pieces.proofs.EndsPieces.{ConnsHold, back_callers, breaks_go, closes_go, enters_go, forgets_go, going_cut, going_quiet, had_conn, opens_go, some_role}
+use Rattle.data_pieces.proofs.EntryPieces.{item_is}
+use Rattle.data_pieces.proofs.LinksGo.{LinksGo}
+use Rattle.data_pieces.proofs.PlainView.{view}
+use Rattle.data_pieces.proofs.QuietPieces.{Quiet, quiet_calls, quiet_goes_on, quiet_more, quiet_state, quiet_windows}
+use Rattle.data_pieces.proofs.RoundOn.{ends_round, on_beside, on_in_round}
+use Rattle.data_pieces.proofs.RoundPieces.{links_round, links_ticks}
 
 -- what a connection that is dropped leaves
 

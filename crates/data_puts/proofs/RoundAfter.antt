@@ -34,9 +34,9 @@ use Rattle.cluster_invariant.proofs.PieceMay.{synced_to}
 use Rattle.cluster_invariant.proofs.PiecesOfSteps.{synced_state}
 use Rattle.cluster_invariant.proofs.PutLaws.{only_flushed, only_puts, with_waiting}
 use Rattle.cluster_invariant.proofs.StepEnds.{rounds_calls, rounds_over, settled_calls, settled_over}
-use Rattle.data_ends_kept.proofs.LinksGo.{SameCore, core_then, same_core}
-use Rattle.data_ends_kept.proofs.QuietPieces.{quiet_calls, quiet_windows}
-use Rattle.data_ends_kept.proofs.RoundOn.{RoundOn, ends_round}
+use Rattle.data_pieces.proofs.LinksGo.{SameCore, core_then, same_core}
+use Rattle.data_pieces.proofs.QuietPieces.{quiet_calls, quiet_windows}
+use Rattle.data_pieces.proofs.RoundOn.{RoundOn, ends_round}
 
 -- Hellos wait only in a round
 abbrev pub CallsIn : DataState → Type 0

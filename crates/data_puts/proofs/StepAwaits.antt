@@ -26,9 +26,9 @@ use Rattle.cluster_invariant.proofs.PieceMay.{Coming, TakesMay}
 use Rattle.cluster_invariant.proofs.Pieces.{Pieced, and_then, kept_by_pieces}
 use Rattle.cluster_invariant.proofs.PiecesOfReplies.{bares_role_pieces, flush_pieces}
 use Rattle.cluster_invariant.proofs.PiecesOfRounds.{rounds_pieces}
-use Rattle.data_ends_kept.proofs.AwaitsGo.{awaits_done}
-use Rattle.data_ends_kept.proofs.AwaitsPieces.{AwaitsOn, TakesKnown, awaits_breaks, awaits_piece, awaits_same}
-use Rattle.data_ends_kept.proofs.TakenSame.{set_taken}
+use Rattle.data_puts.proofs.AwaitsGo.{awaits_done}
+use Rattle.data_puts.proofs.AwaitsPieces.{AwaitsOn, TakesKnown, awaits_breaks, awaits_piece, awaits_same}
+use Rattle.data_puts.proofs.TakenSame.{set_taken}
 
 -- what follows each frame, as if it followed a tick
 abbrev pub tick_of : DataState → ℕ → Coming

@@ -31,13 +31,13 @@ use Rattle.cluster_invariant.proofs.AllLists.{all_follow, all_passed}
 use Rattle.cluster_invariant.proofs.Pieces.{kept_by_pieces}
 use Rattle.cluster_invariant.proofs.Small.{of_some}
 use Rattle.link_kept.proofs.FramesFit.{NextIs}
-use Rattle.data_ends_kept.proofs.ConnLists.{role_at}
-use Rattle.data_ends_kept.proofs.EndsAlong.{ends_piece}
-use Rattle.data_ends_kept.proofs.EndsBegin.{NodeHas, ends_begin}
-use Rattle.data_ends_kept.proofs.EndsGo.{EndsGo}
-use Rattle.data_ends_kept.proofs.EndsPieces.{ConnsHold, forgets_go}
-use Rattle.data_ends_kept.proofs.PlainView.{view}
-use Rattle.data_ends_kept.proofs.StepAwaits.{settled_pieces, tick_of}
+use Rattle.data_pieces.proofs.ConnLists.{role_at}
+use Rattle.data_pieces.proofs.EndsAlong.{ends_piece}
+use Rattle.data_pieces.proofs.EndsBegin.{NodeHas, ends_begin}
+use Rattle.data_pieces.proofs.EndsGo.{EndsGo}
+use Rattle.data_pieces.proofs.EndsPieces.{ConnsHold, forgets_go}
+use Rattle.data_pieces.proofs.PlainView.{view}
+use Rattle.data_puts.proofs.StepAwaits.{settled_pieces, tick_of}
 
 -- a frame behind the first is no first one
 
