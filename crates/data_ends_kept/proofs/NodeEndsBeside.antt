@@ -14,7 +14,7 @@ use Rattle.data_rules.specs.Conns.{link_of}
 use Rattle.cluster_runs.specs.Machine.{Site}
 use Rattle.cluster_runs.specs.Sent.{ups_taken}
 use Rattle.cluster_invariant.specs.Dials.{LinkedTo}
-use Rattle.data_ends_kept.proofs.AwaitedSessions.{same_filter}
+use Rattle.data_pieces.proofs.AwaitedSessions.{same_filter}
 use Rattle.cluster_invariant.specs.Ends.{CallerIs, HelloAlone, LinkIs, NodeEnds, RoundIs, is_done, is_undone}
 
 -- what of the plain server it is compared with

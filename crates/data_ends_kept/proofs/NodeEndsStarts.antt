@@ -30,7 +30,7 @@ use Rattle.cluster_runs.specs.Machine.{Site}
 use Rattle.cluster_runs.specs.Sent.{Lane, no_lane}
 use Rattle.cluster_invariant.specs.Ends.{CallerIs, LinkIs, app_of_caller, NodeEnds, due_in, is_undone}
 use Rattle.cluster_invariant.specs.Words.{all_differ, is_same}
-use Rattle.data_ends_kept.proofs.AwaitedSessions.{quiet_sessions}
+use Rattle.data_pieces.proofs.AwaitedSessions.{quiet_sessions}
 
 -- the ends that recover
 

@@ -1,5 +1,5 @@
 -- A frame that comes on the connection of a live session is the next one of its lane.
-use Rattle.std.proofs.Common.{◌≡◌, ◌≤◌, ◌<◌, ℕ, ◌+◌, Bool, true, false, if◌then◌else◌, List, [], ◌∷◌, length, drop, Option, Some, None, option_map, refl, sym, ◌∙◌, ap, subst, arith}
+use Rattle.std.proofs.Common.{◌≡◌, ◌≤◌, ◌<◌, ℕ, ◌+◌, Bool, true, false, if◌then◌else◌, List, [], ◌∷◌, ◌++◌, length, drop, Option, Some, None, option_map, refl, sym, ◌∙◌, ap, subst, arith}
 use Rattle.std.specs.Prelude.{IfSome, Ok, Err, Result, nat_lt, ◌==◌}
 use Rattle.std.proofs.lemmas.Bool.{ltb-true, eqb-true}
 use Rattle.std.proofs.lemmas.List.{length-drop}
@@ -101,6 +101,19 @@ room n k m xs ups front = go (drop n ups) refl front
     go [] none at = absurd (cc (at.1))
     go (y ∷ ys) some at = omega (arith, length-drop n ups, ap (λ (l : List Up). length l) some)
 
+next_is : (n k : ℕ) (m : Up) (xs : List (ℕ × Up)) (ups : List Up) → IsFront ((k, m) ∷ xs) (numbered_from n (drop n ups)) → (rest : List Up) × (drop n ups ≡ m ∷ rest)
+next_is n k m xs ups front = go (drop n ups) refl front
+  where
+    head : (x y : ℕ × Up) (ys zs : List (ℕ × Up)) → ◌≡◌ {A = List (ℕ × Up)} (x ∷ ys) (y ∷ zs) → x ≡ y
+    head x y ys zs same = cc
+
+    its : (a b : ℕ) (u : Up) (ys zs : List (ℕ × Up)) → ◌≡◌ {A = List (ℕ × Up)} ((a, u) ∷ ys) ((b, m) ∷ zs) → u ≡ m
+    its a b u ys zs same = ap (λ (x : ℕ × Up). x.1) (head (a, u) (b, m) ys zs same)
+
+    go : (ys : List Up) → drop n ups ≡ ys → IsFront ((k, m) ∷ xs) (numbered_from n ys) → (rest : List Up) × (drop n ups ≡ m ∷ rest)
+    go [] none at = absurd (cc (at.1))
+    go (y ∷ ys) some at = (ys, some ∙ ap (λ (u : Up). u ∷ ys) (its (n + 1) k y (numbered_from (n + 1) ys) (xs ++ at.0) at.1))
+
 -- What a data server has of its sessions as a frame comes.
 pub record FrameAt (x : Site) (dead : ℕ → Bool) (old : DataState) (input : DataIn) : Type 0 where
   pub dials : NodeDials x old
@@ -171,3 +184,25 @@ module _ (x : Site) (dead : ℕ → Bool) (t : Coming) (h : FrameAt x dead t.old
             (sym (ap (λ (d : DataState). (window_of d session).taken) same ∙ (h.windows.each session o.lives).taken))
             (numbered (x.lane_at session x.past).up_taken (x.lane_at session x.past).up o.rest (f.seq == 0) refl o.way.next);
       }
+
+  -- the message that comes is the next one that was put
+  pub taken_next : (conn session : ℕ) (f : UpFrame) (b : Sofar) → TakesMay t conn session f b
+      → (rest : List Up) × (drop (window_of b.state session).taken (x.lane_at session x.past).up ≡ f.message ∷ rest)
+  taken_next conn session f b may = go (on_way conn session f may.on.came (sym (ap (λ (d : DataState). role_of d conn) same) ∙ may.on.bound))
+    where
+      same : b.state ≡ t.old
+      same = ap (λ (c : Sofar). c.state) may.first ∙ begins_old t conn f may.on.came
+
+      above : (window_of b.state session).taken < f.seq
+      above = fresh_above (window_of b.state session) f.seq f.ack may.fresh
+
+      numbered : (n : ℕ) (ups : List Up) (rest : List UpFrame) (c : Bool) → (f.seq == 0) ≡ c
+          → IsFront (if c then numbered_ups rest else (f.seq, f.message) ∷ numbered_ups rest) (numbered_from n (drop n ups)) → (more : List Up) × (drop n ups ≡ f.message ∷ more)
+      numbered n ups rest true zeroed front = absurd (omega (arith, above, eqb-true f.seq 0 zeroed))
+      numbered n ups rest false other front = next_is n f.seq f.message (numbered_ups rest) ups front
+
+      go : OnWay session f → (rest : List Up) × (drop (window_of b.state session).taken (x.lane_at session x.past).up ≡ f.message ∷ rest)
+      go o =
+          subst (λ (k : ℕ). (rest : List Up) × (drop k (x.lane_at session x.past).up ≡ f.message ∷ rest))
+          (sym (ap (λ (d : DataState). (window_of d session).taken) same ∙ (h.windows.each session o.lives).taken))
+          (numbered (x.lane_at session x.past).up_taken (x.lane_at session x.past).up o.rest (f.seq == 0) refl o.way.next)

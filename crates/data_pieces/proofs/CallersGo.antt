@@ -16,8 +16,8 @@ use Rattle.cluster_invariant.specs.Words.{all_differ, is_same}
 use Rattle.cluster_invariant.proofs.AllLists.{all_both, all_filtered, all_follow, all_passed}
 use Rattle.cluster_invariant.proofs.ConnRoles.{other_stays}
 use Rattle.cluster_invariant.proofs.PiecesOfCloses.{role_given}
-use Rattle.data_ends_kept.proofs.ConnLists.{role_at}
-use Rattle.data_ends_kept.proofs.ConnPieces.{role_before, role_gone}
+use Rattle.data_pieces.proofs.ConnLists.{role_at}
+use Rattle.data_pieces.proofs.ConnPieces.{role_before, role_gone}
 
 -- numbers that differ
 

@@ -25,8 +25,8 @@ use Rattle.data_rules.specs.Callers.{resumed, with_caller}
 use Rattle.cluster_invariant.specs.Ends.{LinkIs, due_in}
 use Rattle.cluster_invariant.proofs.ConnRoles.{bound_role, dropped, other_stays, new_stays}
 use Rattle.cluster_invariant.proofs.PiecesOfCloses.{role_given}
-use Rattle.data_ends_kept.proofs.ConnLists.{Differ, NoneFor, role_at, conn_for, none_for, for_gone, for_role, for_more, for_bound, differ_gone, differ_role, differ_more}
-use Rattle.data_ends_kept.proofs.LinksGo.{LinksGo, link_same, links_stay, links_set}
+use Rattle.data_pieces.proofs.ConnLists.{Differ, NoneFor, role_at, conn_for, none_for, for_gone, for_role, for_more, for_bound, differ_gone, differ_role, differ_more}
+use Rattle.data_pieces.proofs.LinksGo.{LinksGo, link_same, links_stay, links_set}
 
 -- connections alone change
 

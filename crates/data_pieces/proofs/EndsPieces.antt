@@ -1,6 +1,6 @@
 -- Each small change of a data server's step keeps what goes along of its ends.
-use Rattle.std.proofs.Common.{◌≡◌, ◌<◌, ◌≤◌, ℕ, ◌+◌, Bool, true, false, List, [], ◌∷◌, ◌++◌, map, length, Option, Some, None, is_some, option_map, refl, sym, ◌∙◌, ap, subst, arith}
-use Rattle.std.specs.List.{list_any}
+use Rattle.std.proofs.Common.{◌≡◌, ◌≤◌, ℕ, ◌+◌, Bool, true, false, List, [], ◌∷◌, ◌++◌, map, length, Option, Some, None, is_some, option_map, refl, sym, ◌∙◌, ap, subst, arith}
+use Rattle.std.specs.List.{AllByRecursion}
 use Rattle.plain_orders.specs.declared.act.Act.TheVariants as act
 use Rattle.plain_orders.specs.declared.causes.ShutCause.{ShutCause}
 use Rattle.plain_orders.specs.declared.entry.Entry.{Entry}
@@ -20,36 +20,35 @@ use Rattle.link_states.specs.declared.data_link.DataLink.TheVariants.{Free}
 use Rattle.link_states.specs.declared.link_event.LinkEvent.TheVariants as event
 use Rattle.link_states.specs.Tables.{data_next}
 use Rattle.data_rules.specs.DataState.{DataState}
+use Rattle.data_rules.specs.declared.rows.Caller.{Caller}
 use Rattle.data_rules.specs.declared.data_in.DataIn.{DataIn}
 use Rattle.data_rules.specs.declared.data_in.DataIn.TheVariants as data_in
-use Rattle.data_rules.specs.declared.limits.TheConstants.{APP_LIMIT}
 use Rattle.data_rules.specs.declared.rows.Conn.{Conn}
 use Rattle.data_rules.specs.declared.rows.LiveEnd.{LiveEnd}
 use Rattle.data_rules.specs.declared.rows.Role.{Role}
 use Rattle.data_rules.specs.declared.rows.Role.TheVariants.{Bound}
 use Rattle.data_rules.specs.Conns.{with_role_if, breaks_if, end_breaks, is_normal, link_of, role_in, with_event, without_conn}
 use Rattle.data_rules.specs.Entering.{enters}
-use Rattle.data_rules.specs.Opening.{all_apps, breaks_unless, opens}
+use Rattle.data_rules.specs.Opening.{breaks_unless, opens}
 use Rattle.data_rules.specs.Puts.{Sofar, becomes, begun, conn_of}
-use Rattle.cluster_invariant.specs.Words.{is_same}
 use Rattle.cluster_invariant.proofs.ConnRoles.{bound_role}
 use Rattle.cluster_invariant.proofs.PieceKinds.{Ending, There, Here, cuts_if, ends_back, event_of, shuts}
 use Rattle.cluster_invariant.proofs.PieceMay.{Coming, begins}
 use Rattle.cluster_invariant.proofs.PiecesOfCloses.{conn_there}
 use Rattle.cluster_invariant.proofs.PiecesOfSteps.{synced_state}
-use Rattle.data_ends_kept.proofs.BreakPieces.{HadConn, links_breaks}
-use Rattle.data_ends_kept.proofs.CallersGo.{CallersOf, callers_gone, callers_order}
-use Rattle.data_ends_kept.proofs.CallerPieces.{dropped_callers}
-use Rattle.data_ends_kept.proofs.ClosePieces.{ClosedWith, closed_callers, closed_conns, links_closes}
-use Rattle.data_ends_kept.proofs.ConnLists.{conn_for, role_at}
-use Rattle.data_ends_kept.proofs.ConnPieces.{links_forgets}
-use Rattle.data_ends_kept.proofs.EndsGo.{EndsGo, callers_as, callers_close, callers_core, close_still, on_core}
-use Rattle.data_ends_kept.proofs.EntryPieces.{Entered, IsItemOf, OpenedOn, links_enters, links_opens}
-use Rattle.data_ends_kept.proofs.LinksGo.{LinksGo}
-use Rattle.data_ends_kept.proofs.PieceFacts.{enters_acts, enters_facts, opens_acts, opens_facts, shuts_acts, shuts_facts}
-use Rattle.data_ends_kept.proofs.PlainView.{view, view_enter, view_shut}
-use Rattle.data_ends_kept.proofs.QuietPieces.{Quiet, links_quiet}
-use Rattle.data_ends_kept.proofs.RoundOn.{ends_round, on_beside, on_closes, on_enters, on_none}
+use Rattle.data_pieces.proofs.BreakPieces.{HadConn, links_breaks}
+use Rattle.data_pieces.proofs.CallersGo.{CallersOf, callers_gone, callers_order}
+use Rattle.data_pieces.proofs.CallerPieces.{dropped_callers}
+use Rattle.data_pieces.proofs.ClosePieces.{ClosedWith, closed_callers, closed_conns, links_closes}
+use Rattle.data_pieces.proofs.ConnLists.{conn_for, role_at}
+use Rattle.data_pieces.proofs.ConnPieces.{links_forgets}
+use Rattle.data_pieces.proofs.EndsGo.{Grown, grown_push, grown_same, whence_closed, whence_dropped, EndsGo, callers_as, callers_close, callers_core, close_still, on_core}
+use Rattle.data_pieces.proofs.EntryPieces.{Entered, IsItemOf, OpenedOn, links_enters, links_opens}
+use Rattle.data_pieces.proofs.LinksGo.{LinksGo}
+use Rattle.data_pieces.proofs.PieceFacts.{enters_acts, enters_facts, opens_acts, opens_facts, shuts_acts, shuts_facts}
+use Rattle.data_pieces.proofs.PlainView.{view, view_enter, view_shut}
+use Rattle.data_pieces.proofs.QuietPieces.{Quiet, links_quiet}
+use Rattle.data_pieces.proofs.RoundOn.{ends_round, on_beside, on_closes, on_enters, on_none}
 
 pub some_role : (o : Option Conn) (r : Role) → option_map role_in o ≡ Some r → is_some o ≡ true
 some_role None r is = absurd cc
@@ -97,16 +96,18 @@ back_callers (x ∷ xs) now b = back_callers xs now _ ∙ one (is_some (conn_of 
     one true = refl
     one false = refl
 
-module _ (l : Layout) (p : Plain) (d k : ℕ) (t : Coming) (hold : ConnsHold t.old) (all : (app : ℕ) → app < APP_LIMIT → list_any (is_same app) all_apps ≡ true) where
+module _ (l : Layout) (p : Plain) (d k : ℕ) (t : Coming) (W : Caller → Type 0) (hold : ConnsHold t.old) where
   -- what holds of a state that a step has come to
   abbrev pub Going : Sofar → Type 0
-  Going b = EndsGo t d (view l p d k b.outs.acts) b.state
+  Going b = EndsGo t W d (view l p d k b.outs.acts) b.state
 
   pub going_quiet : (b c : Sofar) → Quiet b c → Going b → Going c
   going_quiet b c q h = record {
     links = links_quiet l p d k b c q h.links;
     callers = callers_core b.state c.state q.core h.callers;
     on = λ still. on_core b.state c.state q.core (h.on still);
+    grown = grown_same t.old.order b.state.order c.state.order q.core.order h.grown;
+    whence = subst (AllByRecursion W) (sym q.core.callers) h.whence;
   }
 
   -- what a cut leaves
@@ -119,6 +120,8 @@ module _ (l : Layout) (p : Plain) (d k : ℕ) (t : Coming) (hold : ConnsHold t.o
     links = links_forgets d (view l p d k b.outs.acts) b.state conn apart h.links;
     callers = callers_gone conn b.state.conns b.state.order b.state.callers h.callers;
     on = λ still. on_beside b.state (without_conn conn b.state) refl refl refl (λ none. ap (dropped_callers (Some conn)) none) (h.on still);
+    grown = h.grown;
+    whence = whence_dropped W (Some conn) b.state.callers h.whence;
   }
 
   pub had_conn : (conn session app : ℕ) (b : Sofar) → b ≡ begins t → role_at conn b.state.conns ≡ Some (Bound session) → app_in b.state.order session ≡ Some app → Going b → HadConn b.state app session conn
@@ -148,6 +151,8 @@ module _ (l : Layout) (p : Plain) (d k : ℕ) (t : Coming) (hold : ConnsHold t.o
             callers_as (end_breaks (Some app) t.now (becomes (without_conn conn) b)).state (without_conn conn b.state).conns b.state.order (without_conn conn b.state).callers s.conns s.order s.callers
             (callers_gone conn b.state.conns b.state.order b.state.callers h.callers);
         on = λ still. on_beside b.state (end_breaks (Some app) t.now (becomes (without_conn conn) b)).state s.synced s.order s.round (λ none. s.callers ∙ ap (dropped_callers (Some conn)) none) (h.on still);
+        grown = grown_same t.old.order b.state.order (end_breaks (Some app) t.now (becomes (without_conn conn) b)).state.order s.order h.grown;
+        whence = subst (AllByRecursion W) (sym s.callers) (whence_dropped W (Some conn) b.state.callers h.whence);
       }
 
   -- what a step of the order makes of the plain server
@@ -165,14 +170,17 @@ module _ (l : Layout) (p : Plain) (d k : ℕ) (t : Coming) (hold : ConnsHold t.o
             callers_as (enters e b).state b.state.conns (b.state.order ++ e ∷ []) b.state.callers f.conns f.order f.callers
             (callers_order b.state.conns b.state.order (b.state.order ++ e ∷ []) b.state.callers (λ a none. live_session-push b.state.order e a ∙ item.sessions (live_session b.state.order a) a ∙ none) h.callers);
         on = λ still. on_enters b.state (enters e b).state e item.quiet f.synced f.order f.round f.callers (h.on still);
+        grown = grown_push t.old.order b.state.order (enters e b).state.order e f.order h.links.ordered may item.epoch h.grown;
+        whence = subst (AllByRecursion W) (sym f.callers) h.whence;
       }
 
   -- a session opens, and the Hellos are as they are to be then
   pub opens_go : (app conn : ℕ) (r : Role) (b : Sofar) → live_session b.state.order app ≡ None → b.state.round ≡ None → role_at conn b.state.conns ≡ Some r → ((s : ℕ) → r ≡ Bound s → ⊥)
       → LinksGo d (view l p d k b.outs.acts) b.state
       → CallersOf (map (with_role_if conn (Bound (length b.state.order + 1))) b.state.conns) (b.state.order ++ Opened (length b.state.order + 1) app ∷ []) b.state.callers
-      → (ends_round t.input ≡ false → b.state.callers ≡ []) → (ends_round t.input ≡ false → b.state.synced ≤ length b.state.order) → Going (opens app conn t.now b)
-  opens_go app conn r b free none role unbound links callers nobody within = go (opens_facts app conn t.now b)
+      → (ends_round t.input ≡ false → b.state.callers ≡ []) → (ends_round t.input ≡ false → b.state.synced ≤ length b.state.order)
+      → Grown t.old.order b.state.order → AllByRecursion W b.state.callers → Going (opens app conn t.now b)
+  opens_go app conn r b free none role unbound links callers nobody within grown whence = go (opens_facts app conn t.now b)
     where
       e : Entry
       e = Opened (length b.state.order + 1) app
@@ -188,6 +196,9 @@ module _ (l : Layout) (p : Plain) (d k : ℕ) (t : Coming) (hold : ConnsHold t.o
             (subst (λ (m : ℕ). m ≤ length (opens app conn t.now b).state.order) (sym f.synced)
             (subst (λ (es : List Entry). b.state.synced ≤ length es) (sym f.order)
             (omega (arith, within still, length-append b.state.order (Opened (length b.state.order + 1) app ∷ [])))));
+        grown = grown_push t.old.order b.state.order (opens app conn t.now b).state.order (Opened (length b.state.order + 1) app) f.order links.ordered
+            (record { is_started = links.started; is_position = refl; is_free = free }) (λ n. refl) grown;
+        whence = subst (AllByRecursion W) (sym f.callers) whence;
       }
 
   -- a session is closed
@@ -206,4 +217,7 @@ module _ (l : Layout) (p : Plain) (d k : ℕ) (t : Coming) (hold : ConnsHold t.o
             (callers_order (closed_conns cause (conn_of b.state s) s b.state.conns) b.state.order (b.state.order ++ Closed s ∷ []) (closed_callers cause (conn_of b.state s) b.state.callers) (λ a none. close_still b.state.order s a none)
             (callers_close cause (conn_of b.state s) s b.state.conns b.state.order b.state.callers (λ w is. (bound_role s b.state.conns w h.links.differ is, conn_there s b.state.conns w is)) h.callers));
         on = λ still. on_closes b.state (shuts s app cause t.now b).state s cause (conn_of b.state s) f.synced f.order f.round f.callers (h.on still);
+        grown = grown_push t.old.order b.state.order (shuts s app cause t.now b).state.order (Closed s) f.order h.links.ordered
+            (record { is_live = (ordered_one_live b.state.order h.links.ordered).lives app s has }) (λ n. refl) h.grown;
+        whence = subst (AllByRecursion W) (sym f.callers) (whence_closed W cause (conn_of b.state s) b.state.callers h.whence);
       }

@@ -31,9 +31,9 @@ use Rattle.cluster_invariant.specs.Ends.{LinkIs, due_in}
 use Rattle.cluster_invariant.proofs.PieceMay.{item_of}
 use Rattle.cluster_invariant.proofs.PiecesOfCloses.{role_given}
 use Rattle.cluster_invariant.proofs.Small.{put_other}
-use Rattle.data_ends_kept.proofs.AwaitedSessions.{is_quiet}
-use Rattle.data_ends_kept.proofs.ConnLists.{Differ, role_at, conn_for, none_for, for_role, for_bound, differ_role}
-use Rattle.data_ends_kept.proofs.LinksGo.{LinksGo, link_same, links_set, links_stay}
+use Rattle.data_pieces.proofs.AwaitedSessions.{is_quiet}
+use Rattle.data_pieces.proofs.ConnLists.{Differ, role_at, conn_for, none_for, for_role, for_bound, differ_role}
+use Rattle.data_pieces.proofs.LinksGo.{LinksGo, link_same, links_set, links_stay}
 
 -- items
 

@@ -25,10 +25,10 @@ use Rattle.data_rules.specs.declared.rows.Role.TheVariants.{Bound, Closing}
 use Rattle.data_rules.specs.Conns.{with_role_if, is_other_caller}
 use Rattle.cluster_invariant.specs.Ends.{due_in}
 use Rattle.cluster_invariant.proofs.ConnRoles.{bound_role, dropped}
-use Rattle.data_ends_kept.proofs.ConnLists.{Differ, role_at, conn_for, none_for, for_role, differ_role}
-use Rattle.data_ends_kept.proofs.ConnPieces.{differ_dropped, for_dropped}
-use Rattle.data_ends_kept.proofs.EntryPieces.{mended_none, mended_other}
-use Rattle.data_ends_kept.proofs.LinksGo.{LinksGo, link_same, links_set}
+use Rattle.data_pieces.proofs.ConnLists.{Differ, role_at, conn_for, none_for, for_role, differ_role}
+use Rattle.data_pieces.proofs.ConnPieces.{differ_dropped, for_dropped}
+use Rattle.data_pieces.proofs.EntryPieces.{mended_none, mended_other}
+use Rattle.data_pieces.proofs.LinksGo.{LinksGo, link_same, links_set}
 
 -- the connections once a session was closed: its own awaits the Reset, or is dropped
 abbrev pub closed_conns : ShutCause → Option ℕ → ℕ → List Conn → List Conn

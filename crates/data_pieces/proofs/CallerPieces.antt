@@ -16,8 +16,8 @@ use Rattle.cluster_invariant.specs.Words.{all_differ, is_same}
 use Rattle.cluster_invariant.proofs.AllLists.{all_both, all_follow, all_joined}
 use Rattle.cluster_invariant.proofs.ConnRoles.{dropped, other_stays}
 use Rattle.cluster_invariant.proofs.PiecesOfCloses.{role_given}
-use Rattle.data_ends_kept.proofs.CallersGo.{CallersOf, WaitsOn, callers_gone, differ_push, differs_all, none_filter, none_has, parts, role_other}
-use Rattle.data_ends_kept.proofs.ConnLists.{role_at}
+use Rattle.data_pieces.proofs.CallersGo.{CallersOf, WaitsOn, callers_gone, differ_push, differs_all, none_filter, none_has, parts, role_other}
+use Rattle.data_pieces.proofs.ConnLists.{role_at}
 
 -- the Hellos without that on this connection, if there is one
 abbrev pub dropped_callers : Option ℕ → List Caller → List Caller

@@ -17,8 +17,8 @@ use Rattle.data_rules.specs.Granting.{grants, grants_one, locks_become, with_loc
 use Rattle.cluster_invariant.proofs.AllLists.{all_joined}
 use Rattle.cluster_invariant.proofs.PieceKinds.{LockCall, Asks, Unlocks, Withdraws, GivesBack, ForgetsTicket, Claims, Cancels, Releases, calls}
 use Rattle.cluster_invariant.proofs.PutLaws.{OnlyLocks, OnlyWindows, only_locks}
-use Rattle.data_ends_kept.proofs.LinksGo.{LinksGo, SameCore, core_then, links_beside, same_core}
-use Rattle.data_ends_kept.proofs.PlainView.{SameView, is_of_locks, view, view_locks}
+use Rattle.data_pieces.proofs.LinksGo.{LinksGo, SameCore, core_then, links_beside, same_core}
+use Rattle.data_pieces.proofs.PlainView.{SameView, is_of_locks, view, view_locks}
 
 -- acts of locks alone are written
 pub record LockActs (b c : Sofar) : Type 0 where

@@ -17,8 +17,8 @@ use Rattle.data_rules.specs.Opening.{opens}
 use Rattle.data_rules.specs.Puts.{Sofar, becomes, conn_of, writes}
 use Rattle.cluster_invariant.proofs.PieceKinds.{event_of, parts_from, shuts, with_close}
 use Rattle.cluster_invariant.proofs.PutLaws.{Appended, appends_state, with_appended}
-use Rattle.data_ends_kept.proofs.ClosePieces.{ClosedWith, closed_callers, closed_conns}
-use Rattle.data_ends_kept.proofs.EntryPieces.{Entered, OpenedOn}
+use Rattle.data_pieces.proofs.ClosePieces.{ClosedWith, closed_callers, closed_conns}
+use Rattle.data_pieces.proofs.EntryPieces.{Entered, OpenedOn}
 
 -- an entry that enters
 
@@ -65,7 +65,7 @@ opens_acts app conn now b = enters_acts (Opened (length b.state.order + 1) app) 
 -- a Close
 
 -- by the connection that the session had
-abbrev ClosedTo : ℕ → ℕ → ShutCause → Option ℕ → ℕ → DataState → DataState → Type 0
+abbrev pub ClosedTo : ℕ → ℕ → ShutCause → Option ℕ → ℕ → DataState → DataState → Type 0
 ClosedTo s app c o now n k =
     ClosedWith s app (data_next n.times now (link_of n app) (event_of c)) (closed_conns c o s n.conns) (closed_callers c o n.callers) n k
 

@@ -29,9 +29,9 @@ use Rattle.cluster_invariant.specs.Words.{is_same}
 use Rattle.cluster_invariant.proofs.PieceKinds.{end_back, ends_back}
 use Rattle.cluster_invariant.proofs.PiecesOfRounds.{back_written}
 use Rattle.cluster_invariant.proofs.Small.{put_same, put_other}
-use Rattle.data_ends_kept.proofs.ConnLists.{Differ, conn_for}
-use Rattle.data_ends_kept.proofs.LinksGo.{LinksGo, link_same, links_set}
-use Rattle.data_ends_kept.proofs.PlainView.{view, view_back, view_broke}
+use Rattle.data_pieces.proofs.ConnLists.{Differ, conn_for}
+use Rattle.data_pieces.proofs.LinksGo.{LinksGo, link_same, links_set}
+use Rattle.data_pieces.proofs.PlainView.{view, view_back, view_broke}
 
 -- a tick
 

@@ -54,7 +54,7 @@ pub record SameView (v w : Server) : Type 0 where
   pub due : w.due ≡ v.due
   pub order : w.order ≡ v.order
 
-same_view : (v : Server) → SameView v v
+pub same_view : (v : Server) → SameView v v
 same_view v = record { ends = refl; due = refl; order = refl }
 
 -- an act of locks

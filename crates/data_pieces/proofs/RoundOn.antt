@@ -14,8 +14,8 @@ use Rattle.data_rules.specs.declared.data_in.DataIn.{DataIn}
 use Rattle.data_rules.specs.declared.data_in.DataIn.TheVariants as data_in
 use Rattle.data_rules.specs.Opening.{is_round_over}
 use Rattle.cluster_invariant.specs.Ends.{is_done}
-use Rattle.data_ends_kept.proofs.AwaitedSessions.{is_quiet}
-use Rattle.data_ends_kept.proofs.ClosePieces.{closed_callers}
+use Rattle.data_pieces.proofs.AwaitedSessions.{is_quiet}
+use Rattle.data_pieces.proofs.ClosePieces.{closed_callers}
 
 -- an input that may end a round
 abbrev pub ends_round : DataIn → Bool

@@ -16,8 +16,8 @@ use Rattle.data_rules.specs.DataState.{DataState}
 use Rattle.data_rules.specs.declared.limits.TheConstants.{APP_LIMIT}
 use Rattle.data_rules.specs.Conns.{link_of}
 use Rattle.cluster_invariant.specs.Ends.{LinkIs, due_in}
-use Rattle.data_ends_kept.proofs.ConnLists.{Differ, conn_for}
-use Rattle.data_ends_kept.proofs.PlainView.{SameView}
+use Rattle.data_pieces.proofs.ConnLists.{Differ, conn_for}
+use Rattle.data_pieces.proofs.PlainView.{SameView}
 
 -- the ends of a node, and what they rest on
 pub record LinksGo (d : ℕ) (v : Server) (n : DataState) : Type 0 where

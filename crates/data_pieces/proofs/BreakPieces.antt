@@ -24,9 +24,9 @@ use Rattle.data_rules.specs.Puts.{Sofar, becomes}
 use Rattle.data_rules.specs.Conns.{is_normal, link_of, with_link, with_event, without_conn, breaks_if, end_breaks}
 use Rattle.cluster_invariant.specs.Ends.{LinkIs}
 use Rattle.cluster_invariant.proofs.Small.{put_same, put_other}
-use Rattle.data_ends_kept.proofs.ConnLists.{role_at, conn_for, none_for, for_gone, for_none, differ_gone}
-use Rattle.data_ends_kept.proofs.LinksGo.{LinksGo, link_same, links_set}
-use Rattle.data_ends_kept.proofs.PlainView.{view, view_broke}
+use Rattle.data_pieces.proofs.ConnLists.{role_at, conn_for, none_for, for_gone, for_none, differ_gone}
+use Rattle.data_pieces.proofs.LinksGo.{LinksGo, link_same, links_set}
+use Rattle.data_pieces.proofs.PlainView.{view, view_broke}
 
 -- an end in this state loses its connection
 abbrev broken : DataLink → ℕ → ℕ → Sofar → Sofar

@@ -1,0 +1,11 @@
+pub mod AwaitsGo
+pub mod TakenSame
+pub mod AwaitsPieces
+pub mod Spoken
+pub mod SpokenPieces
+pub mod SpokenAlong
+pub mod StepAwaits
+pub mod EndsAfter
+pub mod RoundAfter
+pub mod RecoverLearnt
+pub mod WaitingGone
