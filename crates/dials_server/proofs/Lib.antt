@@ -1,5 +1,10 @@
 pub mod KnownServer
 pub mod NodeConns
+pub mod LinkWords
+pub mod PlainFrames
 pub mod QuietServer
 pub mod AcceptedDials
 pub mod EndedDials
+pub mod ClosedNodes
+pub mod TickNodes
+pub mod TickDials

@@ -28,3 +28,7 @@ AcceptsKeepDials = (conn : ℕ) → StepKeepsDials (data_in.Connected conn)
 -- One that ended there does.
 abbrev pub EndingsKeepDials : Type 0
 EndingsKeepDials = (conn : ℕ) → StepKeepsDials (data_in.Broken conn)
+
+-- A tick does.
+abbrev pub ServerTicksKeepDials : Type 0
+ServerTicksKeepDials = StepKeepsDials data_in.Tick
