@@ -117,10 +117,10 @@ knew_later v w x y later grows app s m is = record {
   stays = later.stays m.order is.there is.stays;
 }
 
-first_later : (v w : Server) (x y : Site) → StaysKnown v w → SiteGrows x y → (app number : ℕ) (f : FirstTaken) → FirstIs v x app number f → FirstIs w y app number f
+pub first_later : (v w : Server) (x y : Site) → StaysKnown v w → SiteGrows x y → (app number : ℕ) (f : FirstTaken) → FirstIs v x app number f → FirstIs w y app number f
 first_later v w x y later grows app number f is = record { there = omega (arith, is.there, later.there); linked = grows.links f.conn _ is.linked }
 
-carries_later : (v w : Server) (x : Site) → StaysKnown v w → (app number : ℕ) (first : Option FirstTaken) → IfSome first (FirstIs v x app number) → (p : Place)
+pub carries_later : (v w : Server) (x : Site) → StaysKnown v w → (app number : ℕ) (first : Option FirstTaken) → IfSome first (FirstIs v x app number) → (p : Place)
     → CarriesOf v app first p → CarriesOf w app first p
 carries_later v w x later app number first where_taken p is = record {
   order = is.order;

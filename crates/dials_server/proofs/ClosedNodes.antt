@@ -151,7 +151,7 @@ closed_on z es s c before is = record { carries = is.carries; came = go c.knew.m
     go (Some m) came = came
 
 -- what is known of a connection with its link
-linked_as : (z : Site) (conn app : ℕ) (P Q : Connection → Type 0) → ((c : Connection) → P c → Q c) → LinkedTo z conn app P → LinkedTo z conn app Q
+pub linked_as : (z : Site) (conn app : ℕ) (P Q : Connection → Type 0) → ((c : Connection) → P c → Q c) → LinkedTo z conn app P → LinkedTo z conn app Q
 linked_as z conn app P Q f is = record { dial = is.dial; link = is.link; first = is.first; its = go ((z.end_at app).connection_at is.dial) is.its }
   where
     go : (o : Option Connection) → IsSomeAnd o P → IsSomeAnd o Q

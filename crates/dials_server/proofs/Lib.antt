@@ -8,3 +8,10 @@ pub mod EndedDials
 pub mod ClosedNodes
 pub mod TickNodes
 pub mod TickDials
+pub mod FittingFrames
+pub mod FittingNodes
+pub mod FittingDials
+pub mod SaveNodes
+pub mod OpenedNodes
+pub mod RoundNodes
+pub mod SaveDials

@@ -1,5 +1,6 @@
 use Rattle.dials_server.proofs.AcceptedDials.{dials_kept_by_accept}
 use Rattle.dials_server.proofs.EndedDials.{dials_kept_by_ending}
+use Rattle.dials_server.proofs.SaveDials.{dials_kept_by_save}
 use Rattle.dials_server.proofs.TickDials.{dials_kept_by_server_tick}
 use Rattle.dials_server.proofs.laws.steps_keep_the_connections.Goals as goal
 
@@ -11,3 +12,6 @@ returns-clause-endings c = dials_kept_by_ending
 
 pub returns-clause-ticks : goal.returns-clause-ticks
 returns-clause-ticks c = dials_kept_by_server_tick
+
+pub returns-clause-saves : goal.returns-clause-saves
+returns-clause-saves c = dials_kept_by_save
