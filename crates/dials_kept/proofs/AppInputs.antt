@@ -1,6 +1,6 @@
 -- The part on connections for an application server's input: at each data server by itself, and where its end's connection goes on.
 use Rattle.std.proofs.Common.{◌≡◌, ◌≤◌, ℕ, Bool, true, false, ◌==◌, List, [], ◌++◌, length, Option, Some, None, option_map, if◌then◌else◌, refl, sym, ◌∙◌, ap, subst}
-use Rattle.std.specs.Prelude.{IfSome}
+use Rattle.std.specs.Prelude.{IfSome, nat_lt}
 use Rattle.std.specs.List.{AllByRecursion, list_all}
 use Rattle.std.proofs.lemmas.List.{append-nil}
 use Rattle.plain_orders.specs.declared.act.Act.{Act}
@@ -119,7 +119,9 @@ passes_grows x y same true us z q is follow alone = record {
   ups = ap (λ (fs : List UpFrame). fs ++ us) is.ups;
   follow = follow;
   alone = alone;
-  ups_taken = is.ups_taken;
+  untaken = λ none. sym is.ups_taken ∙ none;
+  within_ups = λ low. subst (λ (n : ℕ). n ≤ length z.ups) (sym is.ups_taken) low;
+  counted = ap (λ (n : ℕ). nat_lt 0 n) is.ups_taken;
   heard = [];
   downs = is.downs ∙ sym (append-nil z.downs);
   within = λ low. subst (λ (fs : List DownFrame). q.downs_taken ≤ length fs) (sym is.downs) (is.within low);
@@ -137,7 +139,9 @@ passes_grows x y same false us z q is follow alone = record {
   ups = ap (λ (fs : List UpFrame). fs ++ us) is.ups;
   follow = follow;
   alone = alone;
-  ups_taken = is.ups_taken;
+  untaken = λ none. sym is.ups_taken ∙ none;
+  within_ups = λ low. subst (λ (n : ℕ). n ≤ length z.ups) (sym is.ups_taken) low;
+  counted = ap (λ (n : ℕ). nat_lt 0 n) is.ups_taken;
   heard = [];
   downs = is.downs ∙ sym (append-nil z.downs);
   within = λ low. subst (λ (fs : List DownFrame). q.downs_taken ≤ length fs) (sym is.downs) (is.within low);

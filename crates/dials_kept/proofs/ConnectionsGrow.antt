@@ -69,7 +69,10 @@ pub record Grows (x y : Site) (c d : Connection) : Type 0 where
   pub ups : d.ups ≡ c.ups ++ more
   pub follow : list_all is_following more ≡ true
   pub alone : c.ups_taken ≡ 0 → more ≡ []
-  pub ups_taken : d.ups_taken ≡ c.ups_taken
+  -- the data end may have taken more of one of which it took something
+  pub untaken : d.ups_taken ≡ 0 → c.ups_taken ≡ 0
+  pub within_ups : c.ups_taken ≤ length c.ups → d.ups_taken ≤ length c.ups
+  pub counted : nat_lt 0 d.ups_taken ≡ nat_lt 0 c.ups_taken
   -- frames downwards, no Reset, on one whose Welcome was put
   pub heard : List DownFrame
   pub downs : d.downs ≡ c.downs ++ heard
@@ -139,16 +142,16 @@ connection_later v w x y later grows app number c d g is = record {
       whole ∙ ap (λ (f : UpFrame). f ∷ (drop 1 c.ups ++ g.more)) frame
       ∙ ap (λ (fs : List UpFrame). first_frame w app number d.knew ∷ fs) (sym (ap (drop 1) whole));
   behind = ap (λ (fs : List UpFrame). list_all is_following (drop 1 fs)) whole ∙ follow_joined (drop 1 c.ups) g.more is.behind g.follow;
-  ups_taken = omega (arith, g.ups_taken, is.ups_taken, ap (λ (fs : List UpFrame). length fs) g.ups, length-append c.ups g.more);
+  ups_taken = omega (arith, g.within_ups is.ups_taken, ap (λ (fs : List UpFrame). length fs) g.ups, length-append c.ups g.more);
   downs_taken = g.within is.downs_taken;
   alone =
       λ none.
-      ap (λ (fs : List UpFrame). drop 1 fs) whole ∙ ap (λ (fs : List UpFrame). fs ++ g.more) (is.alone (sym g.ups_taken ∙ none))
-      ∙ g.alone (sym g.ups_taken ∙ none);
+      ap (λ (fs : List UpFrame). drop 1 fs) whole ∙ ap (λ (fs : List UpFrame). fs ++ g.more) (is.alone (g.untaken none))
+      ∙ g.alone (g.untaken none);
   silent =
       λ none.
-      g.downs ∙ ap (λ (fs : List DownFrame). fs ++ g.heard) (is.silent (sym g.ups_taken ∙ none)) ∙ g.unheard (sym g.ups_taken ∙ none);
-  linked = g.linked ∙ is.linked ∙ ap (λ (n : ℕ). nat_lt 0 n) (sym g.ups_taken);
+      g.downs ∙ ap (λ (fs : List DownFrame). fs ++ g.heard) (is.silent (g.untaken none)) ∙ g.unheard (g.untaken none);
+  linked = g.linked ∙ is.linked ∙ sym g.counted;
   taken = ap (λ (o : Option FirstTaken). is_some o) g.first ∙ is.taken ∙ sym g.linked;
   where_taken =
       subst (λ (o : Option FirstTaken). IfSome o (FirstIs w y app number)) (sym g.first)

@@ -167,7 +167,9 @@ broken_site v w x dead n m outs now conn later runs frames cuts order dials conn
           ups = sym (append-nil c.ups);
           follow = refl;
           alone = λ none. refl;
-          ups_taken = refl;
+          untaken = λ none. none;
+          within_ups = λ low. low;
+          counted = refl;
           heard = [];
           downs = sym (append-nil c.downs);
           within = λ low. low;
@@ -185,7 +187,9 @@ broken_site v w x dead n m outs now conn later runs frames cuts order dials conn
           ups = sym (append-nil c.ups);
           follow = refl;
           alone = λ none. refl;
-          ups_taken = refl;
+          untaken = λ none. none;
+          within_ups = λ low. low;
+          counted = refl;
           heard = [];
           downs = sym (append-nil c.downs);
           within = λ low. low;

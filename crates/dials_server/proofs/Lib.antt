@@ -15,3 +15,6 @@ pub mod SaveNodes
 pub mod OpenedNodes
 pub mod RoundNodes
 pub mod SaveDials
+pub mod TakenFrames
+pub mod GoNodes
+pub mod GoRounds

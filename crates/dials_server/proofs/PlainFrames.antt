@@ -1,5 +1,5 @@
 -- What a data server puts to sessions that learnt of its order, neither a Welcome nor a Reset: the connections go on by it.
-use Rattle.std.proofs.Common.{◌≡◌, ℕ, Bool, true, false, ◌||◌, cond, List, [], ◌∷◌, ◌++◌, length, map, filter, Option, Some, None, is_some, refl, sym, ◌∙◌, ap, subst, arith}
+use Rattle.std.proofs.Common.{◌≡◌, ◌≤◌, ℕ, Bool, true, false, ◌||◌, cond, List, [], ◌∷◌, ◌++◌, length, map, filter, Option, Some, None, is_some, refl, sym, ◌∙◌, ap, subst, arith}
 use Rattle.std.specs.Prelude.{⊤, IfSome, IsSomeAnd, nat_lt}
 use Rattle.std.specs.List.{AllByRecursion, list_any}
 use Rattle.std.proofs.lemmas.Bool.{false≢true}
@@ -164,7 +164,9 @@ heard_grows v x y a m c fs it is same plain = record {
   ups = h.ups ∙ sym (append-nil c.ups);
   follow = refl;
   alone = λ none. refl;
-  ups_taken = h.ups_taken;
+  untaken = λ none. sym h.ups_taken ∙ none;
+  within_ups = λ low. subst (λ (n : ℕ). n ≤ length c.ups) (sym h.ups_taken) low;
+  counted = ap (λ (n : ℕ). nat_lt 0 n) h.ups_taken;
   heard = gs;
   downs = h.downs;
   within = λ low. omega (arith, low, h.downs_taken, ap (λ (xs : List DownFrame). length xs) h.downs, length-append c.downs gs);

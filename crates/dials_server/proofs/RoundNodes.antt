@@ -1,16 +1,14 @@
 -- What the end of a round makes of a data server's connections: sessions that were there go on, and a session opens on each that waited.
-use Rattle.std.proofs.Common.{◌≡◌, ◌≢◌, ◌≤◌, ◌<◌, ℕ, ◌+◌, Bool, true, false, not, ◌&&◌, ◌||◌, ◌==◌, if◌then◌else◌, List, [], ◌∷◌, ◌++◌, length, map, drop, Option, Some, None, is_some, option_map, refl, sym, ◌∙◌, ap, subst, arith}
+use Rattle.std.proofs.Common.{◌≡◌, ◌≢◌, ◌≤◌, ◌<◌, ℕ, ◌+◌, Bool, true, false, not, ◌&&◌, ◌||◌, ◌==◌, if◌then◌else◌, List, [], ◌∷◌, ◌++◌, length, map, Option, Some, None, is_some, option_map, refl, sym, ◌∙◌, ap, subst, arith}
 use Rattle.std.specs.List.{AllByRecursion, find, list_any}
-use Rattle.std.proofs.lemmas.Bool.{and_parts, eq-eqb, false≢true, ne_eqb}
+use Rattle.std.proofs.lemmas.Bool.{eq-eqb, false≢true, ne_eqb}
 use Rattle.std.proofs.lemmas.List.{length-append}
 use Rattle.plain_orders.specs.declared.act.Act.TheVariants as act
 use Rattle.plain_orders.specs.declared.entry.Entry.{Entry}
 use Rattle.plain_orders.specs.declared.entry.Entry.TheVariants.{Opened}
 use Rattle.plain_orders.specs.Entries.{live_session}
-use Rattle.plain_orders.specs.Sessions.{is_close}
 use Rattle.plain_orders.proofs.EntryLemmas.{live_session-push}
 use Rattle.link_states.specs.declared.link_event.LinkEvent.TheVariants as event
-use Rattle.recovery_round.specs.RoundWords.{Round, is_over}
 use Rattle.ecp_messages.specs.declared.down.Down.{Down}
 use Rattle.ecp_messages.specs.declared.down.Down.TheVariants.{Welcome, Reset, Block, Drop, Ack, Grant, Answer, Normal, Bare}
 use Rattle.subscript_keys.specs.declared.span.Span.{Span}
@@ -27,7 +25,7 @@ use Rattle.data_rules.specs.declared.rows.Says.TheVariants.{NewWelcome, EpochWel
 use Rattle.data_rules.specs.DataState.{DataState}
 use Rattle.data_rules.specs.Conns.{is_conn, role_in, role_of, with_event, with_role_if}
 use Rattle.data_rules.specs.Entering.{drops, drops_one, enters, spans_of, with_entry}
-use Rattle.data_rules.specs.Opening.{all_apps, breaks_unless, come_back, comes_back, is_round_over, live_ends, opens, opens_all, round_ends_if, rounds, without_round}
+use Rattle.data_rules.specs.Opening.{breaks_unless, come_back, comes_back, opens, opens_all}
 use Rattle.data_rules.specs.Puts.{Sofar, becomes, conn_of, head_of, puts, writes}
 use Rattle.cluster_runs.specs.Machine.{Site}
 use Rattle.cluster_runs.specs.Connections.{link_of as site_link}
@@ -37,22 +35,21 @@ use Rattle.cluster_invariant.specs.Served.{HasLearnt}
 use Rattle.cluster_invariant.specs.Words.{all_differ, is_same}
 use Rattle.cluster_invariant.proofs.AllLists.{all_both, all_filtered, all_follow}
 use Rattle.cluster_invariant.proofs.PiecesOfCloses.{role_given}
-use Rattle.cluster_invariant.proofs.PiecesOfRounds.{ends_have}
 use Rattle.cluster_invariant.proofs.PutLaws.{Appended, appends_state, only_puts, with_windows}
 use Rattle.dials_server.proofs.ClosedNodes.{other_role, there_still}
 use Rattle.dials_server.proofs.FittingFrames.{FitsOn, FrameFits}
 use Rattle.dials_server.proofs.FittingNodes.{same_link}
 use Rattle.dials_server.proofs.NodeConns.{node_same}
 use Rattle.dials_server.proofs.OpenedNodes.{IsFresh, Within, node_opens, within_more}
-use Rattle.dials_server.proofs.SaveNodes.{ReplyFits, SaveInv, SaysFit, all_one_more, frames_same, puts_fit, says_same}
+use Rattle.dials_server.proofs.SaveNodes.{ReplyFits, SaysFit, all_one_more, frames_same, puts_fit, says_same}
 use Rattle.dials_server.proofs.PlainFrames.{IsPlain}
 use Rattle.dials_server.proofs.TickNodes.{Tells, puts_tells, tells_of}
 
 -- What holds as sessions open, with these still to open.
-pub record OpenInv (x : Site) (n : DataState) (cs : List Caller) (b : Sofar) : Type 0 where
+pub record OpenInv (x : Site) (n : DataState) (gone : List ℕ) (cs : List Caller) (b : Sofar) : Type 0 where
   pub nodes : NodeDials x b.state
   pub frames : AllByRecursion (FrameFits x b.state) b.outs.frames
-  pub cuts : b.outs.cuts ≡ []
+  pub cuts : b.outs.cuts ≡ gone
   pub noted : AllByRecursion (λ (y : Noted). HasLearnt x y.session) b.state.noted
   pub replies : AllByRecursion (ReplyFits x b.state) b.state.replies
   pub there : (k : ℕ) → is_some (role_of b.state k) ≡ is_some (role_of n k)
@@ -61,16 +58,16 @@ pub record OpenInv (x : Site) (n : DataState) (cs : List Caller) (b : Sofar) : T
   pub callers : AllByRecursion (CallerIs b.state x) cs
   pub apart : all_differ (map app_of_caller cs) ≡ true
 
-caller_same : (x : Site) (d e : DataState) → e.conns ≡ d.conns → e.order ≡ d.order → (c : Caller) → CallerIs d x c → CallerIs e x c
+pub caller_same : (x : Site) (d e : DataState) → e.conns ≡ d.conns → e.order ≡ d.order → (c : Caller) → CallerIs d x c → CallerIs e x c
 caller_same x d e conns order c is = record {
   waits = ap (λ (cs : List Conn). option_map role_in (find (is_conn c.conn) cs)) conns ∙ is.waits;
   free = ap (λ (es : List Entry). live_session es c.app) order ∙ is.free;
   linked = is.linked;
 }
 
-module _ (x : Site) (n : DataState) where
-  open_state : (cs : List Caller) (b c : Sofar) (m : DataState) → m.conns ≡ b.state.conns → m.order ≡ b.state.order → m.dials ≡ b.state.dials → m.noted ≡ b.state.noted
-      → m.replies ≡ b.state.replies → c.state ≡ m → AllByRecursion (FrameFits x b.state) c.outs.frames → c.outs.cuts ≡ b.outs.cuts → OpenInv x n cs b → OpenInv x n cs c
+module _ (x : Site) (n : DataState) (gone : List ℕ) where
+  pub open_state : (cs : List Caller) (b c : Sofar) (m : DataState) → m.conns ≡ b.state.conns → m.order ≡ b.state.order → m.dials ≡ b.state.dials → m.noted ≡ b.state.noted
+      → AllByRecursion (ReplyFits x b.state) m.replies → c.state ≡ m → AllByRecursion (FrameFits x b.state) c.outs.frames → c.outs.cuts ≡ b.outs.cuts → OpenInv x n gone cs b → OpenInv x n gone cs c
   open_state cs b c m conns order dials noted replies state frames cuts inv = record {
     nodes = subst (λ (d : DataState). NodeDials x d) (sym state) (node_same x b.state m order conns dials inv.nodes);
     frames = subst (λ (d : DataState). AllByRecursion (FrameFits x d) c.outs.frames) (sym state) (frames_same x b.state m conns c.outs.frames frames);
@@ -78,8 +75,7 @@ module _ (x : Site) (n : DataState) where
     noted = subst (λ (ys : List Noted). AllByRecursion (λ (y : Noted). HasLearnt x y.session) ys) (sym (ap (λ (d : DataState). d.noted) state ∙ noted)) inv.noted;
     replies =
         subst (λ (d : DataState). AllByRecursion (ReplyFits x d) d.replies) (sym state)
-        (subst (λ (rs : List Reply). AllByRecursion (ReplyFits x m) rs) (sym replies)
-        (all_follow (ReplyFits x b.state) (ReplyFits x m) (λ r at. says_same x b.state m conns r.says at) b.state.replies inv.replies));
+        (all_follow (ReplyFits x b.state) (ReplyFits x m) (λ r at. says_same x b.state m conns r.says at) m.replies replies);
     there = λ k. ap (λ (xs : List Conn). is_some (option_map role_in (find (is_conn k) xs))) (ap (λ (d : DataState). d.conns) state ∙ conns) ∙ inv.there k;
     longer = subst (λ (es : List Entry). length n.order ≤ length es) (sym (ap (λ (d : DataState). d.order) state ∙ order)) inv.longer;
     within = subst Within (sym (ap (λ (d : DataState). d.order) state ∙ order)) inv.within;
@@ -89,27 +85,27 @@ module _ (x : Site) (n : DataState) where
     apart = inv.apart;
   }
 
-  open_puts : (cs : List Caller) (s : ℕ) (m : Down) (b : Sofar) → IsPlain m → HasLearnt x s → OpenInv x n cs b → OpenInv x n cs (puts s m b)
+  pub open_puts : (cs : List Caller) (s : ℕ) (m : Down) (b : Sofar) → IsPlain m → HasLearnt x s → OpenInv x n gone cs b → OpenInv x n gone cs (puts s m b)
   open_puts cs s m b plain learnt inv =
-      open_state cs b (puts s m b) (with_windows (only_puts s m b).windows b.state) refl refl refl refl refl (only_puts s m b).state
+      open_state cs b (puts s m b) (with_windows (only_puts s m b).windows b.state) refl refl refl refl inv.replies (only_puts s m b).state
       (puts_fit x b.state s m b plain learnt (tells_of x b.state inv.nodes) inv.frames) (only_puts s m b).cuts inv
 
   -- a session that was there goes on
-  open_back : (cs : List Caller) (app s now : ℕ) (b : Sofar) → HasLearnt x s → OpenInv x n cs b → OpenInv x n cs (comes_back app s now b)
+  open_back : (cs : List Caller) (app s now : ℕ) (b : Sofar) → HasLearnt x s → OpenInv x n gone cs b → OpenInv x n gone cs (comes_back app s now b)
   open_back cs app s now b learnt inv = open_puts cs s (Normal (head_of b.state s)) _ tt learnt (go (is_some (conn_of b.state s)))
     where
-      go : (t : Bool) → OpenInv x n cs (breaks_unless t app now (becomes (with_event app now (event.RoundOver (is_some (conn_of b.state s)))) b))
-      go true = open_state cs b _ (with_event app now (event.RoundOver (is_some (conn_of b.state s))) b.state) refl refl refl refl refl refl inv.frames refl inv
-      go false = open_state cs b _ (with_event app now (event.RoundOver (is_some (conn_of b.state s))) b.state) refl refl refl refl refl refl inv.frames refl inv
+      go : (t : Bool) → OpenInv x n gone cs (breaks_unless t app now (becomes (with_event app now (event.RoundOver (is_some (conn_of b.state s)))) b))
+      go true = open_state cs b _ (with_event app now (event.RoundOver (is_some (conn_of b.state s))) b.state) refl refl refl refl inv.replies refl inv.frames refl inv
+      go false = open_state cs b _ (with_event app now (event.RoundOver (is_some (conn_of b.state s))) b.state) refl refl refl refl inv.replies refl inv.frames refl inv
 
-  open_backs : (cs : List Caller) (es : List LiveEnd) (now : ℕ) (b : Sofar) → AllByRecursion (λ (e : LiveEnd). HasLearnt x e.session) es → OpenInv x n cs b
-      → OpenInv x n cs (come_back es now b)
+  pub open_backs : (cs : List Caller) (es : List LiveEnd) (now : ℕ) (b : Sofar) → AllByRecursion (λ (e : LiveEnd). HasLearnt x e.session) es → OpenInv x n gone cs b
+      → OpenInv x n gone cs (come_back es now b)
   open_backs cs [] now b learnt inv = inv
   open_backs cs (e ∷ es) now b learnt inv = open_backs cs es now (comes_back e.app e.session now b) learnt.1 (open_back cs e.app e.session now b learnt.0 inv)
 
 -- a session opens
 
-drops_fit : (x : Site) (d : DataState) (before : ℕ) (xs : List Noted) (b : Sofar) → AllByRecursion (λ (y : Noted). HasLearnt x y.session) xs → Tells x b.state
+pub drops_fit : (x : Site) (d : DataState) (before : ℕ) (xs : List Noted) (b : Sofar) → AllByRecursion (λ (y : Noted). HasLearnt x y.session) xs → Tells x b.state
     → AllByRecursion (FrameFits x d) b.outs.frames → AllByRecursion (FrameFits x d) (drops before xs b).outs.frames
 drops_fit x d before [] b learnt tells all = all
 drops_fit x d before (y ∷ xs) b learnt tells all =
@@ -157,9 +153,9 @@ all_apart app (c ∷ cs) none = go (app == c.app) refl none (all_apart app cs)
     go true same none_there more = absurd (false≢true (sym none_there))
     go false other none_there more = ((λ same. false≢true (sym other ∙ eq-eqb app c.app (sym same))), more none_there)
 
-pub open_one : (x : Site) (n : DataState) → ((s : ℕ) → length n.order < s → IsFresh x s) → (c : Caller) (cs : List Caller) (now : ℕ) (b : Sofar) → OpenInv x n (c ∷ cs) b
-    → OpenInv x n cs (opens c.app c.conn now b)
-open_one x n fresh_at c cs now b inv = go (appends_state (Opened s c.app) (writes (act.Enter b.state.server (Opened s c.app)) b))
+pub open_one : (x : Site) (n : DataState) (gone : List ℕ) → ((s : ℕ) → length n.order < s → IsFresh x s) → (c : Caller) (cs : List Caller) (now : ℕ) (b : Sofar) → OpenInv x n gone (c ∷ cs) b
+    → OpenInv x n gone cs (opens c.app c.conn now b)
+open_one x n gone fresh_at c cs now b inv = go (appends_state (Opened s c.app) (writes (act.Enter b.state.server (Opened s c.app)) b))
   where
     s : ℕ
     s = length b.state.order + 1
@@ -178,7 +174,7 @@ open_one x n fresh_at c cs now b inv = go (appends_state (Opened s c.app) (write
         drops_fit x b.state (length b.state.order) (touched spans b.state.noted) (becomes (with_entry (Opened s c.app) spans) entering)
         (all_filtered (λ (y : Noted). HasLearnt x y.session) (is_touched spans) b.state.noted inv.noted) (tells_of x b.state inv.nodes) inv.frames
 
-    go : Appended (Opened s c.app) entering (enters (Opened s c.app) b) → OpenInv x n cs after
+    go : Appended (Opened s c.app) entering (enters (Opened s c.app) b) → OpenInv x n gone cs after
     go a = record {
       nodes = node_opens x b.state after.state c.app c.conn (record { order = order; dials = ap (λ (d : DataState). d.dials) a.state; conns = conns }) inv.within
           inv.callers.0.waits inv.callers.0.linked (fresh_at s (omega (arith, inv.longer))) inv.nodes;
@@ -238,47 +234,7 @@ open_one x n fresh_at c cs now b inv = go (appends_state (Opened s c.app) (write
                 (same_link k.app c.app at.linked.dial inv.callers.0.linked.dial
                 (sym at.linked.link ∙ ap (site_link x) same ∙ inv.callers.0.linked.link)).0
 
-pub open_all : (x : Site) (n : DataState) → ((s : ℕ) → length n.order < s → IsFresh x s) → (cs : List Caller) (now : ℕ) (b : Sofar) → OpenInv x n cs b
-    → OpenInv x n [] (opens_all cs now b)
-open_all x n fresh_at [] now b inv = inv
-open_all x n fresh_at (c ∷ cs) now b inv = open_all x n fresh_at cs now (opens c.app c.conn now b) (open_one x n fresh_at c cs now b inv)
-
--- The round ends where it is over.
-pub rounds_keep : (x : Site) (n : DataState) → ((s : ℕ) → length n.order < s → IsFresh x s) → Within n.order → AllByRecursion (CallerIs n x) n.callers
-    → all_differ (map app_of_caller n.callers) ≡ true
-    → ((r : Round) → n.round ≡ Some r → is_over r ≡ true → (app s : ℕ) → live_session n.order app ≡ Some s → HasLearnt x s) → (now : ℕ) (b : Sofar) → SaveInv x n b
-    → OpenInv x n [] (rounds now b)
-rounds_keep x n fresh_at within callers differ learnt now b inv = go (is_round_over b.state b.state.round) refl
-  where
-    open_with : (cs : List Caller) → AllByRecursion (CallerIs b.state x) cs → all_differ (map app_of_caller cs) ≡ true → OpenInv x n cs b
-    open_with cs calls apart = record {
-      nodes = inv.nodes;
-      frames = inv.frames;
-      cuts = inv.cuts;
-      noted = inv.noted;
-      replies = inv.replies;
-      there = λ k. ap (λ (ks : List Conn). is_some (option_map role_in (find (is_conn k) ks))) inv.conns;
-      longer = omega (arith, ap (λ (es : List Entry). length es) inv.order);
-      within = subst Within (sym inv.order) within;
-      callers = calls;
-      apart = apart;
-    }
-
-    calls : AllByRecursion (CallerIs b.state x) b.state.callers
-    calls =
-        subst (λ (cs : List Caller). AllByRecursion (CallerIs b.state x) cs) (sym inv.callers)
-        (all_follow (CallerIs n x) (CallerIs b.state x) (λ c at. caller_same x n b.state inv.conns inv.order c at) n.callers callers)
-
-    over_learnt : (o : Option Round) → b.state.round ≡ o → is_round_over b.state o ≡ true → (app s : ℕ) → live_session b.state.order app ≡ Some s → HasLearnt x s
-    over_learnt None its over = absurd (false≢true over)
-    over_learnt (Some r) its over = λ app s has. learnt r (sym inv.round ∙ its) (and_parts (is_over r) (not (list_any is_close (drop b.state.synced b.state.order))) over).0 app s (ap (λ (es : List Entry). live_session es app) (sym inv.order) ∙ has)
-
-    go : (over : Bool) → is_round_over b.state b.state.round ≡ over → OpenInv x n [] (round_ends_if over now b)
-    go false on = open_with [] tt refl
-    go true over =
-        open_all x n fresh_at b.state.callers now (come_back (live_ends b.state.order) now (writes (act.Back b.state.server) (becomes without_round b)))
-        (open_backs x n b.state.callers (live_ends b.state.order) now (writes (act.Back b.state.server) (becomes without_round b))
-        (all_follow (λ (e : LiveEnd). live_session b.state.order e.app ≡ Some e.session) (λ (e : LiveEnd). HasLearnt x e.session)
-        (λ e has. over_learnt b.state.round refl over e.app e.session has) (live_ends b.state.order) (ends_have all_apps b.state.order))
-        (open_state x n b.state.callers b (writes (act.Back b.state.server) (becomes without_round b)) (without_round b.state) refl refl refl refl refl refl inv.frames refl
-        (open_with b.state.callers calls (ap (λ (cs : List Caller). all_differ (map app_of_caller cs)) inv.callers ∙ differ))))
+pub open_all : (x : Site) (n : DataState) (gone : List ℕ) → ((s : ℕ) → length n.order < s → IsFresh x s) → (cs : List Caller) (now : ℕ) (b : Sofar) → OpenInv x n gone cs b
+    → OpenInv x n gone [] (opens_all cs now b)
+open_all x n gone fresh_at [] now b inv = inv
+open_all x n gone fresh_at (c ∷ cs) now b inv = open_all x n gone fresh_at cs now (opens c.app c.conn now b) (open_one x n gone fresh_at c cs now b inv)

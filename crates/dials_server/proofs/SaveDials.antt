@@ -1,7 +1,7 @@
 -- The part on connections, for a save at a data server.
-use Rattle.std.proofs.Common.{◌≡◌, ◌<◌, ℕ, zero, suc, Bool, true, false, not, ◌||◌, ◌==◌, List, [], ◌∷◌, length, filter, cond, if◌then◌else◌, drop, take, Option, Some, None, is_some, refl, sym, ◌∙◌, ap, subst, arith}
+use Rattle.std.proofs.Common.{◌≡◌, ◌<◌, ℕ, zero, suc, Bool, true, false, not, ◌||◌, ◌==◌, List, [], ◌∷◌, length, map, filter, cond, if◌then◌else◌, drop, take, Option, option_map, Some, None, is_some, refl, sym, ◌∙◌, ap, subst, arith}
 use Rattle.std.specs.Prelude.{nat_lt}
-use Rattle.std.specs.List.{AllByRecursion, list_any}
+use Rattle.std.specs.List.{AllByRecursion, find, list_any}
 use Rattle.std.proofs.lemmas.Bool.{eq-eqb, eqb-true, false≢true, ne_eqb}
 use Rattle.plain_orders.specs.declared.act.Act.{Act}
 use Rattle.plain_orders.specs.declared.entry.Entry.{Entry}
@@ -20,10 +20,12 @@ use Rattle.recovery_round.specs.RoundWords.{Round, is_over}
 use Rattle.block_holders.specs.declared.noted.Noted.{Noted}
 use Rattle.data_rules.specs.declared.data_in.DataIn.TheVariants as data_in
 use Rattle.data_rules.specs.declared.down_frames.DownOut.{DownOut}
+use Rattle.data_rules.specs.declared.rows.Caller.{Caller}
+use Rattle.data_rules.specs.declared.rows.Conn.{Conn}
 use Rattle.data_rules.specs.declared.rows.Says.{Says}
 use Rattle.data_rules.specs.declared.rows.Says.TheVariants.{NewWelcome, EpochWelcome, ResetOf, GrantOf, AnswerOf}
 use Rattle.data_rules.specs.DataState.{DataState}
-use Rattle.data_rules.specs.Conns.{role_of}
+use Rattle.data_rules.specs.Conns.{is_conn, role_in, role_of}
 use Rattle.data_rules.specs.Puts.{Sofar, becomes, begun}
 use Rattle.plain_orders.specs.ItemEntries.{is_item_of}
 use Rattle.data_rules.specs.Saving.{closed_in, has_item_of, part_saved, savers, writes_synced}
@@ -37,13 +39,13 @@ use Rattle.cluster_runs.specs.Connections.{hears_downs, leaves_conns}
 use Rattle.cluster_runs.specs.Lanes.{with_data_step}
 use Rattle.cluster_runs.specs.Goes.{ServerGoes, server_site, with_hellos, with_lanes, with_node}
 use Rattle.cluster_invariant.specs.Dials.{CarriesOf, ConnectionIs, DialsAre, LearntBy, NodeDials, has_conn, is_here}
-use Rattle.cluster_invariant.specs.Ends.{NodeEnds, RoundIs, is_done, is_undone}
+use Rattle.cluster_invariant.specs.Ends.{CallerIs, NodeEnds, app_of_caller, RoundIs, is_done, is_undone}
 use Rattle.cluster_invariant.specs.Holds.{Holds, SiteHolds}
 use Rattle.cluster_invariant.specs.Link.{LaneCounts, NodeLink}
 use Rattle.cluster_invariant.specs.Orders.{NodeOrder}
 use Rattle.cluster_invariant.specs.Served.{HasLearnt, IsServed}
 use Rattle.cluster_invariant.specs.Waiting.{ReplyWaits, WaitsFor}
-use Rattle.cluster_invariant.specs.Words.{is_same}
+use Rattle.cluster_invariant.specs.Words.{all_differ, is_same}
 use Rattle.cluster_invariant.proofs.AllLists.{all_follow, all_passed}
 use Rattle.cluster_invariant.proofs.Deeds.{order_by}
 use Rattle.cluster_invariant.proofs.OrderMoves.{step_from}
@@ -56,7 +58,9 @@ use Rattle.dials_server.proofs.FittingNodes.{PutsAll}
 use Rattle.dials_server.proofs.KnownServer.{dials_by_server}
 use Rattle.dials_server.proofs.OpenedNodes.{IsFresh, Within}
 use Rattle.dials_server.proofs.QuietServer.{lane_step}
-use Rattle.dials_server.proofs.RoundNodes.{OpenInv, rounds_keep}
+use Rattle.dials_server.proofs.GoNodes.{GoInv}
+use Rattle.dials_server.proofs.GoRounds.{rounds_go}
+use Rattle.dials_server.proofs.RoundNodes.{OpenInv, caller_same}
 use Rattle.dials_server.proofs.SaveNodes.{ReplyFits, SaveInv, SaysFit, save_acks, save_flush, save_releases, save_state}
 
 -- what a node's replies are for
@@ -189,6 +193,26 @@ saved_learnt x n upto items =
     learnt s has (Some dial) its = ap (λ (o : Option ℕ). is_some o) its
     learnt s has None its = absurd (false≢true (sym (items s its) ∙ unsynced (is_item_of s) n.synced upto n.order has))
 
+-- what holds before the round
+save_goes : (x : Site) (n : DataState) (b : Sofar) → Within n.order → AllByRecursion (CallerIs n x) n.callers → all_differ (map app_of_caller n.callers) ≡ true
+    → ((r : Round) → n.round ≡ Some r → is_over r ≡ true → (app s : ℕ) → live_session n.order app ≡ Some s → HasLearnt x s) → SaveInv x n b → GoInv x n [] b
+save_goes x n b within callers differ learnt inv = record {
+  nodes = inv.nodes;
+  frames = inv.frames;
+  cuts = inv.cuts;
+  noted = inv.noted;
+  requests = inv.requests;
+  replies = inv.replies;
+  there = λ k. ap (λ (ks : List Conn). is_some (option_map role_in (find (is_conn k) ks))) inv.conns;
+  longer = omega (arith, ap (λ (es : List Entry). length es) inv.order);
+  within = subst Within (sym inv.order) within;
+  callers =
+      subst (λ (cs : List Caller). AllByRecursion (CallerIs b.state x) cs) (sym inv.callers)
+      (all_follow (CallerIs n x) (CallerIs b.state x) (λ c at. caller_same x n b.state inv.conns inv.order c at) n.callers callers);
+  apart = ap (λ (cs : List Caller). all_differ (map app_of_caller cs)) inv.callers ∙ differ;
+  round = λ r its over app s has. learnt r (sym inv.round ∙ its) over app s (ap (λ (es : List Entry). live_session es app) (sym inv.order) ∙ has);
+}
+
 -- A save keeps it.
 pub dials_kept_by_save : (upto : ℕ) (l : Layout) (c : CoresState) (m : Machine) (server now : ℕ) (outs : MoveOuts) (written : List Act) (new : Machine)
     → Holds l m → IsRun l m.trail → IsRun l new.trail → Mirrors c m → Allowed c (ServerMove server now (data_in.Saved upto))
@@ -260,13 +284,13 @@ dials_kept_by_save upto l c m server now outs written new h run after_run shows 
         go true = save_state x n (begun n) (record n { synced = upto }) refl refl refl refl refl refl first.requests first.replies [] tt _ refl refl refl first
         go false = save_state x n (begun n) (record n { synced = upto }) refl refl refl refl refl refl first.requests first.replies [] tt _ refl refl refl first
 
-    made_x : OpenInv x n [] (record { state = goes.state; outs = goes.data_outs })
+    made_x : OpenInv x n [] [] (record { state = goes.state; outs = goes.data_outs })
     made_x =
-        subst (λ (b : Sofar). OpenInv x n [] b) (sym goes.steps)
-        (rounds_keep x n (fresh_at v x m.is_dead_at n.order order_v ordered_n its.dials) (within_ordered n.order ordered_n) ends.callers.each ends.callers.one_each
-        (over_learnt v x n ordered_n (λ s. its.link.lanes s x.past) ends.round) now _
+        subst (λ (b : Sofar). OpenInv x n [] [] b) (sym goes.steps)
+        (rounds_go x n [] (fresh_at v x m.is_dead_at n.order order_v ordered_n its.dials) now _
+        (save_goes x n _ (within_ordered n.order ordered_n) ends.callers.each ends.callers.one_each (over_learnt v x n ordered_n (λ s. its.link.lanes s x.past) ends.round)
         (save_acks x n (savers n.order (part_saved n upto)) _ (saved_learnt x n upto link.serves.items)
-        (save_flush x n _ (save_releases x n (closed_in (part_saved n upto)) _ begins))))
+        (save_flush x n _ (save_releases x n (closed_in (part_saved n upto)) _ begins)))))
 
     y : Site
     y = with_lanes n goes.state goes.data_outs (with_hellos (data_in.Saved upto) (leaves_conns [] (hears_downs fs (with_node now goes.state x))))

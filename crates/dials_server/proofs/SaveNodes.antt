@@ -115,7 +115,7 @@ pub all_one_more : {X : Type 0} (P : X → Type 0) (xs : List X) (z : X) → All
 all_one_more P [] z all is = (is, tt)
 all_one_more P (y ∷ ys) z all is = (all.0, all_one_more P ys z all.1 is)
 
-plain_fits : (m : Down) → IsPlain m → (x : Site) (n : DataState) (conn : ℕ) → TellsOn x conn → FitsOn m x n conn
+pub plain_fits : (m : Down) → IsPlain m → (x : Site) (n : DataState) (conn : ℕ) → TellsOn x conn → FitsOn m x n conn
 plain_fits (Welcome session epoch kept front taken) plain x n conn tells = absurd plain
 plain_fits (Reset session at) plain x n conn tells = absurd plain
 plain_fits (Block front block) plain x n conn tells = tells
@@ -191,7 +191,7 @@ save_releases x n (s ∷ ss) b inv = save_releases x n ss (releases s b) (go fre
 
 -- replies leave
 
-leaves_fit : (x : Site) (d : DataState) (says : Says) (b : Sofar) → SaysFit says x d → Tells x b.state → AllByRecursion (FrameFits x d) b.outs.frames
+pub leaves_fit : (x : Site) (d : DataState) (says : Says) (b : Sofar) → SaysFit says x d → Tells x b.state → AllByRecursion (FrameFits x d) b.outs.frames
     → AllByRecursion (FrameFits x d) (leaves says b).outs.frames
 leaves_fit x d (NewWelcome conn session) b fits tells all = all_one_more (FrameFits x d) b.outs.frames _ all fits
 leaves_fit x d (EpochWelcome conn session kept) b fits tells all = all_one_more (FrameFits x d) b.outs.frames _ all fits
