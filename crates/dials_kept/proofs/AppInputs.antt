@@ -1,7 +1,8 @@
 -- The part on connections for an application server's input: at each data server by itself, and where its end's connection goes on.
 use Rattle.std.proofs.Common.{◌≡◌, ◌≤◌, ℕ, Bool, true, false, ◌==◌, List, [], ◌++◌, length, Option, Some, None, option_map, if◌then◌else◌, refl, sym, ◌∙◌, ap, subst}
-use Rattle.std.specs.Prelude.{IfSome}
+use Rattle.std.specs.Prelude.{IfSome, nat_lt}
 use Rattle.std.specs.List.{AllByRecursion, list_all}
+use Rattle.std.proofs.lemmas.List.{append-nil}
 use Rattle.plain_orders.specs.declared.act.Act.{Act}
 use Rattle.plain_orders.specs.declared.layout.Layout.{Layout}
 use Rattle.plain_runs.specs.Plain.{Plain, Server, start}
@@ -9,6 +10,7 @@ use Rattle.plain_runs.specs.Run.{IsRun, RunFrom, after_all, state_after}
 use Rattle.plain_runs.proofs.RunLemmas.{run_parts, after_all-append}
 use Rattle.ecp_messages.specs.declared.up.UpFrame.{UpFrame}
 use Rattle.ecp_messages.specs.declared.down.Down.{Down}
+use Rattle.ecp_messages.specs.declared.down.DownFrame.{DownFrame}
 use Rattle.app_rules.specs.declared.app_in.AppIn.{AppIn}
 use Rattle.app_rules.specs.declared.app_outs.AppOuts.{AppOuts}
 use Rattle.app_rules.specs.AppState.{AppEnd}
@@ -117,9 +119,15 @@ passes_grows x y same true us z q is follow alone = record {
   ups = ap (λ (fs : List UpFrame). fs ++ us) is.ups;
   follow = follow;
   alone = alone;
-  ups_taken = is.ups_taken;
-  downs = is.downs;
-  within = is.within;
+  untaken = λ none. sym is.ups_taken ∙ none;
+  within_ups = λ low. subst (λ (n : ℕ). n ≤ length z.ups) (sym is.ups_taken) low;
+  counted = ap (λ (n : ℕ). nat_lt 0 n) is.ups_taken;
+  heard = [];
+  downs = is.downs ∙ sym (append-nil z.downs);
+  within = λ low. subst (λ (fs : List DownFrame). q.downs_taken ≤ length fs) (sym is.downs) (is.within low);
+  unheard = λ none. refl;
+  quiet = λ none. refl;
+  unreset = refl;
   linked = is.linked;
   its = is.its;
   knew = is.knew;
@@ -131,9 +139,15 @@ passes_grows x y same false us z q is follow alone = record {
   ups = ap (λ (fs : List UpFrame). fs ++ us) is.ups;
   follow = follow;
   alone = alone;
-  ups_taken = is.ups_taken;
-  downs = is.downs;
-  within = is.within;
+  untaken = λ none. sym is.ups_taken ∙ none;
+  within_ups = λ low. subst (λ (n : ℕ). n ≤ length z.ups) (sym is.ups_taken) low;
+  counted = ap (λ (n : ℕ). nat_lt 0 n) is.ups_taken;
+  heard = [];
+  downs = is.downs ∙ sym (append-nil z.downs);
+  within = λ low. subst (λ (fs : List DownFrame). q.downs_taken ≤ length fs) (sym is.downs) (is.within low);
+  unheard = λ none. refl;
+  quiet = λ none. refl;
+  unreset = refl;
   linked = is.linked;
   its = is.its;
   knew = is.knew;

@@ -1,8 +1,8 @@
 -- Connections that go on: what is said of them and of a node that has them stays, where a move lengthens them or leaves them as they were.
-use Rattle.std.proofs.Common.{◌≡◌, ◌≤◌, ◌<◌, ℕ, Bool, true, not, List, [], ◌∷◌, ◌++◌, ◌&&◌, length, drop, Option, Some, None, is_some, refl, sym, ◌∙◌, ap, subst, arith, inl, inr, length-append, nat_lt}
+use Rattle.std.proofs.Common.{◌≡◌, ◌≤◌, ◌<◌, ℕ, Bool, true, false, not, List, [], ◌∷◌, ◌++◌, ◌&&◌, length, drop, Option, Some, None, is_some, refl, sym, ◌∙◌, ap, subst, arith, inl, inr, length-append, nat_lt}
 use Rattle.std.specs.Prelude.{⊤, IfSome, IsSomeAnd}
 use Rattle.std.proofs.lemmas.List.Folds.{list_all-append}
-use Rattle.std.specs.List.{list_all}
+use Rattle.std.specs.List.{list_all, list_any}
 use Rattle.plain_orders.specs.Entries.{last_epoch}
 use Rattle.plain_orders.specs.Sessions.{app_in}
 use Rattle.plain_runs.specs.Plain.{Server, current, order_at}
@@ -16,7 +16,7 @@ use Rattle.cluster_runs.specs.Sent.{Connection, Knew, Mark, Place, FirstTaken}
 use Rattle.cluster_runs.specs.Machine.{Site, End}
 use Rattle.cluster_runs.specs.Connections.{link_of, knows}
 use Rattle.cluster_invariant.specs.Dials.{ConnectionIs, PairDials, KnewIs, FirstIs, CarriesOf, WasTold, KnowsStill, first_message, first_frame, is_left_at, is_following, is_made, taken_in}
-use Rattle.cluster_invariant.specs.Words.{NoLess, MarkNoLess, stays_at, is_begun, is_wire}
+use Rattle.cluster_invariant.specs.Words.{NoLess, MarkNoLess, stays_at, is_begun, is_reset_frame, is_wire}
 use Rattle.cluster_invariant.proofs.Small.{some_kept}
 
 -- what is known, compared
@@ -63,15 +63,23 @@ pub record SiteGrows (x y : Site) : Type 0 where
   pub begun : (s k : ℕ) → is_begun (x.lane_at s k) ≡ true → is_begun (y.lane_at s k) ≡ true
   pub taken : (s k : ℕ) → (x.lane_at s k).down_taken ≤ (y.lane_at s k).down_taken
 
--- A connection goes on: frames more behind the first, and frames more that the application end took.
+-- A connection goes on: frames more behind the first, frames more that the application end took, and frames more downwards.
 pub record Grows (x y : Site) (c d : Connection) : Type 0 where
   pub more : List UpFrame
   pub ups : d.ups ≡ c.ups ++ more
   pub follow : list_all is_following more ≡ true
   pub alone : c.ups_taken ≡ 0 → more ≡ []
-  pub ups_taken : d.ups_taken ≡ c.ups_taken
-  pub downs : d.downs ≡ c.downs
-  pub within : c.downs_taken ≤ length c.downs → d.downs_taken ≤ length c.downs
+  -- the data end may have taken more of one of which it took something
+  pub untaken : d.ups_taken ≡ 0 → c.ups_taken ≡ 0
+  pub within_ups : c.ups_taken ≤ length c.ups → d.ups_taken ≤ length c.ups
+  pub counted : nat_lt 0 d.ups_taken ≡ nat_lt 0 c.ups_taken
+  -- frames downwards, no Reset, on one whose Welcome was put
+  pub heard : List DownFrame
+  pub downs : d.downs ≡ c.downs ++ heard
+  pub within : c.downs_taken ≤ length c.downs → d.downs_taken ≤ length d.downs
+  pub unheard : c.ups_taken ≡ 0 → heard ≡ []
+  pub quiet : c.its ≡ None → heard ≡ []
+  pub unreset : list_any is_reset_frame heard ≡ false
   pub linked : d.linked ≡ c.linked
   pub its : d.its ≡ c.its
   pub knew : d.knew ≡ c.knew
@@ -112,10 +120,10 @@ knew_later v w x y later grows app s m is = record {
   stays = later.stays m.order is.there is.stays;
 }
 
-first_later : (v w : Server) (x y : Site) → StaysKnown v w → SiteGrows x y → (app number : ℕ) (f : FirstTaken) → FirstIs v x app number f → FirstIs w y app number f
+pub first_later : (v w : Server) (x y : Site) → StaysKnown v w → SiteGrows x y → (app number : ℕ) (f : FirstTaken) → FirstIs v x app number f → FirstIs w y app number f
 first_later v w x y later grows app number f is = record { there = omega (arith, is.there, later.there); linked = grows.links f.conn _ is.linked }
 
-carries_later : (v w : Server) (x : Site) → StaysKnown v w → (app number : ℕ) (first : Option FirstTaken) → IfSome first (FirstIs v x app number) → (p : Place)
+pub carries_later : (v w : Server) (x : Site) → StaysKnown v w → (app number : ℕ) (first : Option FirstTaken) → IfSome first (FirstIs v x app number) → (p : Place)
     → CarriesOf v app first p → CarriesOf w app first p
 carries_later v w x later app number first where_taken p is = record {
   order = is.order;
@@ -134,14 +142,16 @@ connection_later v w x y later grows app number c d g is = record {
       whole ∙ ap (λ (f : UpFrame). f ∷ (drop 1 c.ups ++ g.more)) frame
       ∙ ap (λ (fs : List UpFrame). first_frame w app number d.knew ∷ fs) (sym (ap (drop 1) whole));
   behind = ap (λ (fs : List UpFrame). list_all is_following (drop 1 fs)) whole ∙ follow_joined (drop 1 c.ups) g.more is.behind g.follow;
-  ups_taken = omega (arith, g.ups_taken, is.ups_taken, ap (λ (fs : List UpFrame). length fs) g.ups, length-append c.ups g.more);
-  downs_taken = subst (λ (fs : List DownFrame). d.downs_taken ≤ length fs) (sym g.downs) (g.within is.downs_taken);
+  ups_taken = omega (arith, g.within_ups is.ups_taken, ap (λ (fs : List UpFrame). length fs) g.ups, length-append c.ups g.more);
+  downs_taken = g.within is.downs_taken;
   alone =
       λ none.
-      ap (λ (fs : List UpFrame). drop 1 fs) whole ∙ ap (λ (fs : List UpFrame). fs ++ g.more) (is.alone (sym g.ups_taken ∙ none))
-      ∙ g.alone (sym g.ups_taken ∙ none);
-  silent = λ none. g.downs ∙ is.silent (sym g.ups_taken ∙ none);
-  linked = g.linked ∙ is.linked ∙ ap (λ (n : ℕ). nat_lt 0 n) (sym g.ups_taken);
+      ap (λ (fs : List UpFrame). drop 1 fs) whole ∙ ap (λ (fs : List UpFrame). fs ++ g.more) (is.alone (g.untaken none))
+      ∙ g.alone (g.untaken none);
+  silent =
+      λ none.
+      g.downs ∙ ap (λ (fs : List DownFrame). fs ++ g.heard) (is.silent (g.untaken none)) ∙ g.unheard (g.untaken none);
+  linked = g.linked ∙ is.linked ∙ sym g.counted;
   taken = ap (λ (o : Option FirstTaken). is_some o) g.first ∙ is.taken ∙ sym g.linked;
   where_taken =
       subst (λ (o : Option FirstTaken). IfSome o (FirstIs w y app number)) (sym g.first)

@@ -308,9 +308,15 @@ dials_kept_by_job l c m job now line command outs written new h run after_run sh
             ups = refl;
             follow = frames_follow (is_joined e.state.line) (session_at a d).window (grew d).put (grew d).may;
             alone = none_put v x app e.state.dial e z (session_at a d).window (grew d).put e.state.line down made;
-            ups_taken = refl;
-            downs = refl;
+            untaken = λ none. none;
+            within_ups = λ low. low;
+            counted = refl;
+            heard = [];
+            downs = sym (append-nil z.downs);
             within = λ low. low;
+            unheard = λ none. refl;
+            quiet = λ none. refl;
+            unreset = refl;
             linked = refl;
             its = refl;
             knew = refl;

@@ -1,5 +1,6 @@
 -- What a running node has of its pairs' connections stays, where they go on; and so does the whole part.
-use Rattle.std.proofs.Common.{◌≡◌, ◌≤◌, ℕ, Bool, true, List, Option, Some, None, is_some, refl, sym, ◌∙◌, ap, subst, arith}
+use Rattle.std.proofs.Common.{◌≡◌, ◌≤◌, ℕ, Bool, true, ◌||◌, List, ◌++◌, Option, Some, None, is_some, refl, sym, ◌∙◌, ap, subst, arith}
+use Rattle.std.proofs.lemmas.List.Folds.{list_any-append}
 use Rattle.std.specs.Prelude.{IfSome, IsSomeAnd}
 use Rattle.std.specs.List.{list_any}
 use Rattle.plain_orders.specs.declared.entry.Entry.{Entry}
@@ -122,8 +123,12 @@ bound_later x y es s past c d g both = record {
       g.its
       ∙ subst (λ (k : ℕ). is_begun (y.lane_at s k) ≡ true → c.its ≡ Some (record { session = s; order = k })) (sym past)
       both.0 at;
-  silent = λ none. g.downs ∙ both.1.silent (sym g.its ∙ none);
-  unreset = ap (λ (fs : List DownFrame). list_any is_reset_frame fs) g.downs ∙ both.1.unreset;
+  silent =
+      λ none.
+      g.downs ∙ ap (λ (fs : List DownFrame). fs ++ g.heard) (both.1.silent (sym g.its ∙ none)) ∙ g.quiet (sym g.its ∙ none);
+  unreset =
+      ap (λ (fs : List DownFrame). list_any is_reset_frame fs) g.downs ∙ list_any-append is_reset_frame c.downs g.heard
+      ∙ ap (λ (b : Bool). b || list_any is_reset_frame g.heard) both.1.unreset ∙ g.unreset;
 }
 
 closed_later : (x y : Site) (s : ℕ) → y.past ≡ x.past → (c d : Connection) → Grows x y c d → ClosedOn x s c → ClosedOn y s d

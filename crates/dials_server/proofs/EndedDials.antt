@@ -2,7 +2,7 @@
 use Rattle.std.proofs.Common.{◌≡◌, ℕ, Bool, true, false, not, filter, ◌&&◌, ◌==◌, if◌then◌else◌, List, [], Option, Some, None, is_some, option_map, refl, sym, ◌∙◌, ap, subst, arith}
 use Rattle.std.specs.Prelude.{IsSomeAnd}
 use Rattle.std.specs.List.{find}
-use Rattle.std.proofs.lemmas.Bool.{and_parts, eq-eqb, eqb-true, false≢true}
+use Rattle.std.proofs.lemmas.Bool.{eq-eqb, eqb-true, false≢true}
 use Rattle.std.proofs.lemmas.List.{append-nil}
 use Rattle.plain_orders.specs.declared.act.Act.{Act}
 use Rattle.plain_orders.specs.declared.layout.Layout.{Layout}
@@ -21,7 +21,7 @@ use Rattle.link_states.specs.declared.link_event.LinkEvent.TheVariants.{Ended}
 use Rattle.data_rules.specs.Puts.{Sofar, becomes, begun}
 use Rattle.cluster_runs.specs.declared.move_outs.MoveOuts.{MoveOuts}
 use Rattle.cluster_runs.specs.declared.moves.Move.TheVariants.{Server as ServerMove}
-use Rattle.cluster_runs.specs.CoresState.{CoresState, Linked}
+use Rattle.cluster_runs.specs.CoresState.{CoresState}
 use Rattle.cluster_runs.specs.Machine.{Machine, Site, DataConnection}
 use Rattle.cluster_runs.specs.Mirrors.{Mirrors}
 use Rattle.cluster_runs.specs.Moves.{Allowed}
@@ -35,6 +35,7 @@ use Rattle.cluster_invariant.proofs.Small.{of_some}
 use Rattle.dials_kept.proofs.ConnectionsGrow.{Grows, StaysKnown}
 use Rattle.dials_kept.proofs.ShortDials.{EachDials}
 use Rattle.dials_server.proofs.KnownServer.{dials_by_server}
+use Rattle.dials_server.proofs.LinkWords.{is_link_true}
 use Rattle.dials_server.proofs.NodeConns.{conn_goes, node_goes, there_fewer}
 use Rattle.dials_server.proofs.QuietServer.{Quietly, dials_quietly, lane_step, of_some_and}
 
@@ -63,14 +64,6 @@ loses_only (Some New) now b = loses_same b
 loses_only (Some Waiting) now b = loses_same b
 loses_only (Some (Bound s)) now b = breaks_only (app_in b.state.order s) now b
 loses_only (Some (Closing s)) now b = loses_same b
-
-is_link_true : (a m : ℕ) (o : Option Linked) → is_link a m o ≡ true → o ≡ Some (record { app = a; dial = m })
-is_link_true a m None is = absurd (false≢true is)
-is_link_true a m (Some l) is = go (and_parts (l.app == a) (l.dial == m) is)
-  where
-    go : ((l.app == a) ≡ true) × ((l.dial == m) ≡ true) → Some l ≡ Some (record { app = a; dial = m })
-    go parts =
-        ap (λ (i : ℕ). Some (record { app = i; dial = l.dial })) (eqb-true l.app a parts.0) ∙ ap (λ (i : ℕ). Some (record { app = a; dial = i })) (eqb-true l.dial m parts.1)
 
 none_is_here : (o : Option DataConnection) → is_here (option_map left o) ≡ false
 none_is_here None = refl
@@ -174,9 +167,15 @@ broken_site v w x dead n m outs now conn later runs frames cuts order dials conn
           ups = sym (append-nil c.ups);
           follow = refl;
           alone = λ none. refl;
-          ups_taken = refl;
-          downs = refl;
+          untaken = λ none. none;
+          within_ups = λ low. low;
+          counted = refl;
+          heard = [];
+          downs = sym (append-nil c.downs);
           within = λ low. low;
+          unheard = λ none. refl;
+          quiet = λ none. refl;
+          unreset = refl;
           linked = refl;
           its = refl;
           knew = refl;
@@ -188,9 +187,15 @@ broken_site v w x dead n m outs now conn later runs frames cuts order dials conn
           ups = sym (append-nil c.ups);
           follow = refl;
           alone = λ none. refl;
-          ups_taken = refl;
-          downs = refl;
+          untaken = λ none. none;
+          within_ups = λ low. low;
+          counted = refl;
+          heard = [];
+          downs = sym (append-nil c.downs);
           within = λ low. low;
+          unheard = λ none. refl;
+          quiet = λ none. refl;
+          unreset = refl;
           linked = refl;
           its = refl;
           knew = refl;

@@ -61,6 +61,21 @@ node_goes y n m go is = record {
     each conn (Some r) its (inl was) = same conn r its (of_some (RoleIs y n conn) (role_of n conn) r was (is.roles conn))
     each conn (Some r) its (inr new) = subst (λ (q : Role). RoleIs y m conn q) (sym new.0) new.1
 
+-- A node that has the same of them.
+pub node_same : (y : Site) (n m : DataState) → m.order ≡ n.order → m.conns ≡ n.conns → m.dials ≡ n.dials → NodeDials y n → NodeDials y m
+node_same y n m order conns dials is = node_goes y n m (record {
+  order = order;
+  dials = dials;
+  differ = ap (λ (cs : List Conn). all_differ (map number_of cs)) conns ∙ is.differ;
+  roles = λ conn. subst (λ (cs : List Conn). IfSome (option_map role_in (find (is_conn conn) cs)) (λ r. (role_of n conn ≡ Some r) ⊎ ((r ≡ New) × (link_of y conn ≡ None))))
+      (sym conns) (own conn (role_of n conn) refl);
+  bound = λ conn s its was. ap (λ (cs : List Conn). option_map number_of (find (is_bound_to s) cs)) conns ∙ was;
+}) is
+  where
+    own : (conn : ℕ) (o : Option Role) → role_of n conn ≡ o → IfSome o (λ r. (role_of n conn ≡ Some r) ⊎ ((r ≡ New) × (link_of y conn ≡ None)))
+    own conn None its = tt
+    own conn (Some r) its = inl its
+
 -- one more
 
 -- what is found, or else the last

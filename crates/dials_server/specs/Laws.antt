@@ -28,3 +28,11 @@ AcceptsKeepDials = (conn : ℕ) → StepKeepsDials (data_in.Connected conn)
 -- One that ended there does.
 abbrev pub EndingsKeepDials : Type 0
 EndingsKeepDials = (conn : ℕ) → StepKeepsDials (data_in.Broken conn)
+
+-- A tick does.
+abbrev pub ServerTicksKeepDials : Type 0
+ServerTicksKeepDials = StepKeepsDials data_in.Tick
+
+-- A save does.
+abbrev pub SavesKeepDials : Type 0
+SavesKeepDials = (upto : ℕ) → StepKeepsDials (data_in.Saved upto)

@@ -1,0 +1,354 @@
+-- What a tick makes of a data server's connections: sessions whose time is over are closed, and what that drops is put to others.
+use Rattle.std.proofs.Common.{◌≡◌, ◌⊎◌, ◌≤◌, ◌<◌, ℕ, zero, suc, ◌+◌, Bool, true, false, ◌==◌, if◌then◌else◌, List, [], ◌∷◌, ◌++◌, length, map, filter, reverse, Option, Some, None, is_some, option_map, refl, sym, ◌∙◌, ap, subst, arith, inl, inr}
+use Rattle.std.specs.Prelude.{⊤, IsSomeAnd, get_or, set, nat_le, nat_lt}
+use Rattle.std.specs.List.{AllByRecursion, find, range_with_len}
+use Rattle.std.proofs.lemmas.Bool.{eq-eqb, eqb-true, false≢true, ltb-false, ltb-true}
+use Rattle.std.proofs.lemmas.List.{get_or-set_other, get_or-set_same, get_or_past, length-set}
+use Rattle.plain_orders.specs.declared.act.Act.TheVariants as act
+use Rattle.plain_orders.specs.declared.causes.ShutCause.{ShutCause}
+use Rattle.plain_orders.specs.declared.causes.ShutCause.TheVariants as shuts
+use Rattle.plain_orders.specs.declared.entry.Entry.{Entry}
+use Rattle.plain_orders.specs.declared.entry.Entry.TheVariants.{Closed}
+use Rattle.plain_orders.specs.Entries.{live_session, unless_closed}
+use Rattle.plain_orders.specs.Ordered.{IsOrdered}
+use Rattle.plain_orders.specs.Times.{until}
+use Rattle.plain_orders.proofs.EntryLemmas.{live_session-push}
+use Rattle.plain_orders.proofs.PastLemmas.{kept_open, ordered_past}
+use Rattle.link_states.specs.declared.data_link.DataLink.{DataLink}
+use Rattle.link_states.specs.declared.data_link.DataLink.TheVariants.{Free, Normal, Trouble, Recovering}
+use Rattle.link_states.specs.declared.link_event.LinkEvent.TheVariants.{Ticked}
+use Rattle.link_states.specs.Tables.{data_next}
+use Rattle.lock_table.specs.declared.rows.Request.{Request}
+use Rattle.lock_table.specs.LockWords.{is_request_of}
+use Rattle.ecp_messages.specs.declared.down.Down.{Down}
+use Rattle.subscript_keys.specs.declared.span.Span.{Span}
+use Rattle.block_holders.specs.declared.noted.Noted.{Noted}
+use Rattle.block_holders.specs.HolderWords.{forgotten, is_noted_elsewhere, is_touched, is_untouched, touched}
+use Rattle.end_words.specs.Windows.{sent, with_sent}
+use Rattle.data_rules.specs.declared.down_frames.DownOut.{DownOut}
+use Rattle.data_rules.specs.declared.rows.Conn.{Conn}
+use Rattle.data_rules.specs.declared.rows.Role.TheVariants.{Bound, Closing}
+use Rattle.data_rules.specs.DataState.{DataState}
+use Rattle.data_rules.specs.Closing.{cancels, cancels_all, silenced, unawaited, waits_for_reset}
+use Rattle.data_rules.specs.Conns.{is_conn, link_of, role_in, role_of, with_event, with_link, with_role_if}
+use Rattle.data_rules.specs.Entering.{appends, drops, drops_one, spans_of, with_entry}
+use Rattle.data_rules.specs.Opening.{ends_among, with_end}
+use Rattle.data_rules.specs.Places.{epoch_place}
+use Rattle.data_rules.specs.Puts.{Sofar, becomes, conn_of, is_bound_to, number_of, puts, tells_on, window_of, with_window, writes}
+use Rattle.data_rules.specs.Saving.{cause_of, closes_late, hears_tick, is_free, ticks, ticks_end, ticks_one}
+use Rattle.data_rules.specs.Messages.{is_awaited}
+use Rattle.cluster_runs.specs.CoresState.{Linked}
+use Rattle.cluster_runs.specs.Sent.{Connection}
+use Rattle.cluster_runs.specs.Machine.{Site}
+use Rattle.cluster_invariant.specs.Dials.{BoundIs, BoundTo, NodeDials, RoleIs}
+use Rattle.cluster_invariant.specs.Served.{HasLearnt}
+use Rattle.cluster_invariant.proofs.AllLists.{all_filtered}
+use Rattle.cluster_invariant.proofs.ConnRoles.{bound_role}
+use Rattle.cluster_invariant.proofs.PutLaws.{Appended, OnlyLocks, appends_state, only_cancels, only_puts, with_appended}
+use Rattle.cluster_invariant.proofs.Small.{of_some}
+use Rattle.cluster_invariant.proofs.Written.{closed_place}
+use Rattle.dials_server.proofs.ClosedNodes.{conns_closed, node_closes, still_unbound, there_still}
+use Rattle.dials_server.proofs.NodeConns.{node_same}
+use Rattle.dials_server.proofs.PlainFrames.{IsPlain, PlainOn, TellsOn}
+
+-- putting to sessions that learnt of the order
+
+-- their connections carry their messages
+abbrev pub Tells : Site → DataState → Type 0
+Tells z n = (s conn : ℕ) → HasLearnt z s → conn_of n s ≡ Some conn → TellsOn z conn
+
+pub tells_of : (z : Site) (n : DataState) → NodeDials z n → Tells z n
+tells_of z n is s conn learnt its = go (of_some (RoleIs z n conn) (role_of n conn) (Bound s) (bound_role s n.conns conn is.differ its) (is.roles conn))
+  where
+    carries : (o : Option Connection) → IsSomeAnd o (BoundTo z n.order s) → IsSomeAnd o (λ c. is_some c.its ≡ true)
+    carries None at = at
+    carries (Some c) at = ap is_some (at.told learnt)
+
+    go : BoundIs z n conn s → TellsOn z conn
+    go at =
+        subst (λ (o : Option Linked). IsSomeAnd o (λ l. IsSomeAnd ((z.end_at l.app).connection_at l.dial) (λ c. is_some c.its ≡ true))) (sym at.linked.link)
+        (carries ((z.end_at at.app).connection_at at.linked.dial) at.linked.its)
+
+all_one_more : {X : Type 0} (P : X → Type 0) (xs : List X) (x : X) → AllByRecursion P xs → P x → AllByRecursion P (xs ++ x ∷ [])
+all_one_more P [] x all is = (is, tt)
+all_one_more P (y ∷ ys) x all is = (all.0, all_one_more P ys x all.1 is)
+
+pub puts_plain : (z : Site) (s : ℕ) (m : Down) (b : Sofar) → IsPlain m → HasLearnt z s → Tells z b.state → AllByRecursion (PlainOn z) b.outs.frames
+    → AllByRecursion (PlainOn z) (puts s m b).outs.frames
+puts_plain z s m b plain learnt tells all = go (conn_of b.state s) refl
+  where
+    go : (o : Option ℕ) → conn_of b.state s ≡ o
+        → AllByRecursion (PlainOn z) (tells_on s o (sent (window_of b.state s) + 1) m (becomes (λ d. with_window s (with_sent (window_of d s) m) d) b)).outs.frames
+    go None its = all
+    go (Some conn) its = all_one_more (PlainOn z) b.outs.frames _ all (record { plain = plain; tells = tells s conn learnt its })
+
+-- putting leaves the connections
+pub puts_tells : (z : Site) (s : ℕ) (m : Down) (b : Sofar) → Tells z b.state → Tells z (puts s m b).state
+puts_tells z s m b tells = subst (λ (d : DataState). Tells z d) (sym (only_puts s m b).state) tells
+
+pub drops_plain : (z : Site) (before : ℕ) (xs : List Noted) (b : Sofar) → AllByRecursion (λ y. HasLearnt z y.session) xs → Tells z b.state
+    → AllByRecursion (PlainOn z) b.outs.frames → AllByRecursion (PlainOn z) (drops before xs b).outs.frames
+drops_plain z before [] b learnt tells all = all
+drops_plain z before (x ∷ xs) b learnt tells all =
+    drops_plain z before xs (drops_one before x xs b) learnt.1 (puts_tells z x.session _ b tells) (puts_plain z x.session _ b tt learnt.0 tells all)
+
+-- closing
+
+-- What a Close makes, where the session's connection awaits its Reset.
+record ClosedBy (z : Site) (b c : Sofar) (s : ℕ) : Type 0 where
+  order : c.state.order ≡ b.state.order ++ Closed s ∷ []
+  dials : c.state.dials ≡ b.state.dials
+  links : c.state.links ≡ b.state.links
+  conns : c.state.conns ≡ conns_closed (conn_of b.state s) s b.state.conns
+  noted : AllByRecursion (λ (y : Noted). HasLearnt z y.session) b.state.noted → AllByRecursion (λ (y : Noted). HasLearnt z y.session) c.state.noted
+  frames : AllByRecursion (λ (y : Noted). HasLearnt z y.session) b.state.noted → Tells z b.state → AllByRecursion (PlainOn z) b.outs.frames
+      → AllByRecursion (PlainOn z) c.outs.frames
+  cuts : c.outs.cuts ≡ b.outs.cuts
+
+-- the connection awaits it
+resets : (z : Site) (b c : Sofar) (s at : ℕ) (o : Option ℕ) → conn_of b.state s ≡ o → c.state.order ≡ b.state.order ++ Closed s ∷ [] → c.state.dials ≡ b.state.dials
+    → c.state.links ≡ b.state.links → c.state.conns ≡ b.state.conns
+    → (AllByRecursion (λ (y : Noted). HasLearnt z y.session) b.state.noted → AllByRecursion (λ (y : Noted). HasLearnt z y.session) c.state.noted)
+    → (AllByRecursion (λ (y : Noted). HasLearnt z y.session) b.state.noted → Tells z b.state → AllByRecursion (PlainOn z) b.outs.frames
+    → AllByRecursion (PlainOn z) c.outs.frames) → c.outs.cuts ≡ b.outs.cuts → ClosedBy z b (waits_for_reset o s at c) s
+resets z b c s at None its order dials links conns noted frames cuts = record {
+  order = order;
+  dials = dials;
+  links = links;
+  conns = conns ∙ ap (λ (o : Option ℕ). conns_closed o s b.state.conns) (sym its);
+  noted = noted;
+  frames = frames;
+  cuts = cuts;
+}
+resets z b c s at (Some conn) its order dials links conns noted frames cuts = record {
+  order = order;
+  dials = dials;
+  links = links;
+  conns = ap (λ (cs : List Conn). map (with_role_if conn (Closing s)) cs) conns ∙ ap (λ (o : Option ℕ). conns_closed o s b.state.conns) (sym its);
+  noted = noted;
+  frames = frames;
+  cuts = cuts;
+}
+
+closed_by : (z : Site) (s : ℕ) (cause : ShutCause) (b : Sofar)
+    → ClosedBy z b (waits_for_reset (conn_of b.state s) s (length b.state.order + 1)
+    (cancels_all s (becomes (unawaited s) (appends (Closed s) (becomes (silenced s) (writes (act.Shut b.state.server s cause) b)))))) s
+closed_by z s cause b =
+    resets z b c s (length b.state.order + 1) (conn_of b.state s) refl (ap (λ (d : DataState). d.order) state) (ap (λ (d : DataState). d.dials) state)
+    (ap (λ (d : DataState). d.links) state) (ap (λ (d : DataState). d.conns) state)
+    (λ learnt.
+    subst (λ (xs : List Noted). AllByRecursion (λ (y : Noted). HasLearnt z y.session) xs) (sym (ap (λ (d : DataState). d.noted) state))
+    (all_filtered (λ (y : Noted). HasLearnt z y.session) (is_untouched spans) (forgotten s b.state.noted)
+    (all_filtered (λ (y : Noted). HasLearnt z y.session) (is_noted_elsewhere s) b.state.noted learnt)))
+    (λ learnt tells all.
+    subst (λ (fs : List DownOut). AllByRecursion (PlainOn z) fs) (sym cancelled.frames)
+    (drops_plain z (length b.state.order) (touched spans (forgotten s b.state.noted)) (becomes (with_entry (Closed s) spans) silent)
+    (all_filtered (λ (y : Noted). HasLearnt z y.session) (is_touched spans) (forgotten s b.state.noted)
+    (all_filtered (λ (y : Noted). HasLearnt z y.session) (is_noted_elsewhere s) b.state.noted learnt)) tells all)) (cancelled.cuts ∙ closed.cuts)
+  where
+    silent : Sofar
+    silent = becomes (silenced s) (writes (act.Shut b.state.server s cause) b)
+
+    spans : List Span
+    spans = spans_of silent.state (Closed s)
+
+    after : Sofar
+    after = becomes (unawaited s) (appends (Closed s) silent)
+
+    rs : List Request
+    rs = reverse (filter (is_request_of s) after.state.locks.requests)
+
+    c : Sofar
+    c = cancels rs after
+
+    closed : Appended (Closed s) silent (appends (Closed s) silent)
+    closed = appends_state (Closed s) silent
+
+    cancelled : OnlyLocks after c
+    cancelled = only_cancels rs after
+
+    state : c.state ≡ record (unawaited s (with_appended (Closed s) closed.windows silent.state)) { locks = cancelled.locks; replies = cancelled.replies }
+    state = cancelled.state ∙ ap (λ (d : DataState). record (unawaited s d) { locks = cancelled.locks; replies = cancelled.replies }) closed.state
+
+-- ends
+
+-- a link fits the live session of its end
+abbrev pub LinkFits : DataLink → ℕ → DataState → Type 0
+LinkFits Free s n = ⊤
+LinkFits Normal s n = ⊤
+LinkFits (Trouble broke) s n = conn_of n s ≡ None
+LinkFits (Recovering due) s n = s < epoch_place n.order
+
+fits_same : (l : DataLink) (s : ℕ) (n m : DataState) → m.conns ≡ n.conns → m.order ≡ n.order → LinkFits l s n → LinkFits l s m
+fits_same Free s n m conns order fits = tt
+fits_same Normal s n m conns order fits = tt
+fits_same (Trouble broke) s n m conns order fits = ap (λ (cs : List Conn). option_map number_of (find (is_bound_to s) cs)) conns ∙ fits
+fits_same (Recovering due) s n m conns order fits = subst (λ (es : List Entry). s < epoch_place es) (sym order) fits
+
+-- What holds between the ends' ticks.
+pub record TickInv (z : Site) (n : DataState) (b : Sofar) : Type 0 where
+  pub nodes : NodeDials z b.state
+  pub frames : AllByRecursion (PlainOn z) b.outs.frames
+  pub cuts : b.outs.cuts ≡ []
+  pub noted : AllByRecursion (λ y. HasLearnt z y.session) b.state.noted
+  pub links : (app s : ℕ) → live_session b.state.order app ≡ Some s → LinkFits (link_of b.state app) s b.state
+  -- the same connections are there
+  pub there : (k : ℕ) → is_some (role_of b.state k) ≡ is_some (role_of n k)
+
+-- a link is set, or isn't there
+set_at : (P : DataLink → Type 0) (xs : List DataLink) (i : ℕ) (v d : DataLink) → P v → P (get_or xs i d) → P (get_or (set xs i v) i d)
+set_at P xs i v d here before = go (nat_lt i (length xs)) refl
+  where
+    go : (b : Bool) → nat_lt i (length xs) ≡ b → P (get_or (set xs i v) i d)
+    go true low = subst P (sym (get_or-set_same xs i v d (ltb-true i (length xs) low))) here
+    go false past =
+        subst P (get_or_past xs i d (ltb-false i (length xs) past) ∙ sym (get_or_past (set xs i v) i d (omega (arith, ltb-false i (length xs) past, length-set xs i v)))) before
+
+evented : (z : Site) (n : DataState) (b : Sofar) (app : ℕ) (v : DataLink) → ((s : ℕ) → live_session b.state.order app ≡ Some s → LinkFits v s b.state) → TickInv z n b
+    → TickInv z n (becomes (with_link app v) b)
+evented z n b app v fits inv = record {
+  nodes = node_same z b.state (with_link app v b.state) refl refl refl inv.nodes;
+  frames = inv.frames;
+  cuts = inv.cuts;
+  noted = inv.noted;
+  links = λ a s has. fits_same (link_of (with_link app v b.state) a) s b.state (with_link app v b.state) refl refl (go a s has (a == app) refl);
+  there = inv.there;
+}
+  where
+    go : (a s : ℕ) → live_session b.state.order a ≡ Some s → (t : Bool) → (a == app) ≡ t → LinkFits (get_or (set b.state.links app v) a Free) s b.state
+    go a s has true same =
+        subst (λ (i : ℕ). live_session b.state.order i ≡ Some s → LinkFits (get_or (set b.state.links app v) i Free) s b.state) (sym (eqb-true a app same))
+        (λ had. set_at (λ k. LinkFits k s b.state) b.state.links app v Free (fits s had) (inv.links app s had)) has
+    go a s has false other =
+        subst (λ (k : DataLink). LinkFits k s b.state) (sym (get_or-set_other b.state.links app a v Free (λ same. false≢true (sym other ∙ eq-eqb a app same)))) (inv.links a s has)
+
+-- a session is closed
+fits_closed : (z : Site) (b c : Sofar) (s q : ℕ) (l : DataLink) → ClosedBy z b c s → LinkFits l q b.state → LinkFits l q c.state
+fits_closed z b c s q Free by fits = tt
+fits_closed z b c s q Normal by fits = tt
+fits_closed z b c s q (Trouble broke) by fits = ap (λ (cs : List Conn). option_map number_of (find (is_bound_to q) cs)) by.conns ∙ go (conn_of b.state s)
+  where
+    go : (o : Option ℕ) → option_map number_of (find (is_bound_to q) (conns_closed o s b.state.conns)) ≡ None
+    go None = fits
+    go (Some conn) = still_unbound conn (Closing s) q b.state.conns refl fits
+fits_closed z b c s q (Recovering due) by fits = subst (λ (es : List Entry). q < epoch_place es) (sym by.order) (subst (λ (n : ℕ). q < n) (sym (closed_place s 0 0 b.state.order)) fits)
+
+closed_inv : (z : Site) (n : DataState) (b c : Sofar) (s : ℕ) → ClosedBy z b c s → (is_some (conn_of b.state s) ≡ true → s < epoch_place b.state.order) → TickInv z n b → TickInv z n c
+closed_inv z n b c s by before inv = record {
+  nodes = node_closes z b.state c.state s (record { order = by.order; dials = by.dials; conns = by.conns; before = before }) inv.nodes;
+  frames = by.frames inv.noted (tells_of z b.state inv.nodes) inv.frames;
+  cuts = by.cuts ∙ inv.cuts;
+  noted = by.noted inv.noted;
+  links =
+      λ app q has.
+      subst (λ (ls : List DataLink). LinkFits (get_or ls app Free) q c.state) (sym by.links)
+      (fits_closed z b c s q (link_of b.state app) by (inv.links app q (kept_open s q (live_session b.state.order app)
+      (sym (live_session-push b.state.order (Closed s) app) ∙ ap (λ (es : List Entry). live_session es app) (sym by.order) ∙ has))));
+  there = λ k. ap (λ (cs : List Conn). is_some (option_map role_in (find (is_conn k) cs))) by.conns ∙ go k (conn_of b.state s) ∙ inv.there k;
+}
+  where
+    go : (k : ℕ) (o : Option ℕ) → is_some (option_map role_in (find (is_conn k) (conns_closed o s b.state.conns))) ≡ is_some (role_of b.state k)
+    go k None = refl
+    go k (Some conn) = there_still conn (Closing s) k b.state.conns
+
+-- one end's tick
+record TickedEnd (z : Site) (n : DataState) (b c : Sofar) (s : ℕ) : Type 0 where
+  inv : TickInv z n c
+  order : (c.state.order ≡ b.state.order) ⊎ (c.state.order ≡ b.state.order ++ Closed s ∷ [])
+
+module _ (z : Site) (n : DataState) (app s now : ℕ) (b : Sofar) (has : live_session b.state.order app ≡ Some s) (inv : TickInv z n b) where
+  -- the end outlasts it
+  outlasts : (l : DataLink) → link_of b.state app ≡ l → data_next b.state.times now l Ticked ≡ l → TickedEnd z n b (becomes (with_event app now Ticked) b) s
+  outlasts l its same = record {
+    inv =
+        evented z n b app (data_next b.state.times now (link_of b.state app) Ticked)
+        (λ q had. subst (λ (k : DataLink). LinkFits k q b.state) (sym (ap (λ (k : DataLink). data_next b.state.times now k Ticked) its ∙ same ∙ sym its)) (inv.links app q had)) inv;
+    order = inl refl;
+  }
+
+  -- its session is closed
+  closed_end : (cause : ShutCause) (c : Sofar) → ClosedBy z b c s → (is_some (conn_of b.state s) ≡ true → s < epoch_place b.state.order)
+      → TickedEnd z n b (becomes (with_event app now Ticked) c) s
+  closed_end cause c by before = record {
+    inv =
+        evented z n c app (data_next c.state.times now (link_of c.state app) Ticked)
+        (λ q had. (let both : ◌≡◌ {A = Option ℕ} None (Some q) = gone ∙ ap (λ (es : List Entry). live_session es app) (sym by.order) ∙ had in absurd cc))
+        (closed_inv z n b c s by before inv);
+    order = inr by.order;
+  }
+    where
+      gone : None ≡ live_session (b.state.order ++ Closed s ∷ []) app
+      gone =
+          sym (live_session-push b.state.order (Closed s) app ∙ ap (unless_closed s) has ∙ ap (λ (t : Bool). if t then None else Some s) (eq-eqb s s refl))
+
+  by_link : (l : DataLink) → link_of b.state app ≡ l → LinkFits l s b.state → (hears : Bool) → hears_tick l (is_awaited b.state s) ≡ hears → (t : Bool)
+      → is_free (data_next b.state.times now l Ticked) ≡ t
+      → TickedEnd z n b (if hears then becomes (with_event app now Ticked) (closes_late t s now (cause_of l now) b) else b) s
+  by_link l its fits false deaf t free = record { inv = inv; order = inl refl }
+  by_link Free its fits true hears t free = absurd (false≢true hears)
+  by_link Normal its fits true hears true free = absurd (false≢true free)
+  by_link Normal its fits true hears false free = outlasts Normal its refl
+  by_link (Trouble broke) its fits true hears t free = go (nat_le (until broke b.state.times.trouble) now) refl t free
+    where
+      go : (late : Bool) → nat_le (until broke b.state.times.trouble) now ≡ late → (u : Bool) → is_free (if late then Free else Trouble broke) ≡ u
+          → TickedEnd z n b (becomes (with_event app now Ticked) (closes_late u s now (shuts.Trouble now) b)) s
+      go true late true is_free_now =
+          closed_end (shuts.Trouble now) _ (closed_by z s (shuts.Trouble now) b) (λ there. absurd (false≢true (sym (ap is_some fits) ∙ there)))
+      go true late false is_free_now = absurd (false≢true (sym is_free_now))
+      go false early true is_free_now = absurd (false≢true is_free_now)
+      go false early false is_free_now = outlasts (Trouble broke) its (ap (λ (y : Bool). if y then Free else Trouble broke) early)
+  by_link (Recovering due) its fits true hears t free = go (nat_le due now) refl t free
+    where
+      go : (late : Bool) → nat_le due now ≡ late → (u : Bool) → is_free (if late then Free else Recovering due) ≡ u
+          → TickedEnd z n b (becomes (with_event app now Ticked) (closes_late u s now (shuts.Round now) b)) s
+      go true late true is_free_now = closed_end (shuts.Round now) _ (closed_by z s (shuts.Round now) b) (λ there. fits)
+      go true late false is_free_now = absurd (false≢true (sym is_free_now))
+      go false early true is_free_now = absurd (false≢true is_free_now)
+      go false early false is_free_now = outlasts (Recovering due) its (ap (λ (y : Bool). if y then Free else Recovering due) early)
+
+  ticked_end : TickedEnd z n b (ticks_one (record { app = app; session = s }) now b) s
+  ticked_end = go (hears_tick (link_of b.state app) (is_awaited b.state s)) refl
+    where
+      go : (hears : Bool) → hears_tick (link_of b.state app) (is_awaited b.state s) ≡ hears → TickedEnd z n b (ticks_end hears app s now b) s
+      go true hears =
+          by_link (link_of b.state app) refl (inv.links app s has) true hears (is_free (data_next b.state.times now (link_of b.state app) Ticked)) refl
+      go false deaf = record { inv = inv; order = inl refl }
+
+-- All ends' ticks.
+pub ticks_keep : (z : Site) (n : DataState) (es : List Entry) → IsOrdered es → (now a k : ℕ) (b : Sofar) → ((app : ℕ) → a ≤ app → live_session b.state.order app ≡ live_session es app)
+    → TickInv z n b → TickInv z n (ticks (ends_among (range_with_len a k) es) now b)
+ticks_keep z n es ordered now a zero b same inv = inv
+ticks_keep z n es ordered now a (suc k) b same inv =
+    go (live_session es a) refl (ticks_keep z n es ordered now (a + 1) k)
+  where
+    Rest : Type 0
+    Rest =
+        (c : Sofar) → ((app : ℕ) → a + 1 ≤ app → live_session c.state.order app ≡ live_session es app) → TickInv z n c
+        → TickInv z n (ticks (ends_among (range_with_len (a + 1) k) es) now c)
+
+    -- a session that is closed is no other end's
+    others : (s : ℕ) → live_session es a ≡ Some s → (app : ℕ) → a + 1 ≤ app → (o : Option ℕ) → live_session es app ≡ o → unless_closed s o ≡ o
+    others s its app above None had = refl
+    others s its app above (Some q) had = by (q == s) refl
+      where
+        by : (t : Bool) → (q == s) ≡ t → (if t then None else Some q) ≡ Some q
+        by true equal =
+            absurd (let one : a ≡ app = (ordered_past es ordered).has_one a app s its (had ∙ ap (λ (i : ℕ). Some i) (eqb-true q s equal)) in omega (arith, one, above))
+        by false apart = refl
+
+    go : (o : Option ℕ) → live_session es a ≡ o → Rest → TickInv z n (ticks (with_end o a (ends_among (range_with_len (a + 1) k) es)) now b)
+    go None its rest = rest b (λ app above. same app (omega (arith, above))) inv
+    go (Some s) its rest = by (ticked_end z n a s now b (same a (omega arith) ∙ its) inv)
+      where
+        by : TickedEnd z n b (ticks_one (record { app = a; session = s }) now b) s
+            → TickInv z n (ticks (ends_among (range_with_len (a + 1) k) es) now (ticks_one (record { app = a; session = s }) now b))
+        by t = rest (ticks_one (record { app = a; session = s }) now b) (λ app above. keeps app above t.order) t.inv
+          where
+            keeps : (app : ℕ) → a + 1 ≤ app
+                → ((ticks_one (record { app = a; session = s }) now b).state.order ≡ b.state.order)
+                ⊎ ((ticks_one (record { app = a; session = s }) now b).state.order ≡ b.state.order ++ Closed s ∷ [])
+                → live_session (ticks_one (record { app = a; session = s }) now b).state.order app ≡ live_session es app
+            keeps app above (inl order) = ap (λ (xs : List Entry). live_session xs app) order ∙ same app (omega (arith, above))
+            keeps app above (inr order) =
+                ap (λ (xs : List Entry). live_session xs app) order ∙ live_session-push b.state.order (Closed s) app
+                ∙ ap (unless_closed s) (same app (omega (arith, above))) ∙ others s its app above (live_session es app) refl
