@@ -12,3 +12,5 @@ pub mod RestWays
 pub mod InputPlain
 pub mod RestLinks
 pub mod ConnectedLinks
+pub mod DialLinks
+pub mod InputLinks
