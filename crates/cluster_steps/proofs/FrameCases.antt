@@ -95,14 +95,15 @@ then_sets d f s e us cs ws b c there h =
 
 -- acknowledgements
 
-acked_by : (d seq ack : ℕ) (b t : Sofar) (s : Session) → d < length b.state.ends → (end_at b.state d).session ≡ Some s → (end_at b.state d).line ≡ Joined → t ≡ acknowledged d ack b
-    → Acked d seq ack (end_at b.state d) b (settled d t)
-acked_by d seq ack b t s there its line after = record {
+acked_by : (d seq ack : ℕ) (b t : Sofar) (s : Session) → d < length b.state.ends → (end_at b.state d).session ≡ Some s → (end_at b.state d).line ≡ Joined → (seq ≡ 0) ⊎ (answers body_of s.window seq ack ≡ Ok Repeat)
+    → t ≡ acknowledged d ack b → Acked d seq ack (end_at b.state d) b (settled d t)
+acked_by d seq ack b t s there its line repeats after = record {
   session = s;
   its = its;
   is_joined = line;
   answered = answers body_of s.window seq ack;
   known = refl;
+  repeats = repeats;
   settles = go (then_settled d (with_window (λ w. with_ack w ack) s) (record (end_at b.state d) { session = Some (with_window (λ w. with_ack w ack) s) }) [] [] [] b t (ap is_joined line) refl
       (subst (λ (x : Sofar). Here d (record (end_at b.state d) { session = Some (with_window (λ w. with_ack w ack) s) }) [] [] [] b x) (sym after)
       (then_sets d (with_window (λ w. with_ack w ack)) s (end_at b.state d) [] [] [] b b its (here_same d b there))));
@@ -225,7 +226,9 @@ numbered_came (Ok Fresh) d now frame f s b t there its line answered (inl x) =
     (ap (λ (y : Session). answers body_of y.window frame.seq frame.ack) (sym (of_session (end_at b.state d) s its)) ∙ answered)
     (ap (λ (y : Session). falls y f) (sym (of_session (end_at b.state d) s its)) ∙ x.ahead) x.made)
 numbered_came (Ok Fresh) d now frame f s b t there its line answered (inr x) = inr (inr (ends_by d now b t there x.after))
-numbered_came (Ok Repeat) d now frame f s b t there its line answered x = inr (inl (acked_by d frame.seq frame.ack b t s there its line x))
+numbered_came (Ok Repeat) d now frame f s b t there its line answered x =
+    inr (inl (acked_by d frame.seq frame.ack b t s there its line
+    (inr (ap (λ (y : Session). answers body_of y.window frame.seq frame.ack) (sym (of_session (end_at b.state d) s its)) ∙ answered)) x))
 numbered_came (Err why) d now frame f s b t there its line answered x = inr (inr (ends_by d now b t there x))
 
 headed_came : (is_there : Bool) (d now : ℕ) (frame : DownFrame) (f : Front) (b t : Sofar) → d < length b.state.ends → LineHas (end_at b.state d).line (end_at b.state d).session → joined b d ≡ is_there
@@ -241,7 +244,7 @@ headed_came false d now frame f b t there has join h = inr (inr (ends_by d now b
 
 ack_came : (r : Result Taken WindowError) (d now ack : ℕ) (s : Session) (b t : Sofar) → d < length b.state.ends → (end_at b.state d).session ≡ Some s → (end_at b.state d).line ≡ Joined → TakesAck r b d now ack t
     → Acked d 0 ack (end_at b.state d) b (settled d t) ⊎ Here d (end_at b.state d) [] [] [] b (settled d t) ⊎ EndsIt d now (end_at b.state d) b (settled d t)
-ack_came (Ok answer) d now ack s b t there its line h = inl (acked_by d 0 ack b t s there its line h)
+ack_came (Ok answer) d now ack s b t there its line h = inl (acked_by d 0 ack b t s there its line (inl refl) h)
 ack_came (Err why) d now ack s b t there its line h = inr (inr (ends_by d now b t there h))
 
 bare_came : (is_there : Bool) (d now ack : ℕ) (b t : Sofar) → d < length b.state.ends → LineHas (end_at b.state d).line (end_at b.state d).session → joined b d ≡ is_there → TakesBare is_there b d now ack t

@@ -14,3 +14,5 @@ pub mod RestLinks
 pub mod ConnectedLinks
 pub mod DialLinks
 pub mod InputLinks
+pub mod TookDown
+pub mod JoinedTakes
