@@ -111,37 +111,54 @@ module _ (v : Server) (x : Site) (app : ℕ) (m : Option Down) (number : ℕ) (f
 
 -- connections
 
-conn_same : (c : Connection) → ConnRests c c
-conn_same c = record { ups = refl; ups_taken = refl; downs = refl; downs_taken = refl; its = refl; knew = refl; first = refl; data_left = refl }
+conn_same : (wired : Bool) (c : Connection) → ConnRests wired c c
+conn_same wired c = record { ups = refl; ups_taken = refl; downs = refl; downs_taken = λ is. refl; its = refl; knew = refl; first = refl; data_left = refl }
 
 -- its connections were as they were before the step's outputs
-pub record TakesNone (e f : End) : Type 0 where
-  pub some : (number : ℕ) (c : Connection) → e.connection_at number ≡ Some c → IfSome (f.connection_at number) (ConnRests c)
+pub record TakesNone (wired : Bool) (e f : End) : Type 0 where
+  pub some : (number : ℕ) (c : Connection) → e.connection_at number ≡ Some c → IfSome (f.connection_at number) (ConnRests wired c)
   pub none : (number : ℕ) → e.connection_at number ≡ None → f.connection_at number ≡ None
   pub told : f.told ≡ e.told
 
-takes_same : (e : End) → TakesNone e e
-takes_same e = record { some = λ number c its. subst (λ (o : Option Connection). IfSome o (ConnRests c)) (sym its) (conn_same c); none = λ number is. is; told = refl }
+takes_same : (wired : Bool) (e : End) → TakesNone wired e e
+takes_same wired e = record {
+  some = λ number c its. subst (λ (o : Option Connection). IfSome o (ConnRests wired c)) (sym its) (conn_same wired c);
+  none = λ number is. is;
+  told = refl;
+}
 
-leaves_rests : (c : Connection) → ConnRests c (app_leaves c)
-leaves_rests c = record { ups = refl; ups_taken = refl; downs = refl; downs_taken = refl; its = refl; knew = refl; first = refl; data_left = refl }
-
--- the connection is left
-takes_leave : (n : ℕ) (e : End) → TakesNone e (at_number n app_leaves e)
-takes_leave n e = record {
+-- one connection is changed so that it rests
+pub takes_at : (wired : Bool) (n : ℕ) (g : Connection → Connection) (e : End) → ((c : Connection) → ConnRests wired c (g c)) → TakesNone wired e (at_number n g e)
+takes_at wired n g e rests = record {
   some = λ number c its.
-      subst (λ (o : Option Connection). IfSome (if number == n then option_map app_leaves o else o) (ConnRests c)) (sym its) (go (number == n) c);
-  none = λ number is. ap (λ (o : Option Connection). if number == n then option_map app_leaves o else o) is ∙ by (number == n);
+      subst (λ (o : Option Connection). IfSome (if number == n then option_map g o else o) (ConnRests wired c)) (sym its) (go (number == n) c);
+  none = λ number is. ap (λ (o : Option Connection). if number == n then option_map g o else o) is ∙ by (number == n);
   told = refl;
 }
   where
-    go : (b : Bool) (c : Connection) → IfSome (if b then Some (app_leaves c) else Some c) (ConnRests c)
-    go true c = leaves_rests c
-    go false c = conn_same c
+    go : (b : Bool) (c : Connection) → IfSome (if b then Some (g c) else Some c) (ConnRests wired c)
+    go true c = rests c
+    go false c = conn_same wired c
 
     by : (b : Bool) → ◌≡◌ {A = Option Connection} (if b then None else None) None
     by true = refl
     by false = refl
+
+leaves_rests : (wired : Bool) (c : Connection) → ConnRests wired c (app_leaves c)
+leaves_rests wired c = record { ups = refl; ups_taken = refl; downs = refl; downs_taken = λ is. refl; its = refl; knew = refl; first = refl; data_left = refl }
+
+-- a frame is taken, and there is no connection then
+pub taken_rests : (c : Connection) → ConnRests false c (down_taken c)
+taken_rests c = record {
+  ups = refl;
+  ups_taken = refl;
+  downs = refl;
+  downs_taken = λ is. absurd (false≢true is);
+  its = refl;
+  knew = refl;
+  first = refl;
+  data_left = refl;
+}
 
 -- an input that takes no frame and makes no connection at this data server
 abbrev pub TakesNothing : AppIn → ℕ → Type 0
@@ -152,24 +169,34 @@ TakesNothing (app_in.Broken k) d = ⊤
 TakesNothing (app_in.Join k) d = ⊤
 TakesNothing app_in.Tick d = ⊤
 
-takes_none : (d : ℕ) (input : AppIn) (n : ℕ) (e : End) → TakesNothing input d → TakesNone e (app_takes d input n e)
-takes_none d (app_in.Frame k frame) n e is = subst (λ (b : Bool). TakesNone e (if b then at_number n down_taken e else e)) (sym is) (takes_same e)
-takes_none d (app_in.Connected k) n e is = subst (λ (b : Bool). TakesNone e (if b then with_connection (n + 1) e else e)) (sym is) (takes_same e)
-takes_none d (app_in.NoWay k before later) n e is = takes_same e
-takes_none d (app_in.Broken k) n e is = go (k == d)
+takes_none : (wired : Bool) (d : ℕ) (input : AppIn) (n : ℕ) (e : End) → TakesNothing input d → TakesNone wired e (app_takes d input n e)
+takes_none wired d (app_in.Frame k frame) n e is = subst (λ (b : Bool). TakesNone wired e (if b then at_number n down_taken e else e)) (sym is) (takes_same wired e)
+takes_none wired d (app_in.Connected k) n e is = subst (λ (b : Bool). TakesNone wired e (if b then with_connection (n + 1) e else e)) (sym is) (takes_same wired e)
+takes_none wired d (app_in.NoWay k before later) n e is = takes_same wired e
+takes_none wired d (app_in.Broken k) n e is = go (k == d)
   where
-    go : (b : Bool) → TakesNone e (if b then at_number n app_leaves e else e)
-    go true = takes_leave n e
-    go false = takes_same e
-takes_none d (app_in.Join k) n e is = takes_same e
-takes_none d app_in.Tick n e is = takes_same e
+    go : (b : Bool) → TakesNone wired e (if b then at_number n app_leaves e else e)
+    go true = takes_at wired n app_leaves e (leaves_rests wired)
+    go false = takes_same wired e
+takes_none wired d (app_in.Join k) n e is = takes_same wired e
+takes_none wired d app_in.Tick n e is = takes_same wired e
 
--- the connection after the step: nothing is put on it
-abbrev nothing_put : Connection → Connection
-nothing_put c = with_ups [] c
+-- the connection after the step: nothing is put on it, and it is left or not
+abbrev nothing_put : Bool → Connection → Connection
+nothing_put cut c = leaves_if cut (with_ups [] c)
 
-put_rests : (c d : Connection) → ConnRests c d → ConnRests c (nothing_put d)
-put_rests c d r = record {
+put_rests : (wired cut : Bool) (c d : Connection) → ConnRests wired c d → ConnRests wired c (nothing_put cut d)
+put_rests wired true c d r = record {
+  ups = append-nil d.ups ∙ r.ups;
+  ups_taken = r.ups_taken;
+  downs = r.downs;
+  downs_taken = r.downs_taken;
+  its = r.its;
+  knew = r.knew;
+  first = r.first;
+  data_left = r.data_left;
+}
+put_rests wired false c d r = record {
   ups = append-nil d.ups ∙ r.ups;
   ups_taken = r.ups_taken;
   downs = r.downs;
@@ -181,14 +208,15 @@ put_rests c d r = record {
 }
 
 -- A site at which an input made its end put and take nothing.
-pub rests_at : (v : Server) (x : Site) (app d : ℕ) (input : AppIn) (outs : AppOuts) (state : AppState) (shown : ℕ → Shown)
+pub rests_at : (v : Server) (x : Site) (app d : ℕ) (input : AppIn) (outs : AppOuts) (state : AppState) (shown : ℕ → Shown) (cut : Bool)
     → IfSome (x.end_at app).state.session (λ s. ToldPlace v app s (x.end_at app).told)
     → IfSome (x.end_at app).state.session (λ s. IfSome (x.end_at app).told (λ p.
     WindowIs s.window (x.lane_at s.number p.order).up (x.lane_at s.number p.order).up_taken (x.lane_at s.number p.order).down_taken))
-    → TakesNothing input d → ups_to d outs.frames ≡ [] → list_any (is_index d) outs.cuts ≡ false → EndRests (x.end_at app).state (end_at state d)
+    → TakesNone (has_wire (end_at state d).line) (x.end_at app) (app_takes d input (x.end_at app).state.dial (x.end_at app)) → ups_to d outs.frames ≡ []
+    → list_any (is_index d) outs.cuts ≡ cut → EndRests (x.end_at app).state (end_at state d)
     → Rests x (input_site app input outs state shown d x) app
-    (own_after nothing_put (end_at state d) (shown d) (app_takes d input (x.end_at app).state.dial (x.end_at app)))
-rests_at v x app d input outs state shown place window takes frames cuts rests = record {
+    (own_after (nothing_put cut) (end_at state d) (shown d) (app_takes d input (x.end_at app).state.dial (x.end_at app)))
+rests_at v x app d input outs state shown cut place window taken frames cuts rests = record {
   beside = site_beside app d outs e.state t (message_from d input) f x;
   ends = site_ends app d outs e.state t (message_from d input) f x ∙ ap (put x.end_at app) moved;
   told = taken.told;
@@ -202,7 +230,7 @@ rests_at v x app d input outs state shown place window takes frames cuts rests =
       (subst (λ (o : Option Place). IfSome o (λ r. (s ≡ r.session) → (k ≡ r.order) → stepped (x.lane_at s k) ≡ x.lane_at s k)) (sym told)
       (rest_elsewhere v x app (message_from d input) e.state.dial (ups_to d outs.frames) s k e.state.session t.session e.told rests.session place none));
   conns = λ number c its. go (number == t.dial) (taking.connection_at number) c (taken.some number c its);
-  none = λ number is. ap (λ (o : Option Connection). if number == t.dial then option_map nothing_put o else o) (taken.none number is) ∙ by (number == t.dial);
+  none = λ number is. ap (λ (o : Option Connection). if number == t.dial then option_map (nothing_put cut) o else o) (taken.none number is) ∙ by (number == t.dial);
 }
   where
     e : End
@@ -217,28 +245,26 @@ rests_at v x app d input outs state shown place window takes frames cuts rests =
     f : End
     f = app_end d outs e.state t (shown d) (message_from d input) taking
 
-    taken : TakesNone e taking
-    taken = takes_none d input e.state.dial e takes
-
     nothing : is_told_new e.state.session t.session ≡ false
     nothing = none_new e.state.session t.session rests.session
 
     stepped : Lane → Lane
     stepped z = with_app_step false (message_from d input) e.state.dial (sent_before e.state.session) t.session (ups_to d outs.frames) z
 
-    moved : f ≡ own_after nothing_put t (shown d) taking
+    moved : f ≡ own_after (nothing_put cut) t (shown d) taking
     moved =
         ap (λ (b : Bool). carries_up d t.dial outs.frames outs.cuts (told_by b (message_from d input) e.state.dial (with_state t (shown d) taking))) nothing
         ∙ ap (λ (b : Bool). at_number t.dial (λ c. leaves_if b (with_ups (ups_to d outs.frames) c)) (with_state t (shown d) taking)) cuts
-        ∙ ap (λ (us : List UpFrame). at_number t.dial (λ z. with_ups us z) (with_state t (shown d) taking)) frames
+        ∙ ap (λ (us : List UpFrame). at_number t.dial (λ z. leaves_if cut (with_ups us z)) (with_state t (shown d) taking)) frames
 
     told : f.told ≡ e.told
     told = ap (λ (z : End). z.told) moved ∙ taken.told
 
-    go : (b : Bool) (o : Option Connection) (c : Connection) → IfSome o (ConnRests c) → IfSome (if b then option_map nothing_put o else o) (ConnRests c)
+    go : (b : Bool) (o : Option Connection) (c : Connection) → IfSome o (ConnRests (has_wire t.line) c)
+        → IfSome (if b then option_map (nothing_put cut) o else o) (ConnRests (has_wire t.line) c)
     go true None c is = tt
     go false None c is = tt
-    go true (Some q) c is = put_rests c q is
+    go true (Some q) c is = put_rests (has_wire t.line) cut c q is
     go false (Some q) c is = is
 
     by : (b : Bool) → ◌≡◌ {A = Option Connection} (if b then None else None) None
@@ -264,22 +290,31 @@ module _ (l : Layout) (c : CoresState) (m : Machine) (app now : ℕ) (input : Ap
   pub may : AppMay a input
   may = app_may c m app input shows allowed.known allowed.may
 
-  -- one data server at which the end rests
-  pub rest_at : TellNothing goes.app_outs.acts → (d : ℕ) → TakesNothing input d → ups_to d goes.app_outs.frames ≡ [] → list_any (is_index d) goes.app_outs.cuts ≡ false
+  -- one data server at which the end rests, where its connections were as they were
+  pub rest_by : TellNothing goes.app_outs.acts → (d : ℕ) (cut : Bool)
+      → TakesNone (has_wire (end_at goes.state d).line) ((m.site_at d).end_at app) (app_takes d input ((m.site_at d).end_at app).state.dial ((m.site_at d).end_at app))
+      → ups_to d goes.app_outs.frames ≡ [] → list_any (is_index d) goes.app_outs.cuts ≡ cut
       → EndRests (end_at a d) (end_at goes.state d) → (has_wire (end_at goes.state d).line ≡ true → Keeps app d goes.app_outs.acts)
       → LinkHolds ((after_all l (state_after l m.trail) goes.app_outs.acts).server_at d) (input_site app input goes.app_outs goes.state goes.shown d (m.site_at d)) m.is_dead_at
-  rest_at tells d takes frames cuts rests keeps =
+  rest_by tells d cut takes frames cuts rests keeps =
       link_kept_by_rest ((state_after l m.trail).server_at d) ((after_all l (state_after l m.trail) goes.app_outs.acts).server_at d) (m.site_at d)
       (input_site app input goes.app_outs goes.state goes.shown d (m.site_at d)) m.is_dead_at app
-      (own_after nothing_put (end_at goes.state d) (goes.shown d) (app_takes d input ((m.site_at d).end_at app).state.dial ((m.site_at d).end_at app))) alive
+      (own_after (nothing_put cut) (end_at goes.state d) (goes.shown d) (app_takes d input ((m.site_at d).end_at app).state.dial ((m.site_at d).end_at app))) alive
       (after.later d tells) (λ b other. after.others d b other) (λ wired. entered_stays l (state_after l m.trail) goes.app_outs.acts app d (keeps wired)) (after.now d)
       (h.sites d).order.past (h.sites d).link (h.sites d).ends (h.sites d).dials
-      (rests_at ((state_after l m.trail).server_at d) (m.site_at d) app d input goes.app_outs goes.state goes.shown ((h.sites d).ends.told app alive).place
+      (rests_at ((state_after l m.trail).server_at d) (m.site_at d) app d input goes.app_outs goes.state goes.shown cut ((h.sites d).ends.told app alive).place
       ((h.sites d).link.apps app alive).window takes frames cuts
       (subst (λ (e : AppEnd). EndRests e (end_at goes.state d)) (app_ends c m app d shows allowed.known) rests))
     where
       after : AfterInput l m app goes.app_outs.acts
       after = after_input l c m app now input outs written new h run shows allowed goes
+
+  -- and where the input takes nothing there
+  pub rest_at : TellNothing goes.app_outs.acts → (d : ℕ) (cut : Bool) → TakesNothing input d → ups_to d goes.app_outs.frames ≡ [] → list_any (is_index d) goes.app_outs.cuts ≡ cut
+      → EndRests (end_at a d) (end_at goes.state d) → (has_wire (end_at goes.state d).line ≡ true → Keeps app d goes.app_outs.acts)
+      → LinkHolds ((after_all l (state_after l m.trail) goes.app_outs.acts).server_at d) (input_site app input goes.app_outs goes.state goes.shown d (m.site_at d)) m.is_dead_at
+  rest_at tells d cut takes =
+      rest_by tells d cut (takes_none (has_wire (end_at goes.state d).line) d input ((m.site_at d).end_at app).state.dial ((m.site_at d).end_at app) takes)
 
   -- all of them
   pub rest_all : TellNothing goes.app_outs.acts → ((d : ℕ) → TakesNothing input d) → goes.app_outs.frames ≡ [] → goes.app_outs.cuts ≡ []
@@ -292,7 +327,7 @@ module _ (l : Layout) (c : CoresState) (m : Machine) (app now : ℕ) (input : Ap
       (λ d.
       subst (λ (q : Plain). LinkHolds (q.server_at d) (input_site app input goes.app_outs goes.state goes.shown d (m.site_at d)) m.is_dead_at)
       (sym (after_all-append l start m.trail goes.app_outs.acts))
-      (rest_at tells d (takes d) (ap (ups_to d) frames) (ap (list_any (is_index d)) cuts) (rests d) (keeps d))))
+      (rest_at tells d false (takes d) (ap (ups_to d) frames) (ap (list_any (is_index d)) cuts) (rests d) (keeps d))))
 
   pub has : (d : ℕ) → LineHas (end_at a d).line (end_at a d).session
   has d =
