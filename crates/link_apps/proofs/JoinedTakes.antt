@@ -19,7 +19,7 @@ use Rattle.cluster_runs.specs.Sent.{Lane, Place, Connection, FirstTaken}
 use Rattle.cluster_runs.specs.Machine.{Site, End}
 use Rattle.cluster_runs.specs.Connections.{down_taken, with_ups}
 use Rattle.cluster_invariant.specs.Dials.{CarriesNoOther, ConnectionIs, DialsAre}
-use Rattle.cluster_invariant.specs.Ends.{EndsAre, ToldPlace}
+use Rattle.cluster_invariant.specs.Ends.{EndsAre}
 use Rattle.cluster_invariant.specs.Link.{AppWay, DownBy, DownWay, DownWhole, GreetsOn, JoinedWay, LaneCounts, LinkHolds, UpWay, UpWayOn, WholeIf, WindowIs, WithSession, is_in_recovery, is_joined_on, is_numbered_up}
 use Rattle.cluster_invariant.specs.Words.{downs_left, is_normal_down, is_number, is_reset_down, is_wire, numbered_behind, numbered_downs, numbered_ups, stays_at, ups_left, has_wire}
 use Rattle.cluster_invariant.proofs.Small.{of_some, some_kept}
@@ -29,7 +29,8 @@ use Rattle.link_kept.proofs.AppLater.{way_later}
 use Rattle.link_apps.proofs.NodeApps.{LanePut, DownsStay}
 use Rattle.link_apps.proofs.EndStep.{EndStep, IsElsewhere, OwnKept, link_kept_by_end}
 use Rattle.link_apps.proofs.PutsUp.{way_put, way_sent, counts_put}
-use Rattle.link_apps.proofs.TookDown.{Counts, TakenOf, FirstFrame, first_frame, way_took, whole_took}
+use Rattle.link_apps.proofs.JoinedFirst.{JoinedFirst, joined_first}
+use Rattle.link_apps.proofs.TookDown.{Counts, TakenOf, way_took, whole_took}
 
 -- the lane of the session: more was put, and so much is taken
 pub record LaneTook (ms : List Up) (taken : ℕ) (a b : Lane) : Type 0 where
@@ -91,59 +92,13 @@ module _ (v w : Server) (x y : Site) (dead : ℕ → Bool) (app : ℕ) (f : End)
   abbrev u : Session
   u = t.session
 
-  -- its place, its lane, and what is on its way
-  record Place_ : Type 0 where
-    k : ℕ
-    told : e.told ≡ Some (record { session = s.number; order = k })
-    there : k ≤ current v
-    window : WindowIs s.window (x.lane_at s.number k).up (x.lane_at s.number k).up_taken (x.lane_at s.number k).down_taken
-    begun : is_some (x.lane_at s.number k).began ≡ true
-    took : LaneTook ms u.window.taken (x.lane_at s.number k) (y.lane_at s.number k)
-    its : c.its ≡ Some (record { session = s.number; order = k })
-    first : FirstFrame (order_at v k) (stays_at v k) s.number (x.lane_at s.number k) (is_in_recovery e.state.link) frame rest
-    whole : WholeIf x s.number k (x.lane_at s.number k) c (frame ∷ rest)
+  place : JoinedFirst v x app s c frame rest
+  place = joined_first v x dead app alive link are s c frame rest t.line t.has t.its t.left t.not_reset
 
-  place : Place_
-  place = go (of_some (λ (q : Session). ToldPlace v app q e.told) e.state.session s t.has (are.told app alive).place)
-    where
-      down : WithSession e.state.session e.told (λ q k. JoinedWay v x e.state q k c)
-      down =
-          subst (λ (line : Line). DownBy line v x app e c) t.line
-          (of_some (DownBy e.state.line v x app e) (e.connection_at e.state.dial) c t.its (link.apps app alive).down)
-
-      go : ToldPlace v app s e.told → Place_
-      go p = by joined
-        where
-          joined : JoinedWay v x e.state s p.order c
-          joined =
-              subst (λ (o : Option Place). WithSession (Some s) o (λ q k. JoinedWay v x e.state q k c)) p.its
-              (subst (λ (o : Option Session). WithSession o e.told (λ q k. JoinedWay v x e.state q k c)) t.has down)
-
-          by : JoinedWay v x e.state s p.order c → Place_
-          by j = record {
-            k = p.order;
-            told = p.its;
-            there = p.there;
-            window =
-                of_some (λ (z : Place). WindowIs s.window (x.lane_at s.number z.order).up (x.lane_at s.number z.order).up_taken (x.lane_at s.number z.order).down_taken) e.told
-                (record { session = s.number; order = p.order }) p.its
-                (of_some
-                (λ (q : Session).
-                IfSome e.told (λ z. WindowIs q.window (x.lane_at q.number z.order).up (x.lane_at q.number z.order).up_taken (x.lane_at q.number z.order).down_taken))
-                e.state.session s t.has (link.apps app alive).window);
-            begun =
-                of_some (λ (z : Place). is_some (x.lane_at s.number z.order).began ≡ true) e.told (record { session = s.number; order = p.order }) p.its
-                (of_some (λ (q : Session). IfSome e.told (λ z. is_some (x.lane_at q.number z.order).began ≡ true)) e.state.session s t.has (link.apps app alive).begun);
-            took =
-                of_some (λ (z : Place). LaneTook ms u.window.taken (x.lane_at s.number z.order) (y.lane_at s.number z.order)) e.told
-                (record { session = s.number; order = p.order }) p.its t.own;
-            its = j.its;
-            first =
-                first_frame (order_at v p.order) (stays_at v p.order) s.number (x.lane_at s.number p.order) (is_in_recovery e.state.link) frame rest t.not_reset
-                (subst (λ (fs : List DownFrame). DownWay (order_at v p.order) (stays_at v p.order) s.number (x.lane_at s.number p.order) (is_in_recovery e.state.link) fs) t.left
-                j.way);
-            whole = subst (λ (fs : List DownFrame). WholeIf x s.number p.order (x.lane_at s.number p.order) c fs) t.left j.whole;
-          }
+  took : LaneTook ms u.window.taken (x.lane_at s.number place.k) (y.lane_at s.number place.k)
+  took =
+      of_some (λ (z : Place). LaneTook ms u.window.taken (x.lane_at s.number z.order) (y.lane_at s.number z.order)) e.told
+      (record { session = s.number; order = place.k }) place.told t.own
 
   abbrev k : ℕ
   k = place.k
@@ -158,11 +113,11 @@ module _ (v w : Server) (x y : Site) (dead : ℕ → Bool) (app : ℕ) (f : End)
   counts_off = go t.taken
     where
       go : ((frame.seq ≢ 0) × (u.window.taken ≡ s.window.taken + 1)) ⊎ ((frame.seq ≡ 0) × (u.window.taken ≡ s.window.taken)) → Counts frame lane lane_now
-      go (inl is) = inl (is.0, place.took.down_taken ∙ is.1 ∙ ap (λ (n : ℕ). n + 1) place.window.taken)
-      go (inr is) = inr (is.0, place.took.down_taken ∙ is.1 ∙ place.window.taken)
+      go (inl is) = inl (is.0, took.down_taken ∙ is.1 ∙ ap (λ (n : ℕ). n + 1) place.window.taken)
+      go (inr is) = inr (is.0, took.down_taken ∙ is.1 ∙ place.window.taken)
 
   taken_of : TakenOf frame lane lane_now
-  taken_of = record { counts = counts_off; down = place.took.down; up_taken = place.took.up_taken }
+  taken_of = record { counts = counts_off; down = took.down; up_taken = took.up_taken }
 
   no_less : lane.down_taken ≤ lane_now.down_taken
   no_less = go counts_off
@@ -179,7 +134,7 @@ module _ (v w : Server) (x y : Site) (dead : ℕ → Bool) (app : ℕ) (f : End)
           omega (
             arith,
             is.1,
-            ap (λ (l : List Down). length l) place.took.down,
+            ap (λ (l : List Down). length l) took.down,
             room_down lane.down_taken lane.down (frame.seq, frame.message) (numbered_downs place.first.its ++ place.first.next.0)
                 (place.first.next.1 ∙ ap (λ (xs : List (ℕ × Down)). xs ++ place.first.next.0) (numbered_first is.0)),
           )
@@ -187,10 +142,10 @@ module _ (v w : Server) (x y : Site) (dead : ℕ → Bool) (app : ℕ) (f : End)
           numbered_first : frame.seq ≢ 0 → numbered_downs (frame ∷ place.first.its) ≡ (frame.seq, frame.message) ∷ numbered_downs place.first.its
           numbered_first some =
               ap (λ (b : Bool). if b then numbered_downs place.first.its else (frame.seq, frame.message) ∷ numbered_downs place.first.its) (ne_eqb frame.seq 0 some)
-      go (inr is) = omega (arith, is.1, ap (λ (l : List Down). length l) place.took.down, (link.lanes s.number k).down_taken)
+      go (inr is) = omega (arith, is.1, ap (λ (l : List Down). length l) took.down, (link.lanes s.number k).down_taken)
 
   lane_put : LanePut lane lane_now
-  lane_put = record { began = place.took.began; up = (ms, place.took.up); up_taken = place.took.up_taken; down = place.took.down; down_taken = no_less }
+  lane_put = record { began = took.began; up = (ms, took.up); up_taken = took.up_taken; down = took.down; down_taken = no_less }
 
   begun : lane.began ≡ None → ⊥
   begun none = false≢true (sym (ap is_some none) ∙ place.begun)
@@ -219,7 +174,7 @@ module _ (v w : Server) (x y : Site) (dead : ℕ → Bool) (app : ℕ) (f : End)
 
   counts : (q j : ℕ) → LaneCounts (y.lane_at q j)
   counts q j =
-      by_lane (λ a b. LaneCounts a → LaneCounts b) (λ a is. is) (λ is. counts_put lane lane_now ms lane_put place.took.up begun t.numbered within is) q j
+      by_lane (λ a b. LaneCounts a → LaneCounts b) (λ a is. is) (λ is. counts_put lane lane_now ms lane_put took.up begun t.numbered within is) q j
       (link.lanes q j)
 
   -- upwards
@@ -268,9 +223,9 @@ module _ (v w : Server) (x y : Site) (dead : ℕ → Bool) (app : ℕ) (f : End)
       (λ at.
       subst (λ (b : Bool). UpWay lane_now (ups_left (with_ups us (down_taken c))) b) (sym (joined_now e.state.dial s.number refl refl))
       (subst (λ (xs : List UpFrame). UpWay lane_now xs true) (sym (drop-append-le c.ups_taken c.ups us low_ups))
-      (way_sent lane lane_now (ups_left c) us ms (link.lanes s.number k) lane_put place.took.up begun
+      (way_sent lane lane_now (ups_left c) us ms (link.lanes s.number k) lane_put took.up begun
       (t.frames ∙ ap (λ (n : ℕ). numbered_from n ms) sent_so_far)
-      (subst (λ (n : ℕ). AllByRecursion (λ (g : UpFrame). g.ack ≤ n) us) (sym place.took.down_taken) t.acks)
+      (subst (λ (n : ℕ). AllByRecursion (λ (g : UpFrame). g.ack ≤ n) us) (sym took.down_taken) t.acks)
       (subst (λ (b : Bool). UpWay lane (ups_left c) b) (joined_on e.state.dial s.number refl refl) at)))) way
 
   unwired : (number : ℕ) → number ≢ e.state.dial → (q : ℕ) → is_joined_on (dead app) f.state number q ≡ false
@@ -322,10 +277,10 @@ module _ (v w : Server) (x y : Site) (dead : ℕ → Bool) (app : ℕ) (f : End)
         ∙ ap (λ (l : List Up). l ++ ms) (drop-drop (frame.ack - s.window.acked) s.window.acked lane.up)
         ∙ ap (λ (n : ℕ). drop n lane.up ++ ms) so_many
         ∙ sym (drop-append-le (max s.window.acked frame.ack) lane.up ms (omega (arith, low, in_up)))
-        ∙ ap (drop (max s.window.acked frame.ack)) (sym place.took.up)
+        ∙ ap (drop (max s.window.acked frame.ack)) (sym took.up)
         ∙ ap (λ (n : ℕ). drop n lane_now.up) (sym t.acked);
-    acked = omega (arith, t.acked, low, place.took.up_taken);
-    taken = sym place.took.down_taken;
+    acked = omega (arith, t.acked, low, took.up_taken);
+    taken = sym took.down_taken;
   }
     where
       so_many : s.window.acked + (frame.ack - s.window.acked) ≡ max s.window.acked frame.ack
@@ -377,7 +332,7 @@ module _ (v w : Server) (x y : Site) (dead : ℕ → Bool) (app : ℕ) (f : End)
     begun =
         subst (λ (o : Option Session). IfSome o (λ q. IfSome f.told (λ p. is_some (y.lane_at q.number p.order).began ≡ true))) (sym t.now)
         (subst (λ (o : Option Place). IfSome o (λ p. is_some (y.lane_at u.number p.order).began ≡ true)) (sym (t.told ∙ place.told))
-        (subst (λ (n : ℕ). is_some (y.lane_at n k).began ≡ true) (sym t.number) (ap is_some place.took.began ∙ place.begun)));
+        (subst (λ (n : ℕ). is_some (y.lane_at n k).began ≡ true) (sym t.number) (ap is_some took.began ∙ place.begun)));
     down =
         subst (λ (n : ℕ). IfSome (f.connection_at n) (DownBy f.state.line w y app f)) (sym t.dial)
         (subst (λ (o : Option Connection). IfSome o (DownBy f.state.line w y app f)) (sym t.conn)

@@ -15,4 +15,6 @@ pub mod ConnectedLinks
 pub mod DialLinks
 pub mod InputLinks
 pub mod TookDown
+pub mod JoinedFirst
 pub mod JoinedTakes
+pub mod FrameTook
