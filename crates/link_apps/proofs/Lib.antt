@@ -18,3 +18,6 @@ pub mod TookDown
 pub mod JoinedFirst
 pub mod JoinedTakes
 pub mod FrameTook
+pub mod TookSites
+pub mod FrameKinds
+pub mod FrameLinks

@@ -348,7 +348,7 @@ failed_keeps NormalLink app b d k before later = tt
 failed_keeps (Trouble broke try_at) app b d k before later = tt
 failed_keeps Recovery app b d k before later = tt
 
-ended_keeps : (line : Line) (app b d k now : ℕ) → Keeps app d (ended_acts line b k now)
+pub ended_keeps : (line : Line) (app b d k now : ℕ) → Keeps app d (ended_acts line b k now)
 ended_keeps Apart app b d k now = tt
 ended_keeps Trying app b d k now = tt
 ended_keeps Greeting app b d k now = tt

@@ -3,6 +3,9 @@ use Rattle.std.specs.Prelude.{⊤, ℕ, List}
 use Rattle.plain_orders.specs.declared.act.Act.{Act}
 use Rattle.plain_orders.specs.declared.layout.Layout.{Layout}
 use Rattle.plain_runs.specs.Run.{IsRun}
+use Rattle.ecp_messages.specs.declared.down.Down.{Down}
+use Rattle.ecp_messages.specs.declared.down.Down.TheVariants.{Welcome}
+use Rattle.ecp_messages.specs.declared.down.DownFrame.{DownFrame}
 use Rattle.app_job.specs.declared.command.Command.{Command}
 use Rattle.app_rules.specs.declared.app_in.AppIn.{AppIn}
 use Rattle.app_rules.specs.declared.app_in.AppIn.TheVariants as app_in
@@ -37,3 +40,14 @@ abbrev pub OtherInputsKeepLinks : Type 0
 OtherInputsKeepLinks = (l : Layout) (c : CoresState) (m : Machine) (app now : ℕ) (input : AppIn) (outs : MoveOuts) (written : List Act) (new : Machine)
     → Holds l m → IsRun l m.trail → Mirrors c m → Allowed c (App app now input) → AppGoes m app now input outs written new → IsNoFrame input
     → EachLinkHolds l new
+
+-- a frame that tells of no order
+abbrev pub IsNoWelcome : Down → Type 0
+IsNoWelcome (Welcome session epoch kept front taken) = ⊥
+IsNoWelcome m = ⊤
+
+-- And each frame of an application server's connection that is no Welcome.
+abbrev pub FramesButWelcomesKeepLinks : Type 0
+FramesButWelcomesKeepLinks = (l : Layout) (c : CoresState) (m : Machine) (app now d : ℕ) (frame : DownFrame) (outs : MoveOuts) (written : List Act) (new : Machine)
+    → Holds l m → IsRun l m.trail → Mirrors c m → Allowed c (App app now (app_in.Frame d frame)) → AppGoes m app now (app_in.Frame d frame) outs written new
+    → IsNoWelcome frame.message → EachLinkHolds l new
