@@ -45,10 +45,10 @@ use Rattle.link_kept.specs.Laws.{EachLinkHolds}
 use Rattle.link_apps.specs.Laws.{IsNoWelcome}
 use Rattle.link_apps.proofs.FrameKinds.{Comes, frame_comes}
 use Rattle.link_apps.proofs.InputPlain.{AfterInput, after_input}
-use Rattle.link_apps.proofs.JoinedTakes.{link_kept_by_takes}
+use Rattle.link_apps.proofs.JoinedNow.{link_kept_by_joined}
 use Rattle.link_apps.proofs.Rests.{EndRests, Keeps, ended_rests, lost_wire, rests_same}
 use Rattle.link_apps.proofs.RestLinks.{TakesNone, ended_keeps, has, may, rest_at, rest_by, taken_rests, takes_at as rests_as_taken}
-use Rattle.link_apps.proofs.TookSites.{took_end, takes_at}
+use Rattle.link_apps.proofs.TookSites.{took_end, site_took}
 
 -- a frame that is no Welcome tells nothing
 none_told : (m : Down) (d now : ℕ) (e : AppEnd) (b c : Sofar) → IsNoWelcome m → WelcomeTold m d now e b c → ⊥
@@ -191,12 +191,12 @@ module _ (l : Layout) (c : CoresState) (m : Machine) (app now d : ℕ) (frame : 
           (subst (λ (t : AppEnd). EndRests t (end_at goes.state d)) (sym same)
           (subst (EndRests e.state) (sym x.here.end) (lost_rests names.Recovery (reasons.Reset x.at) e.state)))
       go (inr (inr (inl x))) =
-          link_kept_by_takes ((state_after l m.trail).server_at d) ((after_all l (state_after l m.trail) goes.app_outs.acts).server_at d) (m.site_at d)
+          link_kept_by_joined ((state_after l m.trail).server_at d) ((after_all l (state_after l m.trail) goes.app_outs.acts).server_at d) (m.site_at d)
           (input_site app (app_in.Frame d frame) goes.app_outs goes.state goes.shown d (m.site_at d)) m.is_dead_at app
           (took_end ((state_after l m.trail).server_at d) (m.site_at d) m.is_dead_at app d frame a goes.app_outs goes.state goes.shown alive (h.sites d).link (h.sites d).ends
           taken.connection taken.its taken.behind taken.left x) alive (after.later d tells) (λ b other. after.others d b other) (after.now d) (h.sites d).order.past (h.sites d).link
-          (h.sites d).ends (h.sites d).dials taken.connection frame taken.behind x.ms x.us
-          (takes_at ((state_after l m.trail).server_at d) (m.site_at d) m.is_dead_at app d frame a goes.app_outs goes.state goes.shown alive (h.sites d).link (h.sites d).ends
+          (h.sites d).ends (h.sites d).dials taken.connection taken.behind x.us
+          (site_took ((state_after l m.trail).server_at d) (m.site_at d) m.is_dead_at app d frame a goes.app_outs goes.state goes.shown alive (h.sites d).link (h.sites d).ends
           taken.connection taken.its taken.behind taken.left x)
       go (inr (inr (inr x))) =
           unwired false (ap (λ (t : AppEnd). has_wire t.line) x.1.end ∙ x.0) x.1.frames (ap (list_any (is_index d)) x.1.cuts)

@@ -16,6 +16,7 @@ pub mod DialLinks
 pub mod InputLinks
 pub mod TookDown
 pub mod JoinedFirst
+pub mod JoinedNow
 pub mod JoinedTakes
 pub mod FrameTook
 pub mod TookSites

@@ -28,7 +28,8 @@ use Rattle.cluster_invariant.specs.Words.{downs_left, is_normal_down}
 use Rattle.cluster_steps.proofs.AppSites.{site_beside, site_ends}
 use Rattle.link_apps.proofs.FrameTook.{Took}
 use Rattle.link_apps.proofs.JoinedFirst.{JoinedFirst, joined_first}
-use Rattle.link_apps.proofs.JoinedTakes.{LaneTook, Takes}
+use Rattle.link_apps.proofs.JoinedNow.{JoinedNow}
+use Rattle.link_apps.proofs.JoinedTakes.{LaneTook, Takes, joined_now_by_takes}
 use Rattle.link_apps.proofs.LanesApps.{own_lane, site_lanes}
 use Rattle.link_apps.proofs.OwnPuts.{own_after}
 
@@ -128,8 +129,8 @@ module _ (v : Server) (x : Site) (dead : ℕ → Bool) (app d : ℕ) (frame : Do
     down_taken = refl;
   }
 
-  -- So the end took the frame.
-  pub takes_at : Takes x y app took_end c frame rest tk.ms tk.us
+  -- the end took the frame
+  takes_at : Takes x y app took_end c frame rest tk.ms tk.us
   takes_at = record {
     beside = site_beside app d outs e.state t (message_from d input) g x;
     ends = site_ends app d outs e.state t (message_from d input) g x ∙ ap (put x.end_at app) moved;
@@ -166,3 +167,7 @@ module _ (v : Server) (x : Site) (dead : ℕ → Bool) (app d : ℕ) (frame : Do
         ((subst (λ (o : Option Place). IfSome o (λ p. (s ≡ tk.was.number) → (k ≡ p.order) → ⊥)) place.told
         (subst (λ (o : Option Session). IfSome o (λ u. IfSome e.told (λ p. (s ≡ u.number) → (k ≡ p.order) → ⊥))) tk.has none)) at here)));
   }
+
+  -- So what is on its way follows.
+  pub site_took : JoinedNow v x y dead app took_end c rest tk.us
+  site_took = joined_now_by_takes v x y dead app took_end alive link are c frame rest tk.ms tk.us takes_at
