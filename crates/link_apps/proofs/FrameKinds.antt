@@ -53,7 +53,7 @@ module _ (v : Server) (x : Site) (dead : ℕ → Bool) (app d now : ℕ) (frame 
   -- a message with a number is never one that was taken before
   none_again : (s : Session) → JoinedFirst v x app s on frame rest → frame.seq ≢ 0 → frame.seq ≤ s.window.taken → ⊥
   none_again s p some low =
-      absurd (omega (arith, low, p.window.taken, next_number frame p.first.its (x.lane_at s.number p.k) some p.first.next))
+      absurd (omega (arith, low, p.place.window.taken, next_number frame p.first.its (x.lane_at s.number p.place.k) some p.first.next))
 
   numbered : (m : Down) (f : Front) → frame.message ≡ m → ((n : ℕ) → fits_down m n ≡ nat_lt 0 n) → is_reset_down m ≡ false
       → NumberedCame d now frame.seq frame.ack m f e.state b c → Comes d now frame e.state b c

@@ -48,7 +48,7 @@ use Rattle.link_apps.proofs.InputPlain.{AfterInput, after_input}
 use Rattle.link_apps.proofs.JoinedNow.{link_kept_by_joined}
 use Rattle.link_apps.proofs.Rests.{EndRests, Keeps, ended_rests, lost_wire, rests_same}
 use Rattle.link_apps.proofs.RestLinks.{TakesNone, ended_keeps, has, may, rest_at, rest_by, taken_rests, takes_at as rests_as_taken}
-use Rattle.link_apps.proofs.TookSites.{took_end, site_took}
+use Rattle.link_apps.proofs.TookSites.{end_took, site_took}
 
 -- a frame that is no Welcome tells nothing
 none_told : (m : Down) (d now : ℕ) (e : AppEnd) (b c : Sofar) → IsNoWelcome m → WelcomeTold m d now e b c → ⊥
@@ -193,7 +193,7 @@ module _ (l : Layout) (c : CoresState) (m : Machine) (app now d : ℕ) (frame : 
       go (inr (inr (inl x))) =
           link_kept_by_joined ((state_after l m.trail).server_at d) ((after_all l (state_after l m.trail) goes.app_outs.acts).server_at d) (m.site_at d)
           (input_site app (app_in.Frame d frame) goes.app_outs goes.state goes.shown d (m.site_at d)) m.is_dead_at app
-          (took_end ((state_after l m.trail).server_at d) (m.site_at d) m.is_dead_at app d frame a goes.app_outs goes.state goes.shown alive (h.sites d).link (h.sites d).ends
+          (end_took ((state_after l m.trail).server_at d) (m.site_at d) m.is_dead_at app d frame a goes.app_outs goes.state goes.shown alive (h.sites d).link (h.sites d).ends
           taken.connection taken.its taken.behind taken.left x) alive (after.later d tells) (λ b other. after.others d b other) (after.now d) (h.sites d).order.past (h.sites d).link
           (h.sites d).ends (h.sites d).dials taken.connection taken.behind x.us
           (site_took ((state_after l m.trail).server_at d) (m.site_at d) m.is_dead_at app d frame a goes.app_outs goes.state goes.shown alive (h.sites d).link (h.sites d).ends

@@ -93,13 +93,13 @@ module _ (v : Server) (x y : Site) (dead : ℕ → Bool) (app : ℕ) (f : End) (
   place : JoinedFirst v x app s c frame rest
   place = joined_first v x dead app alive link are s c frame rest t.line t.has t.its t.left t.not_reset
 
-  took : LaneTook ms u.window.taken (x.lane_at s.number place.k) (y.lane_at s.number place.k)
+  took : LaneTook ms u.window.taken (x.lane_at s.number place.place.k) (y.lane_at s.number place.place.k)
   took =
       of_some (λ (z : Place). LaneTook ms u.window.taken (x.lane_at s.number z.order) (y.lane_at s.number z.order)) e.told
-      (record { session = s.number; order = place.k }) place.told t.own
+      (record { session = s.number; order = place.place.k }) place.place.told t.own
 
   abbrev k : ℕ
-  k = place.k
+  k = place.place.k
 
   abbrev lane : Lane
   lane = x.lane_at s.number k
@@ -111,8 +111,8 @@ module _ (v : Server) (x y : Site) (dead : ℕ → Bool) (app : ℕ) (f : End) (
   counts_off = go t.taken
     where
       go : ((frame.seq ≢ 0) × (u.window.taken ≡ s.window.taken + 1)) ⊎ ((frame.seq ≡ 0) × (u.window.taken ≡ s.window.taken)) → Counts frame lane lane_now
-      go (inl is) = inl (is.0, took.down_taken ∙ is.1 ∙ ap (λ (n : ℕ). n + 1) place.window.taken)
-      go (inr is) = inr (is.0, took.down_taken ∙ is.1 ∙ place.window.taken)
+      go (inl is) = inl (is.0, took.down_taken ∙ is.1 ∙ ap (λ (n : ℕ). n + 1) place.place.window.taken)
+      go (inr is) = inr (is.0, took.down_taken ∙ is.1 ∙ place.place.window.taken)
 
   taken_of : TakenOf frame lane lane_now
   taken_of = record { counts = counts_off; down = took.down; up_taken = took.up_taken }
@@ -146,12 +146,12 @@ module _ (v : Server) (x y : Site) (dead : ℕ → Bool) (app : ℕ) (f : End) (
   lane_put = record { began = took.began; up = (ms, took.up); up_taken = took.up_taken; down = took.down; down_taken = no_less }
 
   begun : lane.began ≡ None → ⊥
-  begun none = false≢true (sym (ap is_some none) ∙ place.begun)
+  begun none = false≢true (sym (ap is_some none) ∙ place.place.begun)
 
   -- upwards
 
   low : max s.window.acked frame.ack ≤ lane.up_taken
-  low = omega (arith, place.window.acked, place.first.ack)
+  low = omega (arith, place.place.window.acked, place.first.ack)
 
   in_up : lane.up_taken ≤ length lane.up
   in_up = (link.lanes s.number k).up_taken
@@ -162,9 +162,9 @@ module _ (v : Server) (x y : Site) (dead : ℕ → Bool) (app : ℕ) (f : End) (
         arith,
         t.acked,
         length-drop (frame.ack - s.window.acked) s.window.waiting,
-        ap (λ (l : List Up). length l) place.window.waiting,
+        ap (λ (l : List Up). length l) place.place.window.waiting,
         length-drop s.window.acked lane.up,
-        place.window.acked,
+        place.place.window.acked,
         place.first.ack,
         in_up,
       )
@@ -181,7 +181,7 @@ module _ (v : Server) (x y : Site) (dead : ℕ → Bool) (app : ℕ) (f : End) (
   window_now = record {
     waiting =
         t.waiting
-        ∙ ap (λ (l : List Up). drop (frame.ack - s.window.acked) l ++ ms) place.window.waiting
+        ∙ ap (λ (l : List Up). drop (frame.ack - s.window.acked) l ++ ms) place.place.window.waiting
         ∙ ap (λ (l : List Up). l ++ ms) (drop-drop (frame.ack - s.window.acked) s.window.acked lane.up)
         ∙ ap (λ (n : ℕ). drop n lane.up ++ ms) so_many
         ∙ sym (drop-append-le (max s.window.acked frame.ack) lane.up ms (omega (arith, low, in_up)))
@@ -229,10 +229,10 @@ module _ (v : Server) (x y : Site) (dead : ℕ → Bool) (app : ℕ) (f : End) (
     now = t.now;
     number = t.number;
     k = k;
-    there = place.there;
-    told_of = place.told;
+    there = place.place.there;
+    told_of = place.place.told;
     carried = place.its;
-    begun = ap is_some took.began ∙ place.begun;
+    begun = ap is_some took.began ∙ place.place.begun;
     lane_put = lane_put;
     counts = counts_put lane lane_now ms lane_put took.up begun t.numbered within (link.lanes s.number k);
     elsewhere = t.elsewhere;

@@ -15,10 +15,12 @@ pub mod ConnectedLinks
 pub mod DialLinks
 pub mod InputLinks
 pub mod TookDown
+pub mod OwnPlace
 pub mod JoinedFirst
 pub mod JoinedNow
 pub mod JoinedTakes
 pub mod FrameTook
+pub mod TakenSites
 pub mod TookSites
 pub mod FrameKinds
 pub mod FrameLinks
