@@ -70,7 +70,7 @@ no_news (Some s) (Some u) r = ap not (eq-eqb s.epoch u.epoch (sym r.epoch))
 
 -- lanes
 
-lane_rests : (m : Option Down) (number : ℕ) (s u : Session) (frames : List UpFrame) (a : Lane) → SessionRests s u → s.window.taken ≡ a.down_taken
+pub lane_rests : (m : Option Down) (number : ℕ) (s u : Session) (frames : List UpFrame) (a : Lane) → SessionRests s u → s.window.taken ≡ a.down_taken
     → LaneRests a (with_app_step false m number (sent s.window) (Some u) frames a)
 lane_rests m number s u frames a r taken = record {
   up = ap (λ (xs : List Up). a.up ++ xs) (given_put s.window u.window [] r.acked (r.waiting ∙ sym (append-nil s.window.waiting))) ∙ append-nil a.up;

@@ -125,11 +125,11 @@ pub record Took (d : ℕ) (frame : DownFrame) (e : AppEnd) (b c : Sofar) : Type 
   pub here : Here d (record e { link = link; session = Some session }) us [] [] b c
 
 -- an acknowledgement by itself has no number
-none_bare : (bare : Bool) (taken : ℕ) → numbered_ups (bare_frames bare taken) ≡ []
+pub none_bare : (bare : Bool) (taken : ℕ) → numbered_ups (bare_frames bare taken) ≡ []
 none_bare true taken = refl
 none_bare false taken = refl
 
-acks_bare : (bare : Bool) (taken low : ℕ) → taken ≤ low → AllByRecursion (λ (g : UpFrame). g.ack ≤ low) (bare_frames bare taken)
+pub acks_bare : (bare : Bool) (taken low : ℕ) → taken ≤ low → AllByRecursion (λ (g : UpFrame). g.ack ≤ low) (bare_frames bare taken)
 acks_bare true taken low is = (is, tt)
 acks_bare false taken low is = tt
 

@@ -22,5 +22,6 @@ pub mod JoinedTakes
 pub mod FrameTook
 pub mod TakenSites
 pub mod TookSites
+pub mod WentOn
 pub mod FrameKinds
 pub mod FrameLinks
