@@ -1,4 +1,4 @@
--- What each frame that is no Welcome comes to, by what is on its way before it.
+-- What each frame by which an end learns of no order comes to, by what is on its way before it.
 use Rattle.std.proofs.Common.{◌≡◌, ◌≢◌, ◌≤◌, ◌⊎◌, inl, inr, ℕ, Bool, false, List, [], ◌∷◌, Option, Some, None, refl, sym, ◌∙◌, ap, subst, arith}
 use Rattle.std.specs.Prelude.{nat_lt, Ok}
 use Rattle.std.proofs.lemmas.Bool.{eqb-true, false≢true, ltb-true}
@@ -25,9 +25,9 @@ use Rattle.cluster_invariant.specs.Words.{downs_left, has_wire, is_reset_down}
 use Rattle.cluster_invariant.proofs.Small.{of_some}
 use Rattle.cluster_steps.proofs.EndSteps.{Here}
 use Rattle.cluster_steps.proofs.FrameCases.{BareCame}
-use Rattle.cluster_steps.proofs.FrameEnds.{EndsIt, FrameCame, NumberedCame, TookFresh}
+use Rattle.cluster_steps.proofs.FrameEnds.{EndsIt, FrameCame, NumberedCame, TookFresh, WentOn}
+use Rattle.cluster_steps.proofs.Outcomes.{WelcomeTold}
 use Rattle.link_kept.proofs.Answers.{repeat_below}
-use Rattle.link_apps.specs.Laws.{IsNoWelcome}
 use Rattle.link_apps.proofs.FrameTook.{Took, took_ack, took_fresh}
 use Rattle.link_apps.proofs.JoinedFirst.{JoinedFirst, joined_first}
 use Rattle.link_apps.proofs.TookDown.{next_number}
@@ -37,9 +37,19 @@ pub record Lost (d : ℕ) (e : AppEnd) (b c : Sofar) : Type 0 where
   pub at : ℕ
   pub here : Here d (without_session names.Recovery (reasons.Reset at) e) [] (d ∷ []) (act.Lose b.state.app d (losses.Reset at) ∷ []) b c
 
--- The end ends the connection, or loses its session, or takes the frame, or has no connection any more.
+-- the Welcome of the epoch that was told
+pub record Went (d now : ℕ) (frame : DownFrame) (e : AppEnd) (b c : Sofar) : Type 0 where
+  pub session : ℕ
+  pub epoch : ℕ
+  pub kept : ℕ
+  pub front : Front
+  pub taken : ℕ
+  pub message : frame.message ≡ Welcome session epoch kept front taken
+  pub went : WentOn d now session epoch front taken e b c
+
+-- The end ends the connection, or loses its session, or takes the frame, or has no connection any more, or goes on with its session.
 abbrev pub Comes : ℕ → ℕ → DownFrame → AppEnd → Sofar → Sofar → Type 0
-Comes d now frame e b c = EndsIt d now e b c ⊎ Lost d e b c ⊎ Took d frame e b c ⊎ ((has_wire e.line ≡ false) × Here d e [] [] [] b c)
+Comes d now frame e b c = EndsIt d now e b c ⊎ Lost d e b c ⊎ Took d frame e b c ⊎ ((has_wire e.line ≡ false) × Here d e [] [] [] b c) ⊎ Went d now frame e b c
 
 module _ (v : Server) (x : Site) (dead : ℕ → Bool) (app d now : ℕ) (frame : DownFrame) (alive : dead app ≡ false) (link : LinkHolds v x dead) (are : EndsAre v x dead)
     (on : Connection) (its : (x.end_at app).connection_at (x.end_at app).state.dial ≡ Some on) (rest : List DownFrame) (left : downs_left on ≡ frame ∷ rest)
@@ -107,13 +117,17 @@ module _ (v : Server) (x : Site) (dead : ℕ → Bool) (app d now : ℕ) (frame 
   bare : frame.message ≡ Bare → BareCame d now frame.ack e.state b c → Comes d now frame e.state b c
   bare is (inl t) =
       inr (inr (inl (took_ack d 0 frame e.state b c t (bare_none t.session is (first_of t.session t.is_joined t.its (ap is_reset_down is))) (ap is_reset_down is))))
-  bare is (inr (inl t)) = inr (inr (inr (unwired is e.state.line refl t.0, t.1)))
+  bare is (inr (inl t)) = inr (inr (inr (inl (unwired is e.state.line refl t.0, t.1))))
   bare is (inr (inr t)) = inl t
 
-  -- Each frame that is no Welcome comes to one of these.
-  pub frame_comes : (m : Down) → frame.message ≡ m → IsNoWelcome m → (frame.message ≡ Bare → BareCame d now frame.ack e.state b c) → FrameCame m d now frame e.state b c
+  -- Each frame that tells no session of an order comes to one of these.
+  pub frame_comes : (m : Down) → frame.message ≡ m → (WelcomeTold m d now e.state b c → ⊥) → (frame.message ≡ Bare → BareCame d now frame.ack e.state b c) → FrameCame m d now frame e.state b c
       → Comes d now frame e.state b c
-  frame_comes (Welcome session epoch kept front taken) is none by came = absurd none
+  frame_comes (Welcome session epoch kept front taken) is none by (inl t) = absurd (none (inl t))
+  frame_comes (Welcome session epoch kept front taken) is none by (inr (inl t)) =
+      inr (inr (inr (inr (record { session = session; epoch = epoch; kept = kept; front = front; taken = taken; message = is; went = t }))))
+  frame_comes (Welcome session epoch kept front taken) is none by (inr (inr (inl t))) = absurd (none (inr t))
+  frame_comes (Welcome session epoch kept front taken) is none by (inr (inr (inr t))) = inl t
   frame_comes (Reset session at) is none by (inl t) = inr (inl (record { at = at; here = t.here }))
   frame_comes (Reset session at) is none by (inr t) = inl t
   frame_comes (Block front block) is none by came = numbered (Block front block) front is (λ n. refl) refl came

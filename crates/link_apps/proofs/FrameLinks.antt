@@ -1,5 +1,5 @@
--- The part on what is on its way, for each frame that is no Welcome.
-use Rattle.std.proofs.Common.{◌≡◌, ◌≢◌, ◌⊎◌, inl, inr, ℕ, Bool, true, false, ◌==◌, if◌then◌else◌, not, ◌&&◌, ◌||◌, List, [], ◌∷◌, ◌++◌, refl, sym, ◌∙◌, ap, subst, eqb}
+-- The part on what is on its way, for each frame by which the end at its data server learns of no order.
+use Rattle.std.proofs.Common.{◌≡◌, ◌≢◌, ◌<◌, ◌⊎◌, inl, inr, ℕ, Bool, true, false, ◌==◌, if◌then◌else◌, not, ◌&&◌, ◌||◌, List, [], ◌∷◌, ◌++◌, map, Option, Some, None, is_some, refl, sym, ◌∙◌, ap, subst, eqb, arith}
 use Rattle.std.specs.List.{list_any}
 use Rattle.std.proofs.lemmas.Bool.{eqb-true, eq-eqb, false≢true, ne_eqb}
 use Rattle.plain_orders.specs.declared.act.Act.{Act}
@@ -18,7 +18,7 @@ use Rattle.app_job.specs.declared.reason.Reason.TheVariants as reasons
 use Rattle.app_rules.specs.declared.app_in.AppIn.TheVariants as app_in
 use Rattle.app_rules.specs.declared.line.Line.{Line}
 use Rattle.app_rules.specs.declared.line.Line.TheVariants.{Apart, Trying, Greeting, Asking, Joined}
-use Rattle.app_rules.specs.AppState.{AppState, AppEnd}
+use Rattle.app_rules.specs.AppState.{AppState, AppEnd, Session}
 use Rattle.app_rules.specs.AppStep.{AppMay, made}
 use Rattle.app_rules.specs.Losing.{without_session}
 use Rattle.app_rules.specs.Works.{Sofar, begun, end_at}
@@ -42,25 +42,55 @@ use Rattle.cluster_steps.proofs.Outcomes.{WelcomeTold}
 use Rattle.ends_kept.proofs.TakenDown.{Taken, taken_down}
 use Rattle.told_kept.proofs.ToldActs.{TellNothing, input_acts}
 use Rattle.link_kept.specs.Laws.{EachLinkHolds}
-use Rattle.link_apps.specs.Laws.{IsNoWelcome}
 use Rattle.link_apps.proofs.FrameKinds.{Comes, frame_comes}
 use Rattle.link_apps.proofs.InputPlain.{AfterInput, after_input}
 use Rattle.link_apps.proofs.JoinedNow.{link_kept_by_joined}
 use Rattle.link_apps.proofs.Rests.{EndRests, Keeps, ended_rests, lost_wire, rests_same}
 use Rattle.link_apps.proofs.RestLinks.{TakesNone, ended_keeps, has, may, rest_at, rest_by, taken_rests, takes_at as rests_as_taken}
 use Rattle.link_apps.proofs.TookSites.{end_took, site_took}
+use Rattle.link_apps.proofs.WentOn.{end_went, site_went}
+use Rattle.cluster_runs.specs.Lanes.{is_told_new}
+use Rattle.cluster_invariant.specs.Ends.{has_session, stands}
+use Rattle.link_states.specs.declared.app_link.AppLink.{AppLink}
+use Rattle.link_states.specs.declared.app_link.AppLink.TheVariants.{NotConnected, Normal as NormalLink, Trouble, Recovery}
+use Rattle.end_words.specs.Windows.{resent}
+use Rattle.cluster_steps.proofs.JobEnds.{up_frame}
+use Rattle.cluster_steps.proofs.EndSteps.{bare_frames, session_put}
+use Rattle.app_rules.specs.Welcoming.{in_epoch, told_puts}
+use Rattle.app_rules.specs.Works.{synced_up}
 
--- a frame that is no Welcome tells nothing
-none_told : (m : Down) (d now : ℕ) (e : AppEnd) (b c : Sofar) → IsNoWelcome m → WelcomeTold m d now e b c → ⊥
-none_told (Welcome session epoch kept front taken) d now e b c none told = none
-none_told (Reset session at) d now e b c none told = told
-none_told (Block front block) d now e b c none told = told
-none_told (Drop front lo hi) d now e b c none told = told
-none_told (Ack front) d now e b c none told = told
-none_told (Grant front ticket at) d now e b c none told = told
-none_told (Answer front about job number at sum) d now e b c none told = told
-none_told (Normal front) d now e b c none told = told
-none_told Bare d now e b c none told = told
+-- what is told is new
+
+greets_alone : (link : AppLink) → stands link Greeting ≡ true → has_session link ≡ false
+greets_alone NotConnected is = refl
+greets_alone NormalLink is = absurd (false≢true is)
+greets_alone (Trouble broke try_at) is = absurd (false≢true is)
+greets_alone Recovery is = absurd (false≢true is)
+
+met_news : (o : Option Session) (t : Session) → is_some o ≡ false → is_told_new o (Some t) ≡ true
+met_news None t none = refl
+met_news (Some s) t none = absurd (false≢true (sym none))
+
+learnt_news : (o q : Option Session) (s t : Session) → o ≡ Some s → q ≡ Some t → s.epoch < t.epoch → is_told_new o q ≡ true
+learnt_news o q s t was is later =
+    ap (λ (z : Option Session). is_told_new z q) was ∙ ap (is_told_new (Some s)) is ∙ ap not (ne_eqb s.epoch t.epoch (λ same. absurd (omega (arith, same, later))))
+
+welcome_news : (m : Down) (d now : ℕ) (e t : AppEnd) (b c : Sofar) → end_at c.state d ≡ t → stands e.link e.line ≡ true → has_session e.link ≡ is_some e.session
+    → WelcomeTold m d now e b c → is_told_new e.session t.session ≡ true
+welcome_news (Welcome session epoch kept front taken) d now e t b c is stand connected (inl x) =
+    ap (is_told_new e.session) (sym (ap (λ (z : AppEnd). z.session) is) ∙ ap (λ (z : AppEnd). z.session) x.here.end)
+    ∙ met_news e.session _ (sym connected ∙ greets_alone e.link (ap (stands e.link) (sym x.greeting) ∙ stand))
+welcome_news (Welcome session epoch kept front taken) d now e t b c is stand connected (inr x) =
+    learnt_news e.session t.session x.session (session_put x.since (told_puts front.w (synced_up front.s x.session)) (in_epoch epoch front x.session)) x.its
+    (sym (ap (λ (z : AppEnd). z.session) is) ∙ ap (λ (z : AppEnd). z.session) x.here.end) x.later
+welcome_news (Reset session at) d now e t b c is stand connected told = absurd told
+welcome_news (Block front block) d now e t b c is stand connected told = absurd told
+welcome_news (Drop front lo hi) d now e t b c is stand connected told = absurd told
+welcome_news (Ack front) d now e t b c is stand connected told = absurd told
+welcome_news (Grant front ticket at) d now e t b c is stand connected told = absurd told
+welcome_news (Answer front about job number at sum) d now e t b c is stand connected told = absurd told
+welcome_news (Normal front) d now e t b c is stand connected told = absurd told
+welcome_news Bare d now e t b c is stand connected told = absurd told
 
 -- an end whose connection was ended has none
 ended_wireless : (line : Line) (times : Times) (now : ℕ) (e : AppEnd) → e.line ≡ line → has_wire (ended_from line times now e).line ≡ false
@@ -80,7 +110,8 @@ record Apart_ (app d : ℕ) (cuts : List ℕ) (acts : List Act) : Type 0 where
 
 module _ (l : Layout) (c : CoresState) (m : Machine) (app now d : ℕ) (frame : DownFrame) (outs : MoveOuts) (written : List Act) (new : Machine)
     (h : Holds l m) (run : IsRun l m.trail) (shows : Mirrors c m) (allowed : Allowed c (App app now (app_in.Frame d frame)))
-    (goes : AppGoes m app now (app_in.Frame d frame) outs written new) (no_welcome : IsNoWelcome frame.message) where
+    (goes : AppGoes m app now (app_in.Frame d frame) outs written new)
+    (no_news : is_told_new ((m.site_at d).end_at app).state.session (end_at goes.state d).session ≡ false) where
   abbrev a : AppState
   a = app_state m app
 
@@ -99,13 +130,18 @@ module _ (l : Layout) (c : CoresState) (m : Machine) (app now d : ℕ) (frame : 
   same : end_at a d ≡ e.state
   same = app_ends c m app d shows allowed.known
 
+  none_told : WelcomeTold frame.message d now e.state (begun a) z → ⊥
+  none_told told =
+      false≢true (sym no_news
+      ∙ welcome_news frame.message d now e.state (end_at goes.state d) (begun a) z refl ((h.sites d).ends.tables app alive).stands ((h.sites d).ends.tables app alive).connected told)
+
   tells : TellNothing goes.app_outs.acts
   tells =
       go (input_acts (app_in.Frame d frame) now (begun a) z its (has l c m app now (app_in.Frame d frame) outs written new h run shows allowed goes) goes.steps)
     where
       go : (TellNothing [] → TellNothing goes.app_outs.acts) ⊎ WelcomeTold frame.message d now (end_at a d) (begun a) z → TellNothing goes.app_outs.acts
       go (inl quiet) = quiet tt
-      go (inr told) = absurd (none_told frame.message d now (end_at a d) (begun a) z no_welcome told)
+      go (inr told) = absurd (none_told (subst (λ (t : AppEnd). WelcomeTold frame.message d now t (begun a) z) same told))
 
   taken : Taken e frame
   taken = taken_down c m app d frame shows allowed.takes
@@ -113,7 +149,7 @@ module _ (l : Layout) (c : CoresState) (m : Machine) (app now d : ℕ) (frame : 
   comes : Comes d now frame e.state (begun a) z
   comes =
       frame_comes ((state_after l m.trail).server_at d) (m.site_at d) m.is_dead_at app d now frame alive (h.sites d).link (h.sites d).ends taken.connection taken.its taken.behind
-      taken.left (begun a) z frame.message refl no_welcome
+      taken.left (begun a) z frame.message refl none_told
       (λ is.
       subst (λ (t : AppEnd). BareCame d now frame.ack t (begun a) z) same
       (bare_frame_came (begun a) now d frame z its.known (has l c m app now (app_in.Frame d frame) outs written new h run shows allowed goes d) goes.steps is))
@@ -145,7 +181,8 @@ module _ (l : Layout) (c : CoresState) (m : Machine) (app now d : ℕ) (frame : 
           by k other true = ap not (ne_eqb d k other)
           by k other false = refl
       go (inr (inr (inl x))) = record { none_cut = λ k other. ap (list_any (is_index k)) x.here.cuts; keeps = λ k other. subst (Keeps app k) (sym x.here.acts) tt }
-      go (inr (inr (inr x))) = record { none_cut = λ k other. ap (list_any (is_index k)) x.1.cuts; keeps = λ k other. subst (Keeps app k) (sym x.1.acts) tt }
+      go (inr (inr (inr (inl x)))) = record { none_cut = λ k other. ap (list_any (is_index k)) x.1.cuts; keeps = λ k other. subst (Keeps app k) (sym x.1.acts) tt }
+      go (inr (inr (inr (inr x)))) = record { none_cut = λ k other. ap (list_any (is_index k)) x.went.here.cuts; keeps = λ k other. subst (Keeps app k) (sym x.went.here.acts) tt }
 
   elsewhere : (k : ℕ) → k ≢ d
       → LinkHolds ((after_all l (state_after l m.trail) goes.app_outs.acts).server_at k) (input_site app (app_in.Frame d frame) goes.app_outs goes.state goes.shown k (m.site_at k)) m.is_dead_at
@@ -198,15 +235,24 @@ module _ (l : Layout) (c : CoresState) (m : Machine) (app now d : ℕ) (frame : 
           (h.sites d).ends (h.sites d).dials taken.connection taken.behind x.us
           (site_took ((state_after l m.trail).server_at d) (m.site_at d) m.is_dead_at app d frame a goes.app_outs goes.state goes.shown alive (h.sites d).link (h.sites d).ends
           taken.connection taken.its taken.behind taken.left x)
-      go (inr (inr (inr x))) =
+      go (inr (inr (inr (inr x)))) =
+          link_kept_by_joined ((state_after l m.trail).server_at d) ((after_all l (state_after l m.trail) goes.app_outs.acts).server_at d) (m.site_at d)
+          (input_site app (app_in.Frame d frame) goes.app_outs goes.state goes.shown d (m.site_at d)) m.is_dead_at app
+          (end_went ((state_after l m.trail).server_at d) (m.site_at d) m.is_dead_at app d now frame a goes.app_outs goes.state goes.shown alive (h.sites d).link (h.sites d).ends
+          (h.sites d).dials taken.connection taken.its taken.behind taken.left x.session x.epoch x.kept x.front x.taken x.message x.went) alive (after.later d tells)
+          (λ b other. after.others d b other) (after.now d) (h.sites d).order.past (h.sites d).link (h.sites d).ends (h.sites d).dials taken.connection taken.behind
+          (map (up_frame x.went.session.window.taken) (resent x.went.session.window x.taken) ++ bare_frames x.went.bare x.went.session.window.taken)
+          (site_went ((state_after l m.trail).server_at d) (m.site_at d) m.is_dead_at app d now frame a goes.app_outs goes.state goes.shown alive (h.sites d).link (h.sites d).ends
+          (h.sites d).dials taken.connection taken.its taken.behind taken.left x.session x.epoch x.kept x.front x.taken x.message x.went)
+      go (inr (inr (inr (inl x)))) =
           unwired false (ap (λ (t : AppEnd). has_wire t.line) x.1.end ∙ x.0) x.1.frames (ap (list_any (is_index d)) x.1.cuts)
           (subst (λ (t : AppEnd). EndRests t (end_at goes.state d)) (sym same) (subst (EndRests e.state) (sym x.1.end) (rests_same e.state)))
 
--- Each frame that is no Welcome keeps it.
+-- Each frame by which the end learns of no order keeps it.
 pub links_kept_by_frames : (l : Layout) (c : CoresState) (m : Machine) (app now d : ℕ) (frame : DownFrame) (outs : MoveOuts) (written : List Act) (new : Machine)
-    → Holds l m → IsRun l m.trail → Mirrors c m → Allowed c (App app now (app_in.Frame d frame)) → AppGoes m app now (app_in.Frame d frame) outs written new
-    → IsNoWelcome frame.message → EachLinkHolds l new
-links_kept_by_frames l c m app now d frame outs written new h run shows allowed goes no_welcome =
+    → Holds l m → IsRun l m.trail → Mirrors c m → Allowed c (App app now (app_in.Frame d frame)) → (goes : AppGoes m app now (app_in.Frame d frame) outs written new)
+    → is_told_new ((m.site_at d).end_at app).state.session (end_at goes.state d).session ≡ false → EachLinkHolds l new
+links_kept_by_frames l c m app now d frame outs written new h run shows allowed goes no_news =
     subst (λ (n : Machine). EachLinkHolds l n) (sym goes.after)
     (subst (λ (ws : List Act). (k : ℕ) → LinkHolds ((state_after l (m.trail ++ ws)).server_at k) (site k) m.is_dead_at) (sym goes.acts)
     (λ k. subst (λ (q : Plain). LinkHolds (q.server_at k) (site k) m.is_dead_at) (sym (after_all-append l start m.trail goes.app_outs.acts)) (go k (eqb k d) refl)))
@@ -217,5 +263,5 @@ links_kept_by_frames l c m app now d frame outs written new h run shows allowed 
     go : (k : ℕ) (b : Bool) → eqb k d ≡ b → LinkHolds ((after_all l (state_after l m.trail) goes.app_outs.acts).server_at k) (site k) m.is_dead_at
     go k true same =
         subst (λ (n : ℕ). LinkHolds ((after_all l (state_after l m.trail) goes.app_outs.acts).server_at n) (site n) m.is_dead_at) (sym (eqb-true k d same))
-        (here l c m app now d frame outs written new h run shows allowed goes no_welcome)
-    go k false other = elsewhere l c m app now d frame outs written new h run shows allowed goes no_welcome k (λ same. false≢true (sym other ∙ eq-eqb k d same))
+        (here l c m app now d frame outs written new h run shows allowed goes no_news)
+    go k false other = elsewhere l c m app now d frame outs written new h run shows allowed goes no_news k (λ same. false≢true (sym other ∙ eq-eqb k d same))

@@ -60,9 +60,9 @@ no_numbered n f ups none is = ap (λ (xs : List UpFrame). numbered_ups (drop n x
     go (suc k) = ap numbered_ups (drop-nil k)
 
 -- what is sent again to an end that took so many, of a window whose messages were put
-sent_again : (n acked taken came : ℕ) (waiting put : List Up) → waiting ≡ drop acked put → acked ≤ taken → taken ≤ length put
+sent_again : (acked taken came : ℕ) (waiting put : List Up) → waiting ≡ drop acked put → acked ≤ taken → taken ≤ length put
     → numbered_ups (map (up_frame came) (if nat_lt (acked + length waiting) taken then [] else numbered_from (max taken acked) (drop (taken - acked) waiting))) ≡ numbered_behind taken put
-sent_again n acked taken came waiting put is low within = go (nat_lt (acked + length waiting) taken) refl
+sent_again acked taken came waiting put is low within = go (nat_lt (acked + length waiting) taken) refl
   where
     go : (b : Bool) → nat_lt (acked + length waiting) taken ≡ b
         → numbered_ups (map (up_frame came) (if b then [] else numbered_from (max taken acked) (drop (taken - acked) waiting))) ≡ numbered_behind taken put
@@ -212,7 +212,7 @@ module _ (v : Server) (x : Site) (dead : ℕ → Bool) (app d now : ℕ) (frame 
       numbered_ups_joined (map (up_frame s.window.taken) (resent s.window taken)) (bare_frames went.bare s.window.taken)
       ∙ ap (λ (xs : List (ℕ × Up)). numbered_ups (map (up_frame s.window.taken) (resent s.window taken)) ++ xs) (none_bare went.bare s.window.taken)
       ∙ append-nil (numbered_ups (map (up_frame s.window.taken) (resent s.window taken)))
-      ∙ sent_again 0 s.window.acked taken s.window.taken s.window.waiting lane.up place.window.waiting (omega (arith, place.window.acked, counted))
+      ∙ sent_again s.window.acked taken s.window.taken s.window.waiting lane.up place.window.waiting (omega (arith, place.window.acked, counted))
       (omega (arith, counted, (link.lanes s.number k).up_taken))
       ∙ ap (λ (n : ℕ). numbered_behind n lane.up) counted
 

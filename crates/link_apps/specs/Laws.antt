@@ -1,10 +1,8 @@
 -- Steps of application servers that keep what is on its way, where the invariant holds before them.
-use Rattle.std.specs.Prelude.{⊤, ℕ, List}
+use Rattle.std.specs.Prelude.{◌≡◌, ⊤, ℕ, false, List}
 use Rattle.plain_orders.specs.declared.act.Act.{Act}
 use Rattle.plain_orders.specs.declared.layout.Layout.{Layout}
 use Rattle.plain_runs.specs.Run.{IsRun}
-use Rattle.ecp_messages.specs.declared.down.Down.{Down}
-use Rattle.ecp_messages.specs.declared.down.Down.TheVariants.{Welcome}
 use Rattle.ecp_messages.specs.declared.down.DownFrame.{DownFrame}
 use Rattle.app_job.specs.declared.command.Command.{Command}
 use Rattle.app_rules.specs.declared.app_in.AppIn.{AppIn}
@@ -13,6 +11,8 @@ use Rattle.cluster_runs.specs.CoresState.{CoresState, app_of_job}
 use Rattle.cluster_runs.specs.declared.move_outs.MoveOuts.{MoveOuts}
 use Rattle.cluster_runs.specs.declared.moves.Move.TheVariants.{App, Step}
 use Rattle.cluster_runs.specs.Goes.{AppGoes, JobGoes}
+use Rattle.app_rules.specs.Works.{end_at}
+use Rattle.cluster_runs.specs.Lanes.{is_told_new}
 use Rattle.cluster_runs.specs.Machine.{Machine}
 use Rattle.cluster_runs.specs.Mirrors.{Mirrors}
 use Rattle.cluster_runs.specs.Moves.{Allowed}
@@ -41,13 +41,8 @@ OtherInputsKeepLinks = (l : Layout) (c : CoresState) (m : Machine) (app now : �
     → Holds l m → IsRun l m.trail → Mirrors c m → Allowed c (App app now input) → AppGoes m app now input outs written new → IsNoFrame input
     → EachLinkHolds l new
 
--- a frame that tells of no order
-abbrev pub IsNoWelcome : Down → Type 0
-IsNoWelcome (Welcome session epoch kept front taken) = ⊥
-IsNoWelcome m = ⊤
-
--- And each frame of an application server's connection that is no Welcome.
-abbrev pub FramesButWelcomesKeepLinks : Type 0
-FramesButWelcomesKeepLinks = (l : Layout) (c : CoresState) (m : Machine) (app now d : ℕ) (frame : DownFrame) (outs : MoveOuts) (written : List Act) (new : Machine)
-    → Holds l m → IsRun l m.trail → Mirrors c m → Allowed c (App app now (app_in.Frame d frame)) → AppGoes m app now (app_in.Frame d frame) outs written new
-    → IsNoWelcome frame.message → EachLinkHolds l new
+-- And each frame by which the end at its data server learns of no order: one that is no Welcome, and the Welcome of the epoch that it was told.
+abbrev pub FramesWithoutNewsKeepLinks : Type 0
+FramesWithoutNewsKeepLinks = (l : Layout) (c : CoresState) (m : Machine) (app now d : ℕ) (frame : DownFrame) (outs : MoveOuts) (written : List Act) (new : Machine)
+    → Holds l m → IsRun l m.trail → Mirrors c m → Allowed c (App app now (app_in.Frame d frame)) → (goes : AppGoes m app now (app_in.Frame d frame) outs written new)
+    → is_told_new ((m.site_at d).end_at app).state.session (end_at goes.state d).session ≡ false → EachLinkHolds l new
