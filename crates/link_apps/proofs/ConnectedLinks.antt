@@ -31,7 +31,8 @@ use Rattle.link_apps.proofs.NodeApps.{DownsStay}
 use Rattle.link_apps.proofs.OwnPuts.{own_after}
 use Rattle.link_apps.proofs.PutsUp.{way_put}
 use Rattle.link_apps.proofs.RestWays.{LaneRests, counts_rest, put_of}
-use Rattle.link_apps.proofs.RestLinks.{place_number, lane_same, has}
+use Rattle.link_apps.proofs.RestSites.{place_number, lane_same}
+use Rattle.link_apps.proofs.RestLinks.{has}
 
 -- a session whose window is as it was
 pub record SessionRests (s u : Session) : Type 0 where

@@ -42,7 +42,8 @@ use Rattle.link_apps.proofs.LanesApps.{site_lanes}
 use Rattle.link_apps.proofs.OwnPuts.{own_after}
 use Rattle.link_apps.proofs.Rests.{EndRests, rests_same, Keeps}
 use Rattle.link_apps.proofs.RestWays.{LaneRests}
-use Rattle.link_apps.proofs.RestLinks.{lane_same, rest_at, may, has}
+use Rattle.link_apps.proofs.RestSites.{lane_same}
+use Rattle.link_apps.proofs.RestLinks.{rest_at, may, has}
 use Rattle.link_apps.proofs.ConnectedLinks.{Dialled, no_news, dial_lane, dial_elsewhere, own_dialled, step_dialled, dialled_by}
 
 -- its first frame goes to its data server alone, nothing is cut, and no session is lost

@@ -46,7 +46,8 @@ use Rattle.link_apps.proofs.FrameKinds.{Comes, frame_comes}
 use Rattle.link_apps.proofs.InputPlain.{AfterInput, after_input}
 use Rattle.link_apps.proofs.JoinedNow.{link_kept_by_joined}
 use Rattle.link_apps.proofs.Rests.{EndRests, Keeps, ended_rests, lost_wire, rests_same}
-use Rattle.link_apps.proofs.RestLinks.{TakesNone, ended_keeps, has, may, rest_at, rest_by, taken_rests, takes_at as rests_as_taken}
+use Rattle.link_apps.proofs.RestSites.{TakesNone, taken_rests, takes_at as rests_as_taken}
+use Rattle.link_apps.proofs.RestLinks.{ended_keeps, has, may, rest_at, rest_by}
 use Rattle.link_apps.proofs.TookSites.{end_took, site_took}
 use Rattle.link_apps.proofs.WentOn.{end_went, site_went}
 use Rattle.cluster_runs.specs.Lanes.{is_told_new}

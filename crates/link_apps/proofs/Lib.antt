@@ -10,6 +10,7 @@ pub mod CommandLinks
 pub mod Rests
 pub mod RestWays
 pub mod InputPlain
+pub mod RestSites
 pub mod RestLinks
 pub mod ConnectedLinks
 pub mod DialLinks
