@@ -95,14 +95,15 @@ then_sets d f s e us cs ws b c there h =
 
 -- acknowledgements
 
-acked_by : (d seq ack : ℕ) (b t : Sofar) (s : Session) → d < length b.state.ends → (end_at b.state d).session ≡ Some s → (end_at b.state d).line ≡ Joined → t ≡ acknowledged d ack b
-    → Acked d seq ack (end_at b.state d) b (settled d t)
-acked_by d seq ack b t s there its line after = record {
+acked_by : (d seq ack : ℕ) (b t : Sofar) (s : Session) → d < length b.state.ends → (end_at b.state d).session ≡ Some s → (end_at b.state d).line ≡ Joined → (seq ≡ 0) ⊎ (answers body_of s.window seq ack ≡ Ok Repeat)
+    → t ≡ acknowledged d ack b → Acked d seq ack (end_at b.state d) b (settled d t)
+acked_by d seq ack b t s there its line repeats after = record {
   session = s;
   its = its;
   is_joined = line;
   answered = answers body_of s.window seq ack;
   known = refl;
+  repeats = repeats;
   settles = go (then_settled d (with_window (λ w. with_ack w ack) s) (record (end_at b.state d) { session = Some (with_window (λ w. with_ack w ack) s) }) [] [] [] b t (ap is_joined line) refl
       (subst (λ (x : Sofar). Here d (record (end_at b.state d) { session = Some (with_window (λ w. with_ack w ack) s) }) [] [] [] b x) (sym after)
       (then_sets d (with_window (λ w. with_ack w ack)) s (end_at b.state d) [] [] [] b b its (here_same d b there))));
@@ -225,7 +226,9 @@ numbered_came (Ok Fresh) d now frame f s b t there its line answered (inl x) =
     (ap (λ (y : Session). answers body_of y.window frame.seq frame.ack) (sym (of_session (end_at b.state d) s its)) ∙ answered)
     (ap (λ (y : Session). falls y f) (sym (of_session (end_at b.state d) s its)) ∙ x.ahead) x.made)
 numbered_came (Ok Fresh) d now frame f s b t there its line answered (inr x) = inr (inr (ends_by d now b t there x.after))
-numbered_came (Ok Repeat) d now frame f s b t there its line answered x = inr (inl (acked_by d frame.seq frame.ack b t s there its line x))
+numbered_came (Ok Repeat) d now frame f s b t there its line answered x =
+    inr (inl (acked_by d frame.seq frame.ack b t s there its line
+    (inr (ap (λ (y : Session). answers body_of y.window frame.seq frame.ack) (sym (of_session (end_at b.state d) s its)) ∙ answered)) x))
 numbered_came (Err why) d now frame f s b t there its line answered x = inr (inr (ends_by d now b t there x))
 
 headed_came : (is_there : Bool) (d now : ℕ) (frame : DownFrame) (f : Front) (b t : Sofar) → d < length b.state.ends → LineHas (end_at b.state d).line (end_at b.state d).session → joined b d ≡ is_there
@@ -239,22 +242,26 @@ headed_came true d now frame f b t there has join h = go (joined_session (end_at
     go s = numbered_came (answers body_of (session_at b.state d).window frame.seq frame.ack) d now frame f s.0 b t there s.1 line refl h
 headed_came false d now frame f b t there has join h = inr (inr (ends_by d now b t there h))
 
+-- an acknowledgement by itself comes to an end that joined, or changes nothing
+abbrev pub BareCame : ℕ → ℕ → ℕ → AppEnd → Sofar → Sofar → Type 0
+BareCame d now ack e b c = Acked d 0 ack e b c ⊎ ((is_joined e.line ≡ false) × Here d e [] [] [] b c) ⊎ EndsIt d now e b c
+
 ack_came : (r : Result Taken WindowError) (d now ack : ℕ) (s : Session) (b t : Sofar) → d < length b.state.ends → (end_at b.state d).session ≡ Some s → (end_at b.state d).line ≡ Joined → TakesAck r b d now ack t
-    → Acked d 0 ack (end_at b.state d) b (settled d t) ⊎ Here d (end_at b.state d) [] [] [] b (settled d t) ⊎ EndsIt d now (end_at b.state d) b (settled d t)
-ack_came (Ok answer) d now ack s b t there its line h = inl (acked_by d 0 ack b t s there its line h)
+    → BareCame d now ack (end_at b.state d) b (settled d t)
+ack_came (Ok answer) d now ack s b t there its line h = inl (acked_by d 0 ack b t s there its line (inl refl) h)
 ack_came (Err why) d now ack s b t there its line h = inr (inr (ends_by d now b t there h))
 
 bare_came : (is_there : Bool) (d now ack : ℕ) (b t : Sofar) → d < length b.state.ends → LineHas (end_at b.state d).line (end_at b.state d).session → joined b d ≡ is_there → TakesBare is_there b d now ack t
-    → Acked d 0 ack (end_at b.state d) b (settled d t) ⊎ Here d (end_at b.state d) [] [] [] b (settled d t) ⊎ EndsIt d now (end_at b.state d) b (settled d t)
+    → BareCame d now ack (end_at b.state d) b (settled d t)
 bare_came true d now ack b t there has join h = go (joined_session (end_at b.state d) has line)
   where
     line : (end_at b.state d).line ≡ Joined
     line = joined_line (end_at b.state d).line join
 
-    go : (s : Session) × ((end_at b.state d).session ≡ Some s) → Acked d 0 ack (end_at b.state d) b (settled d t) ⊎ Here d (end_at b.state d) [] [] [] b (settled d t) ⊎ EndsIt d now (end_at b.state d) b (settled d t)
+    go : (s : Session) × ((end_at b.state d).session ≡ Some s) → BareCame d now ack (end_at b.state d) b (settled d t)
     go s = ack_came (answers body_of (session_at b.state d).window 0 ack) d now ack s.0 b t there s.1 line h
 bare_came false d now ack b t there has join h =
-    inr (inl (then_unsettled d (end_at b.state d) [] [] [] b t join (subst (λ (x : Sofar). Here d (end_at b.state d) [] [] [] b x) (sym h) (here_same d b there))))
+    inr (inl (join, then_unsettled d (end_at b.state d) [] [] [] b t join (subst (λ (x : Sofar). Here d (end_at b.state d) [] [] [] b x) (sym h) (here_same d b there))))
 
 -- Welcomes
 
@@ -427,7 +434,19 @@ frame_of (Answer front about job number at sum) d now frame b t there has same h
     subst (λ (m : Down). NumberedCame d now frame.seq frame.ack m front (end_at b.state d) b (settled d t)) same (headed_came (joined b d) d now frame front b t there has refl h)
 frame_of (Normal front) d now frame b t there has same h =
     subst (λ (m : Down). NumberedCame d now frame.seq frame.ack m front (end_at b.state d) b (settled d t)) same (headed_came (joined b d) d now frame front b t there has refl h)
-frame_of Bare d now frame b t there has same h = bare_came (joined b d) d now frame.ack b t there has refl h
+frame_of Bare d now frame b t there has same h = go (bare_came (joined b d) d now frame.ack b t there has refl h)
+  where
+    go : BareCame d now frame.ack (end_at b.state d) b (settled d t) → FrameCame Bare d now frame (end_at b.state d) b (settled d t)
+    go (inl x) = inl x
+    go (inr (inl x)) = inr (inl x.1)
+    go (inr (inr x)) = inr (inr x)
+
+-- An acknowledgement by itself.
+pub bare_frame_came : (b : Sofar) (now d : ℕ) (frame : DownFrame) (c : Sofar) → d < length b.state.ends → LineHas (end_at b.state d).line (end_at b.state d).session → FrameStep b now d frame c
+    → frame.message ≡ Bare → BareCame d now frame.ack (end_at b.state d) b c
+bare_frame_came b now d frame c there has h is =
+    subst (λ (x : Sofar). BareCame d now frame.ack (end_at b.state d) b x) (sym h.after)
+    (bare_came (joined b d) d now frame.ack b h.taken there has refl (subst (λ (m : Down). TakesFrame m b d now frame h.taken) is h.takes))
 
 -- Each frame that an application server's end takes comes to one of its cases.
 pub frame_came : (b : Sofar) (now d : ℕ) (frame : DownFrame) (c : Sofar) → d < length b.state.ends → LineHas (end_at b.state d).line (end_at b.state d).session → FrameStep b now d frame c

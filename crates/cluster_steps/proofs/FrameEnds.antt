@@ -13,7 +13,7 @@ use Rattle.link_states.specs.declared.app_link.AppLink.TheVariants.{Recovery}
 use Rattle.link_states.specs.declared.link_event.LinkEvent.TheVariants.{Ended as EndedEvent, Welcomed as WelcomedEvent, Settled as SettledEvent}
 use Rattle.link_states.specs.Tables.{app_next}
 use Rattle.link_window.specs.declared.window.Taken.{Taken}
-use Rattle.link_window.specs.declared.window.Taken.TheVariants.{Fresh}
+use Rattle.link_window.specs.declared.window.Taken.TheVariants.{Fresh, Repeat}
 use Rattle.link_window.specs.declared.window.WindowError.{WindowError}
 use Rattle.ecp_messages.specs.declared.down.Down.{Down}
 use Rattle.ecp_messages.specs.declared.down.Down.TheVariants.{Welcome, Reset, Block, Drop, Ack, Grant, Answer, Normal, Bare}
@@ -88,6 +88,8 @@ pub record Acked (d seq ack : ℕ) (e : AppEnd) (b c : Sofar) : Type 0 where
   pub is_joined : e.line ≡ Joined
   pub answered : Result Taken WindowError
   pub known : answers body_of session.window seq ack ≡ answered
+  -- it has no number, or came before
+  pub repeats : (seq ≡ 0) ⊎ (answered ≡ Ok Repeat)
   pub settles : Settles d (with_window (λ w. with_ack w ack) session) e [] [] [] b c
 
 -- what a fresh message makes of the session that took it, of the link, and what is put then

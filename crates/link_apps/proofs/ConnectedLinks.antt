@@ -31,7 +31,8 @@ use Rattle.link_apps.proofs.NodeApps.{DownsStay}
 use Rattle.link_apps.proofs.OwnPuts.{own_after}
 use Rattle.link_apps.proofs.PutsUp.{way_put}
 use Rattle.link_apps.proofs.RestWays.{LaneRests, counts_rest, put_of}
-use Rattle.link_apps.proofs.RestLinks.{place_number, lane_same, has}
+use Rattle.link_apps.proofs.RestSites.{place_number, lane_same}
+use Rattle.link_apps.proofs.RestLinks.{has}
 
 -- a session whose window is as it was
 pub record SessionRests (s u : Session) : Type 0 where
@@ -62,7 +63,7 @@ pub record Dialled (e t : AppEnd) : Type 0 where
   pub line : (t.line ≡ Greeting) ⊎ ((t.line ≡ Asking) × (is_some e.session ≡ true))
   pub session : SessionsRest e.session t.session
 
-no_news : (o q : Option Session) → SessionsRest o q → is_told_new o q ≡ false
+pub no_news : (o q : Option Session) → SessionsRest o q → is_told_new o q ≡ false
 no_news None None r = refl
 no_news None (Some u) r = absurd r
 no_news (Some s) None r = absurd r
@@ -70,7 +71,7 @@ no_news (Some s) (Some u) r = ap not (eq-eqb s.epoch u.epoch (sym r.epoch))
 
 -- lanes
 
-lane_rests : (m : Option Down) (number : ℕ) (s u : Session) (frames : List UpFrame) (a : Lane) → SessionRests s u → s.window.taken ≡ a.down_taken
+pub lane_rests : (m : Option Down) (number : ℕ) (s u : Session) (frames : List UpFrame) (a : Lane) → SessionRests s u → s.window.taken ≡ a.down_taken
     → LaneRests a (with_app_step false m number (sent s.window) (Some u) frames a)
 lane_rests m number s u frames a r taken = record {
   up = ap (λ (xs : List Up). a.up ++ xs) (given_put s.window u.window [] r.acked (r.waiting ∙ sym (append-nil s.window.waiting))) ∙ append-nil a.up;
@@ -78,7 +79,7 @@ lane_rests m number s u frames a r taken = record {
 }
 
 module _ (v : Server) (x : Site) (app : ℕ) (m : Option Down) (number : ℕ) (frames : List UpFrame) where
-  dial_lane : (s k : ℕ) (o q : Option Session) (p : Option Place) → SessionsRest o q → IfSome o (λ u. ToldPlace v app u p)
+  pub dial_lane : (s k : ℕ) (o q : Option Session) (p : Option Place) → SessionsRest o q → IfSome o (λ u. ToldPlace v app u p)
       → IfSome o (λ u. IfSome p (λ z. WindowIs u.window (x.lane_at u.number z.order).up (x.lane_at u.number z.order).up_taken (x.lane_at u.number z.order).down_taken))
       → IfSome p (λ z. (s ≡ z.session) → (k ≡ z.order) → LaneRests (x.lane_at s k) (with_app_step false m number (sent_before o) q frames (x.lane_at s k)))
   dial_lane s k o q None rel pl wi = tt
@@ -91,7 +92,7 @@ module _ (v : Server) (x : Site) (app : ℕ) (m : Option Down) (number : ℕ) (f
       ∙ ap (λ (n : ℕ). (x.lane_at n z.order).down_taken) (sym (place_number z u.number pl.order pl.its) ∙ sym at)
       ∙ ap (λ (n : ℕ). (x.lane_at s n).down_taken) (sym here))
 
-  dial_elsewhere : (s k : ℕ) (o q : Option Session) (p : Option Place) → SessionsRest o q → IfSome o (λ u. ToldPlace v app u p)
+  pub dial_elsewhere : (s k : ℕ) (o q : Option Session) (p : Option Place) → SessionsRest o q → IfSome o (λ u. ToldPlace v app u p)
       → IfSome o (λ u. IfSome p (λ z. (s ≡ u.number) → (k ≡ z.order) → ⊥))
       → IfSome p (λ z. (s ≡ z.session) → (k ≡ z.order) → with_app_step false m number (sent_before o) q frames (x.lane_at s k) ≡ x.lane_at s k)
   dial_elsewhere s k o q None rel pl none = tt
@@ -233,7 +234,7 @@ module _ (v w : Server) (x y : Site) (dead : ℕ → Bool) (app : ℕ) (t : AppE
       by number (Some c) its = subst (DownsStay (Some c)) (sym (conn_there number c its)) (record { downs = refl; its = refl; knew = refl })
 
 -- what a new connection makes of the end
-dialled_by : (link : AppLink) (d now : ℕ) (e : AppEnd) (b c : Sofar) → (is_some e.session ≡ false → link ≡ NotConnected) → ConnectedCame link d now e b c
+pub dialled_by : (link : AppLink) (d now : ℕ) (e : AppEnd) (b c : Sofar) → (is_some e.session ≡ false → link ≡ NotConnected) → ConnectedCame link d now e b c
     → Dialled e (end_at c.state d)
 dialled_by NotConnected d now e b c has came =
     subst (Dialled e) (sym came.end) (record { dial = refl; told = refl; line = inl refl; session = rest_same e.session })

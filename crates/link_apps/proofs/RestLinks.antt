@@ -1,46 +1,36 @@
 -- The part on what is on its way, for inputs of an application server that put and take nothing: an attempt that failed, a line that joined
 -- again, a tick, and a connection that ended.
-use Rattle.std.proofs.Common.{◌≡◌, ◌⊎◌, inl, inr, ℕ, ◌+◌, Bool, true, false, ◌==◌, if◌then◌else◌, List, [], ◌++◌, length, Option, Some, None, option_map, refl, sym, ◌∙◌, ap, subst}
-use Rattle.std.specs.Prelude.{⊤, IfSome, not}
+use Rattle.std.proofs.Common.{◌≡◌, ◌⊎◌, inl, inr, ℕ, Bool, true, false, List, [], ◌++◌, length, refl, sym, ◌∙◌, ap, subst}
 use Rattle.std.specs.List.{list_any, range_with_len}
-use Rattle.std.proofs.lemmas.Bool.{eq-eqb, false≢true}
-use Rattle.std.proofs.lemmas.List.{append-nil}
+use Rattle.std.proofs.lemmas.Bool.{false≢true}
 use Rattle.plain_orders.specs.declared.act.Act.{Act}
 use Rattle.plain_orders.specs.declared.layout.Layout.{Layout}
-use Rattle.plain_runs.specs.Plain.{Plain, Server, start, put}
+use Rattle.plain_runs.specs.Plain.{Plain, start}
 use Rattle.plain_runs.specs.Run.{IsRun, after_all, state_after}
 use Rattle.plain_runs.proofs.RunLemmas.{after_all-append}
 use Rattle.link_states.specs.declared.app_link.AppLink.{AppLink}
 use Rattle.link_states.specs.declared.app_link.AppLink.TheVariants.{NotConnected, Normal as NormalLink, Trouble, Recovery}
-use Rattle.ecp_messages.specs.declared.up.Up.{Up}
-use Rattle.ecp_messages.specs.declared.up.UpFrame.{UpFrame}
-use Rattle.ecp_messages.specs.declared.down.Down.{Down}
-use Rattle.end_words.specs.Windows.{sent}
 use Rattle.app_rules.specs.declared.app_in.AppIn.{AppIn}
 use Rattle.app_rules.specs.declared.app_in.AppIn.TheVariants as app_in
 use Rattle.app_rules.specs.declared.line.Line.{Line}
 use Rattle.app_rules.specs.declared.line.Line.TheVariants.{Apart, Trying, Greeting, Asking, Joined}
-use Rattle.app_rules.specs.declared.app_outs.AppOuts.{AppOuts}
-use Rattle.app_rules.specs.AppState.{AppState, AppEnd, Session}
+use Rattle.app_rules.specs.AppState.{AppState, AppEnd}
 use Rattle.app_rules.specs.AppStep.{AppMay, made}
 use Rattle.app_rules.specs.Works.{Sofar, begun, end_at}
-use Rattle.app_rules.specs.Looks.{Shown}
 use Rattle.app_rules.proofs.StepLaws.{steps_at_one_end}
 use Rattle.cluster_runs.specs.CoresState.{CoresState}
 use Rattle.cluster_runs.specs.declared.move_outs.MoveOuts.{MoveOuts}
 use Rattle.cluster_runs.specs.declared.moves.Move.TheVariants.{App}
-use Rattle.cluster_runs.specs.Connections.{app_leaves, at_number, carries_up, down_taken, is_index, leaves_if, ups_to, with_connection, with_ups}
-use Rattle.cluster_runs.specs.Goes.{AppGoes, app_end, app_takes, input_site, message_from, with_state}
-use Rattle.cluster_runs.specs.Lanes.{is_told_new, sent_before, told_by, with_app_step}
-use Rattle.cluster_runs.specs.Machine.{Machine, Site, End, app_state, end_state}
+use Rattle.cluster_runs.specs.Connections.{is_index, ups_to}
+use Rattle.cluster_runs.specs.Goes.{AppGoes, app_takes, input_site}
+use Rattle.cluster_runs.specs.Machine.{Machine, app_state, end_state}
 use Rattle.cluster_runs.specs.Mirrors.{Mirrors}
 use Rattle.cluster_runs.specs.Moves.{Allowed}
-use Rattle.cluster_runs.specs.Sent.{Lane, Place, Connection}
-use Rattle.cluster_invariant.specs.Ends.{ToldPlace, stands}
+use Rattle.cluster_invariant.specs.Ends.{stands}
 use Rattle.cluster_invariant.specs.Holds.{Holds}
-use Rattle.cluster_invariant.specs.Link.{LinkHolds, WindowIs}
+use Rattle.cluster_invariant.specs.Link.{LinkHolds}
 use Rattle.cluster_invariant.specs.Words.{has_wire}
-use Rattle.cluster_steps.proofs.AppSites.{app_ends, site_beside, site_ends}
+use Rattle.cluster_steps.proofs.AppSites.{app_ends}
 use Rattle.cluster_steps.proofs.FrameCases.{LineHas}
 use Rattle.cluster_steps.proofs.FrameEnds.{ended_acts}
 use Rattle.cluster_steps.proofs.InputEnds.{failed_acts, failed_came, broken_came, joined_came}
@@ -51,199 +41,10 @@ use Rattle.told_kept.proofs.ToldActs.{TellNothing, input_acts}
 use Rattle.link_kept.specs.Laws.{EachLinkHolds}
 use Rattle.link_apps.proofs.EnteredStays.{entered_stays}
 use Rattle.link_apps.proofs.InputPlain.{AfterInput, after_input}
-use Rattle.link_apps.proofs.LanesApps.{given_put, site_lanes}
 use Rattle.link_apps.proofs.OwnPuts.{own_after}
 use Rattle.link_apps.proofs.Rests.{EndRests, Keeps, IsUntroubled, failed_rests, ended_rests, rejoined_rests, one_rests, all_ticked, ticks_keep}
-use Rattle.link_apps.proofs.RestWays.{ConnRests, LaneRests, Rests, link_kept_by_rest}
-
--- lanes
-
-pub lane_same : (a : Lane) → LaneRests a a
-lane_same a = record { up = refl; down = record { began = refl; up_taken = refl; down = refl; down_taken = refl } }
-
--- a session that was given nothing
-lane_rests : (m : Option Down) (number : ℕ) (u : Session) (frames : List UpFrame) (a : Lane) → u.window.taken ≡ a.down_taken
-    → LaneRests a (with_app_step false m number (sent u.window) (Some u) frames a)
-lane_rests m number u frames a taken = record {
-  up = ap (λ (xs : List Up). a.up ++ xs) (given_put u.window u.window [] refl (sym (append-nil u.window.waiting))) ∙ append-nil a.up;
-  down = record { began = refl; up_taken = refl; down = refl; down_taken = taken };
-}
-
-pub place_number : (p : Place) (s k : ℕ) → ◌≡◌ {A = Option Place} (Some p) (Some (record { session = s; order = k })) → p.session ≡ s
-place_number p s k same = (let is : p ≡ record { session = s; order = k } = cc in ap (λ (z : Place). z.session) is)
-
-pub none_new : (o q : Option Session) → (q ≡ o) ⊎ (q ≡ None) → is_told_new o q ≡ false
-none_new o q (inl same) = subst (λ (z : Option Session). is_told_new o z ≡ false) (sym same) (go o)
-  where
-    go : (z : Option Session) → is_told_new z z ≡ false
-    go None = refl
-    go (Some s) = ap not (eq-eqb s.epoch s.epoch refl)
-none_new o q (inr lost) = subst (λ (z : Option Session). is_told_new o z ≡ false) (sym lost) (go o)
-  where
-    go : (z : Option Session) → is_told_new z None ≡ false
-    go None = refl
-    go (Some s) = refl
-
-module _ (v : Server) (x : Site) (app : ℕ) (m : Option Down) (number : ℕ) (frames : List UpFrame) where
-  -- the lane of the session in the order that it is told of
-  rest_lane : (s k : ℕ) (o q : Option Session) (p : Option Place) → (q ≡ o) ⊎ (q ≡ None) → IfSome o (λ u. ToldPlace v app u p)
-      → IfSome o (λ u. IfSome p (λ z. WindowIs u.window (x.lane_at u.number z.order).up (x.lane_at u.number z.order).up_taken (x.lane_at u.number z.order).down_taken))
-      → IfSome p (λ z. (s ≡ z.session) → (k ≡ z.order) → LaneRests (x.lane_at s k) (with_app_step false m number (sent_before o) q frames (x.lane_at s k)))
-  rest_lane s k o q None rel pl wi = tt
-  rest_lane s k o q (Some z) (inr lost) pl wi = λ at here.
-      subst (λ (r : Option Session). LaneRests (x.lane_at s k) (with_app_step false m number (sent_before o) r frames (x.lane_at s k))) (sym lost) (lane_same (x.lane_at s k))
-  rest_lane s k None q (Some z) (inl same) pl wi = λ at here.
-      subst (λ (r : Option Session). LaneRests (x.lane_at s k) (with_app_step false m number 0 r frames (x.lane_at s k))) (sym same) (lane_same (x.lane_at s k))
-  rest_lane s k (Some u) q (Some z) (inl same) pl wi = λ at here.
-      subst (λ (r : Option Session). LaneRests (x.lane_at s k) (with_app_step false m number (sent u.window) r frames (x.lane_at s k))) (sym same)
-      (lane_rests m number u frames (x.lane_at s k)
-      (wi.taken
-      ∙ ap (λ (n : ℕ). (x.lane_at n z.order).down_taken) (sym (place_number z u.number pl.order pl.its) ∙ sym at)
-      ∙ ap (λ (n : ℕ). (x.lane_at s n).down_taken) (sym here)))
-
-  rest_elsewhere : (s k : ℕ) (o q : Option Session) (p : Option Place) → (q ≡ o) ⊎ (q ≡ None) → IfSome o (λ u. ToldPlace v app u p)
-      → IfSome o (λ u. IfSome p (λ z. (s ≡ u.number) → (k ≡ z.order) → ⊥))
-      → IfSome p (λ z. (s ≡ z.session) → (k ≡ z.order) → with_app_step false m number (sent_before o) q frames (x.lane_at s k) ≡ x.lane_at s k)
-  rest_elsewhere s k o q None rel pl none = tt
-  rest_elsewhere s k o q (Some z) (inr lost) pl none = λ at here. ap (λ (r : Option Session). with_app_step false m number (sent_before o) r frames (x.lane_at s k)) lost
-  rest_elsewhere s k None q (Some z) (inl same) pl none = λ at here. ap (λ (r : Option Session). with_app_step false m number 0 r frames (x.lane_at s k)) same
-  rest_elsewhere s k (Some u) q (Some z) rel pl none = λ at here. absurd (none (at ∙ place_number z u.number pl.order pl.its) here)
-
--- connections
-
-conn_same : (c : Connection) → ConnRests c c
-conn_same c = record { ups = refl; ups_taken = refl; downs = refl; downs_taken = refl; its = refl; knew = refl; first = refl; data_left = refl }
-
--- its connections were as they were before the step's outputs
-pub record TakesNone (e f : End) : Type 0 where
-  pub some : (number : ℕ) (c : Connection) → e.connection_at number ≡ Some c → IfSome (f.connection_at number) (ConnRests c)
-  pub none : (number : ℕ) → e.connection_at number ≡ None → f.connection_at number ≡ None
-  pub told : f.told ≡ e.told
-
-takes_same : (e : End) → TakesNone e e
-takes_same e = record { some = λ number c its. subst (λ (o : Option Connection). IfSome o (ConnRests c)) (sym its) (conn_same c); none = λ number is. is; told = refl }
-
-leaves_rests : (c : Connection) → ConnRests c (app_leaves c)
-leaves_rests c = record { ups = refl; ups_taken = refl; downs = refl; downs_taken = refl; its = refl; knew = refl; first = refl; data_left = refl }
-
--- the connection is left
-takes_leave : (n : ℕ) (e : End) → TakesNone e (at_number n app_leaves e)
-takes_leave n e = record {
-  some = λ number c its.
-      subst (λ (o : Option Connection). IfSome (if number == n then option_map app_leaves o else o) (ConnRests c)) (sym its) (go (number == n) c);
-  none = λ number is. ap (λ (o : Option Connection). if number == n then option_map app_leaves o else o) is ∙ by (number == n);
-  told = refl;
-}
-  where
-    go : (b : Bool) (c : Connection) → IfSome (if b then Some (app_leaves c) else Some c) (ConnRests c)
-    go true c = leaves_rests c
-    go false c = conn_same c
-
-    by : (b : Bool) → ◌≡◌ {A = Option Connection} (if b then None else None) None
-    by true = refl
-    by false = refl
-
--- an input that takes no frame and makes no connection at this data server
-abbrev pub TakesNothing : AppIn → ℕ → Type 0
-TakesNothing (app_in.Frame k frame) d = (k == d) ≡ false
-TakesNothing (app_in.Connected k) d = (k == d) ≡ false
-TakesNothing (app_in.NoWay k before later) d = ⊤
-TakesNothing (app_in.Broken k) d = ⊤
-TakesNothing (app_in.Join k) d = ⊤
-TakesNothing app_in.Tick d = ⊤
-
-takes_none : (d : ℕ) (input : AppIn) (n : ℕ) (e : End) → TakesNothing input d → TakesNone e (app_takes d input n e)
-takes_none d (app_in.Frame k frame) n e is = subst (λ (b : Bool). TakesNone e (if b then at_number n down_taken e else e)) (sym is) (takes_same e)
-takes_none d (app_in.Connected k) n e is = subst (λ (b : Bool). TakesNone e (if b then with_connection (n + 1) e else e)) (sym is) (takes_same e)
-takes_none d (app_in.NoWay k before later) n e is = takes_same e
-takes_none d (app_in.Broken k) n e is = go (k == d)
-  where
-    go : (b : Bool) → TakesNone e (if b then at_number n app_leaves e else e)
-    go true = takes_leave n e
-    go false = takes_same e
-takes_none d (app_in.Join k) n e is = takes_same e
-takes_none d app_in.Tick n e is = takes_same e
-
--- the connection after the step: nothing is put on it
-abbrev nothing_put : Connection → Connection
-nothing_put c = with_ups [] c
-
-put_rests : (c d : Connection) → ConnRests c d → ConnRests c (nothing_put d)
-put_rests c d r = record {
-  ups = append-nil d.ups ∙ r.ups;
-  ups_taken = r.ups_taken;
-  downs = r.downs;
-  downs_taken = r.downs_taken;
-  its = r.its;
-  knew = r.knew;
-  first = r.first;
-  data_left = r.data_left;
-}
-
--- A site at which an input made its end put and take nothing.
-pub rests_at : (v : Server) (x : Site) (app d : ℕ) (input : AppIn) (outs : AppOuts) (state : AppState) (shown : ℕ → Shown)
-    → IfSome (x.end_at app).state.session (λ s. ToldPlace v app s (x.end_at app).told)
-    → IfSome (x.end_at app).state.session (λ s. IfSome (x.end_at app).told (λ p.
-    WindowIs s.window (x.lane_at s.number p.order).up (x.lane_at s.number p.order).up_taken (x.lane_at s.number p.order).down_taken))
-    → TakesNothing input d → ups_to d outs.frames ≡ [] → list_any (is_index d) outs.cuts ≡ false → EndRests (x.end_at app).state (end_at state d)
-    → Rests x (input_site app input outs state shown d x) app
-    (own_after nothing_put (end_at state d) (shown d) (app_takes d input (x.end_at app).state.dial (x.end_at app)))
-rests_at v x app d input outs state shown place window takes frames cuts rests = record {
-  beside = site_beside app d outs e.state t (message_from d input) f x;
-  ends = site_ends app d outs e.state t (message_from d input) f x ∙ ap (put x.end_at app) moved;
-  told = taken.told;
-  rests = rests;
-  lanes = λ s k.
-      site_lanes LaneRests lane_same app d outs e.state t (message_from d input) f x nothing s k
-      (subst (λ (o : Option Place). IfSome o (λ r. (s ≡ r.session) → (k ≡ r.order) → LaneRests (x.lane_at s k) (stepped (x.lane_at s k)))) (sym told)
-      (rest_lane v x app (message_from d input) e.state.dial (ups_to d outs.frames) s k e.state.session t.session e.told rests.session place window));
-  elsewhere = λ s k none.
-      site_lanes (λ z r. r ≡ z) (λ z. refl) app d outs e.state t (message_from d input) f x nothing s k
-      (subst (λ (o : Option Place). IfSome o (λ r. (s ≡ r.session) → (k ≡ r.order) → stepped (x.lane_at s k) ≡ x.lane_at s k)) (sym told)
-      (rest_elsewhere v x app (message_from d input) e.state.dial (ups_to d outs.frames) s k e.state.session t.session e.told rests.session place none));
-  conns = λ number c its. go (number == t.dial) (taking.connection_at number) c (taken.some number c its);
-  none = λ number is. ap (λ (o : Option Connection). if number == t.dial then option_map nothing_put o else o) (taken.none number is) ∙ by (number == t.dial);
-}
-  where
-    e : End
-    e = x.end_at app
-
-    t : AppEnd
-    t = end_at state d
-
-    taking : End
-    taking = app_takes d input e.state.dial e
-
-    f : End
-    f = app_end d outs e.state t (shown d) (message_from d input) taking
-
-    taken : TakesNone e taking
-    taken = takes_none d input e.state.dial e takes
-
-    nothing : is_told_new e.state.session t.session ≡ false
-    nothing = none_new e.state.session t.session rests.session
-
-    stepped : Lane → Lane
-    stepped z = with_app_step false (message_from d input) e.state.dial (sent_before e.state.session) t.session (ups_to d outs.frames) z
-
-    moved : f ≡ own_after nothing_put t (shown d) taking
-    moved =
-        ap (λ (b : Bool). carries_up d t.dial outs.frames outs.cuts (told_by b (message_from d input) e.state.dial (with_state t (shown d) taking))) nothing
-        ∙ ap (λ (b : Bool). at_number t.dial (λ c. leaves_if b (with_ups (ups_to d outs.frames) c)) (with_state t (shown d) taking)) cuts
-        ∙ ap (λ (us : List UpFrame). at_number t.dial (λ z. with_ups us z) (with_state t (shown d) taking)) frames
-
-    told : f.told ≡ e.told
-    told = ap (λ (z : End). z.told) moved ∙ taken.told
-
-    go : (b : Bool) (o : Option Connection) (c : Connection) → IfSome o (ConnRests c) → IfSome (if b then option_map nothing_put o else o) (ConnRests c)
-    go true None c is = tt
-    go false None c is = tt
-    go true (Some q) c is = put_rests c q is
-    go false (Some q) c is = is
-
-    by : (b : Bool) → ◌≡◌ {A = Option Connection} (if b then None else None) None
-    by true = refl
-    by false = refl
+use Rattle.link_apps.proofs.RestSites.{TakesNone, TakesNothing, nothing_put, rests_at, takes_none}
+use Rattle.link_apps.proofs.RestWays.{link_kept_by_rest}
 
 -- an end in trouble has no connection
 stands_wireless : (line : Line) (broke try_at : ℕ) → stands (Trouble broke try_at) line ≡ true → has_wire line ≡ false
@@ -264,22 +65,31 @@ module _ (l : Layout) (c : CoresState) (m : Machine) (app now : ℕ) (input : Ap
   pub may : AppMay a input
   may = app_may c m app input shows allowed.known allowed.may
 
-  -- one data server at which the end rests
-  pub rest_at : TellNothing goes.app_outs.acts → (d : ℕ) → TakesNothing input d → ups_to d goes.app_outs.frames ≡ [] → list_any (is_index d) goes.app_outs.cuts ≡ false
+  -- one data server at which the end rests, where its connections were as they were
+  pub rest_by : TellNothing goes.app_outs.acts → (d : ℕ) (cut : Bool)
+      → TakesNone (has_wire (end_at goes.state d).line) ((m.site_at d).end_at app) (app_takes d input ((m.site_at d).end_at app).state.dial ((m.site_at d).end_at app))
+      → ups_to d goes.app_outs.frames ≡ [] → list_any (is_index d) goes.app_outs.cuts ≡ cut
       → EndRests (end_at a d) (end_at goes.state d) → (has_wire (end_at goes.state d).line ≡ true → Keeps app d goes.app_outs.acts)
       → LinkHolds ((after_all l (state_after l m.trail) goes.app_outs.acts).server_at d) (input_site app input goes.app_outs goes.state goes.shown d (m.site_at d)) m.is_dead_at
-  rest_at tells d takes frames cuts rests keeps =
+  rest_by tells d cut takes frames cuts rests keeps =
       link_kept_by_rest ((state_after l m.trail).server_at d) ((after_all l (state_after l m.trail) goes.app_outs.acts).server_at d) (m.site_at d)
       (input_site app input goes.app_outs goes.state goes.shown d (m.site_at d)) m.is_dead_at app
-      (own_after nothing_put (end_at goes.state d) (goes.shown d) (app_takes d input ((m.site_at d).end_at app).state.dial ((m.site_at d).end_at app))) alive
+      (own_after (nothing_put cut) (end_at goes.state d) (goes.shown d) (app_takes d input ((m.site_at d).end_at app).state.dial ((m.site_at d).end_at app))) alive
       (after.later d tells) (λ b other. after.others d b other) (λ wired. entered_stays l (state_after l m.trail) goes.app_outs.acts app d (keeps wired)) (after.now d)
       (h.sites d).order.past (h.sites d).link (h.sites d).ends (h.sites d).dials
-      (rests_at ((state_after l m.trail).server_at d) (m.site_at d) app d input goes.app_outs goes.state goes.shown ((h.sites d).ends.told app alive).place
+      (rests_at ((state_after l m.trail).server_at d) (m.site_at d) app d input goes.app_outs goes.state goes.shown cut ((h.sites d).ends.told app alive).place
       ((h.sites d).link.apps app alive).window takes frames cuts
       (subst (λ (e : AppEnd). EndRests e (end_at goes.state d)) (app_ends c m app d shows allowed.known) rests))
     where
       after : AfterInput l m app goes.app_outs.acts
       after = after_input l c m app now input outs written new h run shows allowed goes
+
+  -- and where the input takes nothing there
+  pub rest_at : TellNothing goes.app_outs.acts → (d : ℕ) (cut : Bool) → TakesNothing input d → ups_to d goes.app_outs.frames ≡ [] → list_any (is_index d) goes.app_outs.cuts ≡ cut
+      → EndRests (end_at a d) (end_at goes.state d) → (has_wire (end_at goes.state d).line ≡ true → Keeps app d goes.app_outs.acts)
+      → LinkHolds ((after_all l (state_after l m.trail) goes.app_outs.acts).server_at d) (input_site app input goes.app_outs goes.state goes.shown d (m.site_at d)) m.is_dead_at
+  rest_at tells d cut takes =
+      rest_by tells d cut (takes_none (has_wire (end_at goes.state d).line) d input ((m.site_at d).end_at app).state.dial ((m.site_at d).end_at app) takes)
 
   -- all of them
   pub rest_all : TellNothing goes.app_outs.acts → ((d : ℕ) → TakesNothing input d) → goes.app_outs.frames ≡ [] → goes.app_outs.cuts ≡ []
@@ -292,7 +102,7 @@ module _ (l : Layout) (c : CoresState) (m : Machine) (app now : ℕ) (input : Ap
       (λ d.
       subst (λ (q : Plain). LinkHolds (q.server_at d) (input_site app input goes.app_outs goes.state goes.shown d (m.site_at d)) m.is_dead_at)
       (sym (after_all-append l start m.trail goes.app_outs.acts))
-      (rest_at tells d (takes d) (ap (ups_to d) frames) (ap (list_any (is_index d)) cuts) (rests d) (keeps d))))
+      (rest_at tells d false (takes d) (ap (ups_to d) frames) (ap (list_any (is_index d)) cuts) (rests d) (keeps d))))
 
   pub has : (d : ℕ) → LineHas (end_at a d).line (end_at a d).session
   has d =
@@ -313,7 +123,7 @@ failed_keeps NormalLink app b d k before later = tt
 failed_keeps (Trouble broke try_at) app b d k before later = tt
 failed_keeps Recovery app b d k before later = tt
 
-ended_keeps : (line : Line) (app b d k now : ℕ) → Keeps app d (ended_acts line b k now)
+pub ended_keeps : (line : Line) (app b d k now : ℕ) → Keeps app d (ended_acts line b k now)
 ended_keeps Apart app b d k now = tt
 ended_keeps Trying app b d k now = tt
 ended_keeps Greeting app b d k now = tt

@@ -35,27 +35,27 @@ pub record LaneRests (a b : Lane) : Type 0 where
   pub up : b.up ≡ a.up
   pub down : LaneDown a b
 
--- a connection as it was, but for whether the application end left it
-pub record ConnRests (c d : Connection) : Type 0 where
+-- a connection as it was, but for whether the application end left it; what the end took counts only as long as it has a connection
+pub record ConnRests (wired : Bool) (c d : Connection) : Type 0 where
   pub ups : d.ups ≡ c.ups
   pub ups_taken : d.ups_taken ≡ c.ups_taken
   pub downs : d.downs ≡ c.downs
-  pub downs_taken : d.downs_taken ≡ c.downs_taken
+  pub downs_taken : wired ≡ true → d.downs_taken ≡ c.downs_taken
   pub its : d.its ≡ c.its
   pub knew : d.knew ≡ c.knew
   pub first : d.first ≡ c.first
   pub data_left : d.data_left ≡ c.data_left
 
-rests_left : (c d : Connection) → ConnRests c d → LeftSame c d
+rests_left : (c d : Connection) → ConnRests true c d → LeftSame c d
 rests_left c d r = record {
   its = r.its;
-  left = ap (λ (n : ℕ). drop n d.downs) r.downs_taken ∙ ap (λ (fs : List DownFrame). drop c.downs_taken fs) r.downs;
+  left = ap (λ (n : ℕ). drop n d.downs) (r.downs_taken refl) ∙ ap (λ (fs : List DownFrame). drop c.downs_taken fs) r.downs;
   first = r.first;
   data_left = r.data_left;
 }
 
-rests_ups : (c d : Connection) → ConnRests c d → ups_left d ≡ ups_left c
-rests_ups c d r = ap (λ (n : ℕ). drop n d.ups) r.ups_taken ∙ ap (λ (fs : List UpFrame). drop c.ups_taken fs) r.ups
+rests_ups : (wired : Bool) (c d : Connection) → ConnRests wired c d → ups_left d ≡ ups_left c
+rests_ups wired c d r = ap (λ (n : ℕ). drop n d.ups) r.ups_taken ∙ ap (λ (fs : List UpFrame). drop c.ups_taken fs) r.ups
 
 -- A step of an application server in which its end at one data server puts and takes nothing.
 pub record Rests (x y : Site) (app : ℕ) (f : End) : Type 0 where
@@ -65,7 +65,7 @@ pub record Rests (x y : Site) (app : ℕ) (f : End) : Type 0 where
   pub rests : EndRests (x.end_at app).state f.state
   pub lanes : (s k : ℕ) → LaneRests (x.lane_at s k) (y.lane_at s k)
   pub elsewhere : (s k : ℕ) → IsElsewhere (x.end_at app) s k → y.lane_at s k ≡ x.lane_at s k
-  pub conns : (number : ℕ) (c : Connection) → (x.end_at app).connection_at number ≡ Some c → IfSome (f.connection_at number) (ConnRests c)
+  pub conns : (number : ℕ) (c : Connection) → (x.end_at app).connection_at number ≡ Some c → IfSome (f.connection_at number) (ConnRests (has_wire f.state.line) c)
   pub none : (number : ℕ) → (x.end_at app).connection_at number ≡ None → f.connection_at number ≡ None
 
 pub put_of : (a b : Lane) → LaneRests a b → LanePut a b
@@ -134,10 +134,10 @@ module _ (v w : Server) (x y : Site) (dead : ℕ → Bool) (app : ℕ) (f : End)
   e = x.end_at app
 
   -- upwards
-  rest_ups : (s number : ℕ) (c d : Connection) → ConnRests c d → UpWayOn (x.lane_at s x.past) (dead app) e.state number s c
+  rest_ups : (s number : ℕ) (c d : Connection) → ConnRests (has_wire f.state.line) c d → UpWayOn (x.lane_at s x.past) (dead app) e.state number s c
       → UpWayOn (y.lane_at s x.past) (dead app) f.state number s d
   rest_ups s number c d r way =
-      subst (λ (xs : List UpFrame). UpWay (y.lane_at s x.past) xs (is_joined_on (dead app) f.state number s)) (sym (rests_ups c d r)) (go step.rests.still)
+      subst (λ (xs : List UpFrame). UpWay (y.lane_at s x.past) xs (is_joined_on (dead app) f.state number s)) (sym (rests_ups (has_wire f.state.line) c d r)) (go step.rests.still)
     where
       go : (f.state ≡ e.state) ⊎ (has_wire f.state.line ≡ false) → UpWay (y.lane_at s x.past) (ups_left c) (is_joined_on (dead app) f.state number s)
       go (inl same) =
@@ -233,11 +233,11 @@ module _ (v w : Server) (x y : Site) (dead : ℕ → Bool) (app : ℕ) (f : End)
           → IfSome (f.connection_at f.state.dial) (DownBy f.state.line w y app f)
       there same wired c its is =
           subst (λ (t : AppEnd). IfSome (f.connection_at t.dial) (DownBy t.line w y app f)) (sym same)
-          (some_kept (ConnRests c) (DownBy e.state.line w y app f)
+          (some_kept (ConnRests (has_wire f.state.line) c) (DownBy e.state.line w y app f)
           (λ d r.
           down_like e.state.line w y app e f (subst (λ (t : AppEnd). SessionsLike e.state.session t.session) (sym same) (like_same e.state.session))
           (ap (λ (t : AppEnd). t.link) same) (ap (λ (t : AppEnd). t.told) same) step.told d
-          (down_same v w x y later step.beside (λ s k. (step.lanes s k).down) link.lanes e.state.line app e c d (rests_left c d r) (still wired)
+          (down_same v w x y later step.beside (λ s k. (step.lanes s k).down) link.lanes e.state.line app e c d (rests_left c d (subst (λ (b : Bool). ConnRests b c d) wired r)) (still wired)
           (told_there v app e (are.told app alive)) (firsts e.state.dial c its) is)) (f.connection_at e.state.dial) (step.conns e.state.dial c its))
 
       none_there : e.connection_at e.state.dial ≡ None → IfSome (f.connection_at e.state.dial) (DownBy e.state.line w y app f)
@@ -259,7 +259,7 @@ module _ (v w : Server) (x y : Site) (dead : ℕ → Bool) (app : ℕ) (f : End)
   own_rests = record {
     counts = λ s k. counts_rest (x.lane_at s k) (y.lane_at s k) (step.lanes s k) (link.lanes s k);
     ups = λ s number c its carry way.
-        some_kept (ConnRests c) (UpWayOn (y.lane_at s x.past) (dead app) f.state number s) (λ d r. rest_ups s number c d r way) (f.connection_at number) (step.conns number c its);
+        some_kept (ConnRests (has_wire f.state.line) c) (UpWayOn (y.lane_at s x.past) (dead app) f.state number s) (λ d r. rest_ups s number c d r way) (f.connection_at number) (step.conns number c its);
     greets = λ s number c its is. rest_greets s number is;
     way = record {
       window =
@@ -283,10 +283,10 @@ module _ (v w : Server) (x y : Site) (dead : ℕ → Bool) (app : ℕ) (f : End)
     stay = λ number. stays (e.connection_at number) (f.connection_at number) (step.conns number);
   }
     where
-      stays : (o q : Option Connection) → ((c : Connection) → o ≡ Some c → IfSome q (ConnRests c)) → DownsStay o q
+      stays : (o q : Option Connection) → ((c : Connection) → o ≡ Some c → IfSome q (ConnRests (has_wire f.state.line) c)) → DownsStay o q
       stays None q rests = tt
       stays (Some c) None rests = tt
-      stays (Some c) (Some d) rests = let r : ConnRests c d = rests c refl in record { downs = r.downs; its = r.its; knew = r.knew }
+      stays (Some c) (Some d) rests = let r : ConnRests (has_wire f.state.line) c d = rests c refl in record { downs = r.downs; its = r.its; knew = r.knew }
 
 -- The part on what is on its way at this data server, as an end puts and takes nothing.
 pub link_kept_by_rest : (v w : Server) (x y : Site) (dead : ℕ → Bool) (app : ℕ) (f : End) → dead app ≡ false → Later x v w

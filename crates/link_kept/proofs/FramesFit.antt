@@ -1,18 +1,12 @@
 -- A frame that comes on the connection of a live session is the next one of its lane.
 use Rattle.std.proofs.Common.{◌≡◌, ◌≤◌, ◌<◌, ℕ, ◌+◌, Bool, true, false, if◌then◌else◌, List, [], ◌∷◌, ◌++◌, length, drop, Option, Some, None, option_map, refl, sym, ◌∙◌, ap, subst, arith}
-use Rattle.std.specs.Prelude.{IfSome, Ok, Err, Result, nat_lt, ◌==◌}
-use Rattle.std.proofs.lemmas.Bool.{ltb-true, eqb-true}
+use Rattle.std.specs.Prelude.{IfSome, ◌==◌}
+use Rattle.std.proofs.lemmas.Bool.{eqb-true}
 use Rattle.std.proofs.lemmas.List.{length-drop}
 use Rattle.plain_orders.specs.Entries.{live}
-use Rattle.link_window.specs.declared.window.Taken.{Taken}
-use Rattle.link_window.specs.declared.window.Taken.TheVariants.{Fresh, Repeat}
-use Rattle.link_window.specs.declared.window.WindowError.{WindowError}
-use Rattle.link_window.specs.declared.window.WindowError.TheVariants.{AckPastSent, Gap}
-use Rattle.link_window.specs.Numbering.{sent_count}
 use Rattle.ecp_messages.specs.declared.up.Up.{Up}
 use Rattle.ecp_messages.specs.declared.up.UpFrame.{UpFrame}
-use Rattle.ecp_messages.specs.declared.down.Down.{Down}
-use Rattle.end_words.specs.Windows.{Window, answers, in_bytes, numbered_from}
+use Rattle.end_words.specs.Windows.{numbered_from}
 use Rattle.data_rules.specs.DataState.{DataState}
 use Rattle.data_rules.specs.declared.data_in.DataIn.{DataIn}
 use Rattle.data_rules.specs.declared.data_in.DataIn.TheVariants as data_in
@@ -31,6 +25,7 @@ use Rattle.cluster_invariant.specs.Link.{NodeWindows, UpWay, UpWayOn, UpWayBy, i
 use Rattle.cluster_invariant.specs.Words.{IsFront, ups_left, numbered_ups}
 use Rattle.cluster_invariant.proofs.Small.{of_some}
 use Rattle.cluster_invariant.proofs.PieceMay.{Coming, AcknowledgesMay, TakesMay, begins}
+use Rattle.link_kept.proofs.Answers.{fresh_above}
 use Rattle.link_kept.proofs.WindowPieces.{ComesWell, TakesWell}
 
 -- the next frame
@@ -76,23 +71,6 @@ frame_next c m server now conn f l shows allowed linked =
     taken (Some d) its may = linked_may (subst (λ (o : Option Linked). LinkedMay o c server f) its may.1)
 
 -- what it says
-
-fresh_above : (w : Window Down) (seq ack : ℕ) → answers body_of w seq ack ≡ Ok Fresh → w.taken < seq
-fresh_above w seq ack is =
-    go (AckPastSent (sent_count (in_bytes body_of w)) ack) (Gap (w.taken + 1) seq) (nat_lt (sent_count (in_bytes body_of w)) ack) (nat_lt (w.taken + 1) seq) (nat_lt w.taken seq) refl is
-  where
-    none : (e : WindowError) → ◌≡◌ {A = Result Taken WindowError} (Err e) (Ok Fresh) → w.taken < seq
-    none e is = absurd cc
-
-    again : ◌≡◌ {A = Result Taken WindowError} (Ok Repeat) (Ok Fresh) → w.taken < seq
-    again is = absurd cc
-
-    go : (past gap : WindowError) (a b d : Bool) → nat_lt w.taken seq ≡ d → (if a then Err past else (if b then Err gap else (if d then Ok Fresh else Ok Repeat))) ≡ Ok Fresh
-        → w.taken < seq
-    go past gap true b d at is = none past is
-    go past gap false true d at is = none gap is
-    go past gap false false true at is = ltb-true w.taken seq at
-    go past gap false false false at is = again is
 
 room : (n k : ℕ) (m : Up) (xs : List (ℕ × Up)) (ups : List Up) → IsFront ((k, m) ∷ xs) (numbered_from n (drop n ups)) → n + 1 ≤ length ups
 room n k m xs ups front = go (drop n ups) refl front
@@ -169,7 +147,7 @@ module _ (x : Site) (dead : ℕ → Bool) (t : Coming) (h : FrameAt x dead t.old
       same = ap (λ (c : Sofar). c.state) may.first ∙ begins_old t conn f may.on.came
 
       above : (window_of b.state session).taken < f.seq
-      above = fresh_above (window_of b.state session) f.seq f.ack may.fresh
+      above = fresh_above body_of (window_of b.state session) f.seq f.ack may.fresh
 
       numbered : (n : ℕ) (ups : List Up) (rest : List UpFrame) (c : Bool) → (f.seq == 0) ≡ c
           → IsFront (if c then numbered_ups rest else (f.seq, f.message) ∷ numbered_ups rest) (numbered_from n (drop n ups)) → n + 1 ≤ length ups
@@ -194,7 +172,7 @@ module _ (x : Site) (dead : ℕ → Bool) (t : Coming) (h : FrameAt x dead t.old
       same = ap (λ (c : Sofar). c.state) may.first ∙ begins_old t conn f may.on.came
 
       above : (window_of b.state session).taken < f.seq
-      above = fresh_above (window_of b.state session) f.seq f.ack may.fresh
+      above = fresh_above body_of (window_of b.state session) f.seq f.ack may.fresh
 
       numbered : (n : ℕ) (ups : List Up) (rest : List UpFrame) (c : Bool) → (f.seq == 0) ≡ c
           → IsFront (if c then numbered_ups rest else (f.seq, f.message) ∷ numbered_ups rest) (numbered_from n (drop n ups)) → (more : List Up) × (drop n ups ≡ f.message ∷ more)

@@ -13,6 +13,7 @@ pub mod ServesGo
 pub mod FitsWell
 pub mod ServesPieces
 pub mod ServesServer
+pub mod Answers
 pub mod FramesFit
 pub mod OrderGrows
 pub mod StepFits

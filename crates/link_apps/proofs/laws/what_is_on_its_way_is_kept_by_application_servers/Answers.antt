@@ -1,5 +1,13 @@
 use Rattle.link_apps.proofs.CommandLinks.{links_kept_by_job}
+use Rattle.link_apps.proofs.FrameLinks.{links_kept_by_frames}
+use Rattle.link_apps.proofs.InputLinks.{links_kept_by_others}
 use Rattle.link_apps.proofs.laws.what_is_on_its_way_is_kept_by_application_servers.Goals as goal
 
-pub returns : goal.returns
-returns c = record { commands = links_kept_by_job }
+pub returns-clause-commands : goal.returns-clause-commands
+returns-clause-commands c = links_kept_by_job
+
+pub returns-clause-other_inputs : goal.returns-clause-other_inputs
+returns-clause-other_inputs c = links_kept_by_others
+
+pub returns-clause-frames : goal.returns-clause-frames
+returns-clause-frames c = links_kept_by_frames
