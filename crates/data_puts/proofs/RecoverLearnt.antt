@@ -22,7 +22,7 @@ use Rattle.cluster_runs.specs.Sent.{Connection, FirstTaken, Knew, Mark}
 use Rattle.cluster_invariant.specs.Dials.{ConnectionIs, DialsAre, LearntBy, LearntOn, NodeDials, as_it_learns, first_frame, first_message, is_connection_in, is_taken_in}
 use Rattle.cluster_invariant.specs.Words.{MarkNoLess, NoLess, ups_left}
 use Rattle.cluster_invariant.proofs.Small.{of_some}
-use Rattle.link_kept.proofs.ShortMoves.{order_now}
+use Rattle.cluster_invariant.proofs.PastOrders.{order_now}
 
 -- the first frame on a connection
 

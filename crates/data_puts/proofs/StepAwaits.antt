@@ -22,10 +22,11 @@ use Rattle.data_rules.specs.Messages.{Takes}
 use Rattle.data_rules.specs.Opening.{rounds}
 use Rattle.data_rules.specs.Puts.{Sofar, becomes, begun, body_of, window_in, window_of}
 use Rattle.cluster_runs.specs.Sent.{Lane}
-use Rattle.cluster_invariant.proofs.PieceMay.{Coming, TakesMay}
+use Rattle.cluster_invariant.proofs.PieceMay.{Coming, RoundWas, TakesMay}
 use Rattle.cluster_invariant.proofs.Pieces.{Pieced, and_then, kept_by_pieces}
 use Rattle.cluster_invariant.proofs.PiecesOfReplies.{bares_role_pieces, flush_pieces}
 use Rattle.cluster_invariant.proofs.PiecesOfRounds.{rounds_pieces}
+use Rattle.cluster_invariant.proofs.RoundBefore.{round_same}
 use Rattle.data_puts.proofs.AwaitsGo.{awaits_done}
 use Rattle.data_puts.proofs.AwaitsPieces.{AwaitsOn, TakesKnown, awaits_breaks, awaits_piece, awaits_same}
 use Rattle.data_puts.proofs.TakenSame.{set_taken}
@@ -34,14 +35,18 @@ use Rattle.data_puts.proofs.TakenSame.{set_taken}
 abbrev pub tick_of : DataState → ℕ → Coming
 tick_of old now = record { old = old; now = now; input = data_in.Tick }
 
-pub settled_pieces : (t : Coming) (conn : ℕ) (b : Sofar) → Pieced t b (settled conn t.now b)
-settled_pieces t conn b =
-    and_then t b (rounds t.now b) (settled conn t.now b) (rounds_pieces t b)
+pub settled_pieces : (t : Coming) (conn : ℕ) (b : Sofar) → RoundWas t b.state → Pieced t b (settled conn t.now b)
+settled_pieces t conn b was =
+    and_then t b (rounds t.now b) (settled conn t.now b) (rounds_pieces t b was)
     (and_then t (rounds t.now b) (flushed (rounds t.now b)) (settled conn t.now b) (flush_pieces t (rounds t.now b)) (bares_role_pieces t (role_of (flushed (rounds t.now b)).state conn) (flushed (rounds t.now b))))
 
+-- as if nothing had been taken before it
+pub settled_anew : (conn now : ℕ) (b : Sofar) → Pieced (tick_of b.state now) b (settled conn now b)
+settled_anew conn now b = settled_pieces (tick_of b.state now) conn b (round_same (tick_of b.state now) b.state refl refl)
+
 module _ (lane_of : ℕ → Lane) (old : DataState) (now : ℕ) where
-  none_known : TakesKnown lane_of (tick_of old now) (λ b. Unit {0})
-  none_known = record {
+  none_known : (d : DataState) → TakesKnown lane_of (tick_of d now) (λ b. Unit {0})
+  none_known d = record {
     next = λ conn session f b may. absurd (tick_no conn f may.on.came);
     again = λ session conn kept b e may. absurd (tick_no conn may.came.came.up may.came.came.its);
     undone = λ conn f is. absurd (tick_no conn f is);
@@ -52,8 +57,8 @@ module _ (lane_of : ℕ → Lane) (old : DataState) (now : ℕ) where
 
   pub settled_awaits : (conn : ℕ) (b : Sofar) → AwaitsOn lane_of b → AwaitsOn lane_of (settled conn now b)
   settled_awaits conn b h =
-      kept_by_pieces (tick_of old now) (AwaitsOn lane_of) (λ q c may is. awaits_piece lane_of (tick_of old now) (λ e. Unit {0}) none_known q c may tt is) b (settled conn now b)
-      (settled_pieces (tick_of old now) conn b) h
+      kept_by_pieces (tick_of b.state now) (AwaitsOn lane_of) (λ q c may is. awaits_piece lane_of (tick_of b.state now) (λ e. Unit {0}) (none_known b.state) q c may tt is) b (settled conn now b)
+      (settled_anew conn now b) h
 
   ends_awaits : (conn : ℕ) (b c : Sofar) → Ends b conn now c → AwaitsOn lane_of b → AwaitsOn lane_of c
   ends_awaits conn b c ends h = subst (AwaitsOn lane_of) (sym ends.after) (go (role_of b.state conn))

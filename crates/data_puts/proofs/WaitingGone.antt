@@ -27,6 +27,8 @@ use Rattle.cluster_runs.specs.Sent.{Connection, FirstTaken}
 use Rattle.cluster_invariant.specs.Dials.{ConnectionIs, DialsAre, IsLinkedBy, follows, is_following}
 use Rattle.cluster_invariant.specs.Ends.{NodeEnds}
 use Rattle.cluster_invariant.specs.Words.{is_same}
+use Rattle.cluster_invariant.proofs.PieceMay.{RoundWas}
+use Rattle.cluster_invariant.proofs.RoundBefore.{round_same}
 use Rattle.cluster_invariant.proofs.AllLists.{all_follow, all_passed}
 use Rattle.cluster_invariant.proofs.Pieces.{kept_by_pieces}
 use Rattle.cluster_invariant.proofs.Small.{of_some}
@@ -117,6 +119,12 @@ module _ (l : Layout) (p : Plain) (d k : ℕ) (x : Site) (old : DataState) (now 
       subst (Goes (Elsewhere conn)) (sym ended.after)
       (subst (λ (r : Option Role). Goes (Elsewhere conn) (cuts conn (loses_conn r now (becomes (without_conn conn) (begun old))))) (sym waits) elsewhere)
 
+  round_was : (taken : Sofar) → Ends (begun old) conn now taken → RoundWas (tick_of old now) taken.state
+  round_was taken ended =
+      subst (λ (y : Sofar). RoundWas (tick_of old now) y.state) (sym ended.after)
+      (subst (λ (r : Option Role). RoundWas (tick_of old now) (cuts conn (loses_conn r now (becomes (without_conn conn) (begun old)))).state) (sym waits)
+      (round_same (tick_of old now) (without_conn conn old) refl refl))
+
   tick_no : (c : ℕ) (f : UpFrame) → data_in.Tick ≡ data_in.Frame c f → ⊥
   tick_no c f is = cc
 
@@ -126,8 +134,11 @@ module _ (l : Layout) (p : Plain) (d k : ℕ) (x : Site) (old : DataState) (now 
       subst (λ (y : Sofar). AllByRecursion (Elsewhere conn) y.state.callers) (sym steps.after)
       (kept_by_pieces (tick_of old now) (Goes (Elsewhere conn))
       (λ q b may h. ends_piece l p d k (tick_of old now) (Elsewhere conn) hold all (λ app c e m. absurd (tick_no c m.came.up m.came.its)) q b may h) steps.taken (settled conn now steps.taken)
-      (settled_pieces (tick_of old now) conn steps.taken)
-      (after_end steps.taken (subst (λ (r : Option Role). TakesFrame r (begun old) conn now f steps.taken) waits steps.takes))).whence
+      (settled_pieces (tick_of old now) conn steps.taken (round_was steps.taken ended))
+      (after_end steps.taken ended)).whence
+    where
+      ended : Ends (begun old) conn now steps.taken
+      ended = subst (λ (r : Option Role). TakesFrame r (begun old) conn now f steps.taken) waits steps.takes
 
 -- what holds of any
 any_of : (P : Caller → Type 0) → ((w : Caller) → P w) → (ws : List Caller) → AllByRecursion P ws
