@@ -51,7 +51,7 @@ use Rattle.cluster_invariant.proofs.Deeds.{order_by}
 use Rattle.cluster_invariant.proofs.OrderMoves.{step_from}
 use Rattle.cluster_invariant.proofs.OrderRows.{StepWrote}
 use Rattle.cluster_invariant.proofs.Small.{of_some}
-use Rattle.dials_kept.proofs.BeginDials.{order_now}
+use Rattle.cluster_invariant.proofs.PastOrders.{order_now}
 use Rattle.dials_kept.proofs.ShortDials.{EachDials}
 use Rattle.dials_server.proofs.FittingDials.{dials_after}
 use Rattle.dials_server.proofs.FittingNodes.{PutsAll}
