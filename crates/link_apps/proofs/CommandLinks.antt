@@ -51,7 +51,8 @@ use Rattle.link_kept.proofs.Later.{front_same}
 use Rattle.link_apps.proofs.EnteredStays.{keeps_entered, entered_stays, none_met, later_same}
 use Rattle.link_apps.proofs.EndsApps.{LaneDown}
 use Rattle.link_apps.proofs.LanesApps.{lane_down, given_put, own_lane, site_lanes}
-use Rattle.link_apps.proofs.OwnPuts.{Puts, own_after, link_kept_by_puts}
+use Rattle.link_apps.proofs.PutSteps.{Puts, own_after}
+use Rattle.link_apps.proofs.OwnPuts.{link_kept_by_puts}
 
 -- acts of jobs
 

@@ -39,7 +39,7 @@ use Rattle.link_kept.specs.Laws.{EachLinkHolds}
 use Rattle.link_apps.proofs.EndStep.{IsElsewhere, link_kept_by_end}
 use Rattle.link_apps.proofs.InputPlain.{AfterInput, after_input}
 use Rattle.link_apps.proofs.LanesApps.{site_lanes}
-use Rattle.link_apps.proofs.OwnPuts.{own_after}
+use Rattle.link_apps.proofs.PutSteps.{own_after}
 use Rattle.link_apps.proofs.Rests.{EndRests, rests_same, Keeps}
 use Rattle.link_apps.proofs.RestWays.{LaneRests}
 use Rattle.link_apps.proofs.RestSites.{lane_same}

@@ -5,6 +5,8 @@ pub mod LanesApps
 pub mod PutsUp
 pub mod Relane
 pub mod EndStep
+pub mod OwnPlace
+pub mod PutSteps
 pub mod OwnPuts
 pub mod CommandLinks
 pub mod Rests
@@ -16,7 +18,6 @@ pub mod ConnectedLinks
 pub mod DialLinks
 pub mod InputLinks
 pub mod TookDown
-pub mod OwnPlace
 pub mod JoinedFirst
 pub mod JoinedNow
 pub mod JoinedTakes

@@ -41,7 +41,7 @@ use Rattle.told_kept.proofs.ToldActs.{TellNothing, input_acts}
 use Rattle.link_kept.specs.Laws.{EachLinkHolds}
 use Rattle.link_apps.proofs.EnteredStays.{entered_stays}
 use Rattle.link_apps.proofs.InputPlain.{AfterInput, after_input}
-use Rattle.link_apps.proofs.OwnPuts.{own_after}
+use Rattle.link_apps.proofs.PutSteps.{own_after}
 use Rattle.link_apps.proofs.Rests.{EndRests, Keeps, IsUntroubled, failed_rests, ended_rests, rejoined_rests, one_rests, all_ticked, ticks_keep}
 use Rattle.link_apps.proofs.RestSites.{TakesNone, TakesNothing, nothing_put, rests_at, takes_none}
 use Rattle.link_apps.proofs.RestWays.{link_kept_by_rest}

@@ -46,7 +46,7 @@ use Rattle.link_apps.proofs.EndsApps.{LaneDown}
 use Rattle.link_apps.proofs.FrameTook.{acks_bare, none_bare}
 use Rattle.link_apps.proofs.JoinedNow.{JoinedNow}
 use Rattle.link_apps.proofs.OwnPlace.{OwnPlace, at_place, own_place}
-use Rattle.link_apps.proofs.OwnPuts.{own_after}
+use Rattle.link_apps.proofs.PutSteps.{own_after}
 use Rattle.link_apps.proofs.PutsUp.{acks_frames, numbered_frames, numbered_ups_joined}
 use Rattle.link_apps.proofs.RestWays.{LaneRests, counts_rest, put_of}
 use Rattle.link_apps.proofs.TakenSites.{EndTakes, beside_is, conn_is, elsewhere_is, ends_are, lane_is, others_are}
