@@ -25,5 +25,7 @@ pub mod FrameTook
 pub mod TakenSites
 pub mod TookSites
 pub mod WentOn
+pub mod Learns
 pub mod FrameKinds
 pub mod FrameLinks
+pub mod NewsLinks
