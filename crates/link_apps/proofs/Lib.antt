@@ -29,3 +29,4 @@ pub mod Learns
 pub mod FrameKinds
 pub mod FrameLinks
 pub mod NewsLinks
+pub mod NewsBeside

@@ -136,6 +136,37 @@ module _ (v : Server) (x : Site) (dead : ℕ → Bool) (app d now : ℕ) (frame 
       go (inl w) = absurd (omega (arith, w.epoch_told, m.later))
       go (inr w) = by w
 
+-- a frame by which an end learns of an order is the Welcome of a new session or of a new epoch
+pub told_news : (l : Layout) (c : CoresState) (m : Machine) (app now d : ℕ) (frame : DownFrame) (outs : MoveOuts) (written : List Act) (new : Machine)
+    → Holds l m → IsRun l m.trail → Mirrors c m → Allowed c (App app now (app_in.Frame d frame)) → (goes : AppGoes m app now (app_in.Frame d frame) outs written new)
+    → is_told_new ((m.site_at d).end_at app).state.session (end_at goes.state d).session ≡ true
+    → WelcomeTold frame.message d now ((m.site_at d).end_at app).state (begun (app_state m app)) (made goes.state goes.app_outs)
+told_news l c m app now d frame outs written new h run shows allowed goes news =
+    go
+    (input_told (app_in.Frame d frame) d now (begun a) z its (steps_at_one_end a goes.state now (app_in.Frame d frame) goes.app_outs goes.steps).1
+    (has l c m app now (app_in.Frame d frame) outs written new h run shows allowed goes) goes.steps)
+  where
+    a : AppState
+    a = app_state m app
+
+    z : Sofar
+    z = made goes.state goes.app_outs
+
+    its : AppMay a (app_in.Frame d frame)
+    its = may l c m app now (app_in.Frame d frame) outs written new h run shows allowed goes
+
+    same : end_at a d ≡ ((m.site_at d).end_at app).state
+    same = app_ends c m app d shows allowed.known
+
+    go : EndKept (end_at a d) (end_at goes.state d) ⊎ ((d ≡ d) × WelcomeTold frame.message d now (end_at a d) (begun a) z)
+        → WelcomeTold frame.message d now ((m.site_at d).end_at app).state (begun a) z
+    go (inl kept) =
+        absurd
+        (false≢true (sym (no_news (end_at a d).session (end_at goes.state d).session kept.session)
+        ∙ ap (λ (t : AppEnd). is_told_new t.session (end_at goes.state d).session) same
+        ∙ news))
+    go (inr is) = subst (λ (t : AppEnd). WelcomeTold frame.message d now t (begun a) z) same is.1
+
 -- An end that learns of an order by a frame has just what is on its way to it.
 pub way_kept_by_news : (l : Layout) (c : CoresState) (m : Machine) (app now d : ℕ) (frame : DownFrame) (outs : MoveOuts) (written : List Act) (new : Machine)
     → Holds l m → IsRun l m.trail → Mirrors c m → Allowed c (App app now (app_in.Frame d frame)) → (goes : AppGoes m app now (app_in.Frame d frame) outs written new)
@@ -167,29 +198,11 @@ way_kept_by_news l c m app now d frame outs written new h run shows allowed goes
     alive : m.is_dead_at app ≡ false
     alive = sym (shows.dead app) ∙ allowed.alive
 
-    its : AppMay a (app_in.Frame d frame)
-    its = may l c m app now (app_in.Frame d frame) outs written new h run shows allowed goes
-
-    same : end_at a d ≡ (x.end_at app).state
-    same = app_ends c m app d shows allowed.known
-
     taken : Taken (x.end_at app) frame
     taken = taken_down c m app d frame shows allowed.takes
 
     told : WelcomeTold frame.message d now (x.end_at app).state (begun a) z
-    told =
-        go
-        (input_told (app_in.Frame d frame) d now (begun a) z its (steps_at_one_end a goes.state now (app_in.Frame d frame) goes.app_outs goes.steps).1
-        (has l c m app now (app_in.Frame d frame) outs written new h run shows allowed goes) goes.steps)
-      where
-        go : EndKept (end_at a d) (end_at goes.state d) ⊎ ((d ≡ d) × WelcomeTold frame.message d now (end_at a d) (begun a) z)
-            → WelcomeTold frame.message d now (x.end_at app).state (begun a) z
-        go (inl kept) =
-            absurd
-            (false≢true (sym (no_news (end_at a d).session (end_at goes.state d).session kept.session)
-            ∙ ap (λ (t : AppEnd). is_told_new t.session (end_at goes.state d).session) same
-            ∙ news))
-        go (inr is) = subst (λ (t : AppEnd). WelcomeTold frame.message d now t (begun a) z) same is.1
+    told = told_news l c m app now d frame outs written new h run shows allowed goes news
 
     by : (n : Down) → frame.message ≡ n → WelcomeTold n d now (x.end_at app).state (begun a) z → Learns v x app d goes.app_outs goes.state taken.connection taken.behind
     by (Welcome session epoch kept front count) is (inl w) =

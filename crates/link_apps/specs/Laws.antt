@@ -1,5 +1,5 @@
 -- Steps of application servers that keep what is on its way, where the invariant holds before them.
-use Rattle.std.specs.Prelude.{◌≡◌, ⊤, ℕ, false, true, List}
+use Rattle.std.specs.Prelude.{◌≡◌, ◌≢◌, ⊤, ℕ, false, true, List}
 use Rattle.plain_orders.specs.declared.act.Act.{Act}
 use Rattle.plain_orders.specs.declared.layout.Layout.{Layout}
 use Rattle.plain_runs.specs.Run.{IsRun, state_after}
@@ -17,7 +17,7 @@ use Rattle.cluster_runs.specs.Machine.{Machine}
 use Rattle.cluster_runs.specs.Mirrors.{Mirrors}
 use Rattle.cluster_runs.specs.Moves.{Allowed}
 use Rattle.cluster_invariant.specs.Holds.{Holds}
-use Rattle.cluster_invariant.specs.Link.{AppWay}
+use Rattle.cluster_invariant.specs.Link.{AppWay, LinkHolds}
 use Rattle.link_kept.specs.Laws.{EachLinkHolds}
 
 -- Each command of a job keeps it.
@@ -54,3 +54,10 @@ NewsKeepOwnWay = (l : Layout) (c : CoresState) (m : Machine) (app now d : ℕ) (
     → Holds l m → IsRun l m.trail → Mirrors c m → Allowed c (App app now (app_in.Frame d frame)) → (goes : AppGoes m app now (app_in.Frame d frame) outs written new)
     → is_told_new ((m.site_at d).end_at app).state.session (end_at goes.state d).session ≡ true
     → AppWay ((state_after l new.trail).server_at d) (new.site_at d) app ((new.site_at d).end_at app)
+
+-- And the other data servers keep it.
+abbrev pub NewsKeepOtherLinks : Type 0
+NewsKeepOtherLinks = (l : Layout) (c : CoresState) (m : Machine) (app now d : ℕ) (frame : DownFrame) (outs : MoveOuts) (written : List Act) (new : Machine)
+    → Holds l m → IsRun l m.trail → Mirrors c m → Allowed c (App app now (app_in.Frame d frame)) → (goes : AppGoes m app now (app_in.Frame d frame) outs written new)
+    → is_told_new ((m.site_at d).end_at app).state.session (end_at goes.state d).session ≡ true → (k : ℕ) → k ≢ d
+    → LinkHolds ((state_after l new.trail).server_at k) (new.site_at k) new.is_dead_at
