@@ -1,11 +1,12 @@
 -- What is on its way to an end that learns of an order, by the Welcome of a new session or of a new epoch.
 use Rattle.std.proofs.Common.{◌≡◌, ◌≤◌, ℕ, ◌-◌, Bool, true, if◌then◌else◌, List, [], ◌∷◌, length, drop, Option, Some, None, option_map, is_some, refl, sym, ◌∙◌, ap, subst, arith}
 use Rattle.std.specs.Prelude.{IfSome, IsSomeAnd}
-use Rattle.std.specs.List.{list_any}
-use Rattle.std.proofs.lemmas.Bool.{eq-eqb}
+use Rattle.std.specs.List.{list_all, list_any}
+use Rattle.std.proofs.lemmas.Bool.{eq-eqb, false≢true}
 use Rattle.std.proofs.lemmas.List.{drop-drop}
 use Rattle.plain_orders.specs.declared.entry.Entry.{Entry}
 use Rattle.plain_runs.specs.Plain.{Server, order_at, put}
+use Rattle.ecp_messages.specs.declared.up.Up.{Up}
 use Rattle.ecp_messages.specs.declared.up.UpFrame.{UpFrame}
 use Rattle.ecp_messages.specs.declared.down.Down.{Down}
 use Rattle.ecp_messages.specs.declared.down.DownFrame.{DownFrame}
@@ -23,13 +24,13 @@ use Rattle.cluster_runs.specs.Goes.{app_end, app_takes, at_told, input_site, mes
 use Rattle.cluster_runs.specs.Lanes.{given_since, is_told_new, its_of, sent_before, told_by, with_app_step}
 use Rattle.cluster_runs.specs.Machine.{Site, End}
 use Rattle.cluster_runs.specs.Sent.{Lane, Place, Connection, FirstTaken}
-use Rattle.cluster_invariant.specs.Link.{AppWay, DownBy, DownWay, DownWhole, JoinedWay, LinkHolds, WholeIf, WindowIs, WithSession, is_in_recovery}
+use Rattle.cluster_invariant.specs.Link.{AppWay, LaneCounts, is_numbered_down, is_numbered_up, DownBy, DownWay, DownWhole, JoinedWay, LinkHolds, WholeIf, WindowIs, WithSession, is_in_recovery}
 use Rattle.cluster_invariant.specs.Words.{downs_left, stays_at}
 use Rattle.cluster_invariant.proofs.OrderBeside.{SameOrders}
 use Rattle.cluster_invariant.proofs.Small.{some_kept}
 use Rattle.cluster_steps.proofs.AppSites.{SameBeside, site_beside, site_ends}
 use Rattle.link_apps.proofs.EnteredStays.{order_kept, stays_kept}
-use Rattle.link_apps.proofs.LanesApps.{own_lane}
+use Rattle.link_apps.proofs.LanesApps.{own_lane, told_lane}
 use Rattle.link_apps.proofs.TookDown.{way_taken, whole_taken}
 
 -- An end that learns of an order of its session, of which it knew nothing, by the first frame on its connection.
@@ -45,6 +46,7 @@ pub record Learns (v : Server) (x : Site) (app d : ℕ) (outs : AppOuts) (state 
   -- its window is a new one
   pub acked : session.window.acked ≡ 0
   pub taken : session.window.taken ≡ 0
+  pub numbered : list_all is_numbered_up session.window.waiting ≡ true
   pub way : DownWay (order_at v order) (stays_at v order) session.number (x.lane_at session.number order) (is_in_recovery (end_at state d).link) rest
   pub whole : WholeIf x session.number order (x.lane_at session.number order) c rest
 
@@ -211,3 +213,47 @@ module _ (v w : Server) (x : Site) (dead : ℕ → Bool) (app d : ℕ) (frame : 
   -- What is on its way to it follows.
   pub way_learnt : AppWay w y app (y.end_at app)
   way_learnt = subst (AppWay w y app) (sym ends) own_way
+
+  -- Its lane counts what was put and taken, and the others are as they were.
+  counts_now : LaneCounts lane_now
+  counts_now = record {
+    up_taken =
+        omega (
+          arith,
+          begins.up_taken,
+          (link.lanes u.number k).up_taken,
+          ap (λ (l : List Up). length l) ((link.lanes u.number k).no_up learns.unlearnt),
+        );
+    down_taken = omega (arith, begins.down_taken, ap (λ (l : List Down). length l) begins.down, (link.lanes u.number k).down_taken);
+    no_up = λ none. absurd (false≢true (sym (ap is_some none) ∙ begins.began));
+    no_down = λ none. absurd (false≢true (sym (ap is_some none) ∙ begins.began));
+    ups =
+        ap (list_all is_numbered_up) (begins.up ∙ ap (λ (n : ℕ). drop (0 - n) u.window.waiting) learns.acked) ∙ learns.numbered;
+    downs = ap (list_all is_numbered_down) begins.down ∙ (link.lanes u.number k).downs;
+  }
+
+  pub counts_learnt : (s j : ℕ) → LaneCounts (y.lane_at s j)
+  counts_learnt s j =
+      told_lane (λ (p q : Lane). LaneCounts p → LaneCounts q) (λ p is. is) g.told
+      (with_app_step (is_told_new e.state.session t.session) (message_from d input) e.state.dial (sent_before e.state.session) t.session us)
+      (record x { end_at = put x.end_at app g }) s j
+      (subst
+      (λ (o : Option Place).
+      IfSome o (λ p. s ≡ p.session → j ≡ p.order → LaneCounts (x.lane_at s j)
+      → LaneCounts (with_app_step (is_told_new e.state.session t.session) (message_from d input) e.state.dial (sent_before e.state.session) t.session us (x.lane_at s j))))
+      (sym (ap (λ (z : End). z.told) moved ∙ told))
+      (λ at here was.
+      subst
+      (λ (n : ℕ).
+      LaneCounts (with_app_step (is_told_new e.state.session t.session) (message_from d input) e.state.dial (sent_before e.state.session) t.session us (x.lane_at n j))) (sym at)
+      (subst
+      (λ (n : ℕ).
+      LaneCounts (with_app_step (is_told_new e.state.session t.session) (message_from d input) e.state.dial (sent_before e.state.session) t.session us (x.lane_at u.number n))) (sym here)
+      (subst LaneCounts
+      (own_lane place (with_app_step (is_told_new e.state.session t.session) (message_from d input) e.state.dial (sent_before e.state.session) t.session us)
+      (record x { end_at = put x.end_at app g })) counts_told)))) (link.lanes s j)
+    where
+      counts_told : LaneCounts ((at_told (Some place) (with_app_step (is_told_new e.state.session t.session) (message_from d input) e.state.dial (sent_before e.state.session) t.session us)
+          (record x { end_at = put x.end_at app g })).lane_at u.number k)
+      counts_told = subst (λ (o : Option Place). LaneCounts ((at_told o (with_app_step (is_told_new e.state.session t.session) (message_from d input) e.state.dial (sent_before e.state.session) t.session us)
+          (record x { end_at = put x.end_at app g })).lane_at u.number k)) (ap (λ (z : End). z.told) moved ∙ told) counts_now

@@ -25,6 +25,7 @@ pub mod FrameTook
 pub mod TakenSites
 pub mod TookSites
 pub mod WentOn
+pub mod SentFirst
 pub mod Learns
 pub mod FrameKinds
 pub mod FrameLinks

@@ -27,10 +27,13 @@ use Rattle.cluster_runs.specs.Lanes.{is_told_new}
 use Rattle.cluster_runs.specs.Machine.{Machine, Site, End, app_state}
 use Rattle.cluster_runs.specs.Mirrors.{Mirrors}
 use Rattle.cluster_runs.specs.Moves.{Allowed}
-use Rattle.cluster_runs.specs.Sent.{Lane, Connection}
+use Rattle.cluster_runs.specs.Sent.{Lane, Place, Connection}
 use Rattle.cluster_invariant.specs.Ends.{EndsAre, stands}
 use Rattle.cluster_invariant.specs.Holds.{Holds}
-use Rattle.cluster_invariant.specs.Link.{AppWay, AskedFirst, AskedWay, DownBy, DownWay, GreetedFirst, GreetedWay, LinkHolds, NewWelcomeOn, EpochWelcomeOn, WholeIf, WithSession, is_in_recovery}
+use Rattle.cluster_invariant.specs.Link.{AppWay, LaneCounts, AskedFirst, AskedWay, DownBy, DownWay, GreetedFirst, GreetedWay, LinkHolds, NewWelcomeOn, EpochWelcomeOn, WholeIf, WithSession, is_in_recovery}
+use Rattle.cluster_invariant.specs.Rounds.{RoundOf, SessionRound}
+use Rattle.std.specs.Prelude.{IfSome}
+use Rattle.link_apps.proofs.SentFirst.{told_numbered}
 use Rattle.cluster_invariant.specs.Words.{downs_left, numbered_behind, stays_at}
 use Rattle.cluster_invariant.proofs.Small.{of_some}
 use Rattle.cluster_steps.proofs.AppSites.{app_ends}
@@ -40,14 +43,14 @@ use Rattle.cluster_steps.proofs.Outcomes.{EndKept, WelcomeTold, input_told}
 use Rattle.ends_kept.proofs.OrderApps.{no_news}
 use Rattle.ends_kept.proofs.TakenDown.{Taken, taken_down}
 use Rattle.link_apps.proofs.InputPlain.{after_input}
-use Rattle.link_apps.proofs.Learns.{Learns, way_learnt}
+use Rattle.link_apps.proofs.Learns.{Learns, counts_learnt, way_learnt}
 use Rattle.link_apps.proofs.OwnPlace.{OwnPlace, at_place, own_place}
 use Rattle.link_apps.proofs.RestLinks.{has, may}
 use Rattle.link_apps.proofs.WentOn.{asks_recovering}
 
 -- nothing is on its way
 no_way : (es : List Entry) (stays s : ℕ) (a : Lane) (may : Bool) → DownWay es stays s a may []
-no_way es stays s a may = record {
+no_way es stays s a now = record {
   its = [];
   ends = [];
   all = refl;
@@ -84,6 +87,7 @@ module _ (v : Server) (x : Site) (dead : ℕ → Bool) (app d now : ℕ) (frame 
         unlearnt = w.unmet.unlearnt;
         acked = refl;
         taken = refl;
+        numbered = refl;
         way =
             subst (λ (fs : List DownFrame). DownWay (order_at v w.order) (stays_at v w.order) session (x.lane_at session w.order) (is_in_recovery (end_at state d).link) fs) (sym alone)
             (no_way (order_at v w.order) (stays_at v w.order) session (x.lane_at session w.order) (is_in_recovery (end_at state d).link));
@@ -94,14 +98,19 @@ module _ (v : Server) (x : Site) (dead : ℕ → Bool) (app d now : ℕ) (frame 
       go way = by (subst (GreetedFirst v x app e.state.told c) message way.1) way.2
 
   -- the Welcome of a new epoch
-  pub learns_epoch : Learnt d session epoch kept front e.state b (made state outs) → Learns v x app d outs state c rest
-  learns_epoch m = go (subst (AskedFirst v x s place.k c rest) message asked.1)
+  pub learns_epoch : IfSome e.state.session (RoundOf v x e) → Learnt d session epoch kept front e.state b (made state outs) → Learns v x app d outs state c rest
+  learns_epoch rounds m = go (subst (AskedFirst v x s place.k c rest) message asked.1)
     where
       s : Session
       s = m.session
 
       place : OwnPlace v x app s
       place = own_place v x dead app alive link are s m.its
+
+      round : SessionRound (order_at v place.k) (x.lane_at s.number place.k) s
+      round =
+          of_some (λ (p : Place). SessionRound (order_at v p.order) (x.lane_at s.number p.order) s) e.told (record { session = s.number; order = place.k }) place.told
+          (of_some (RoundOf v x e) e.state.session s m.its rounds)
 
       asked : AskedWay v x s place.k c (frame ∷ rest)
       asked =
@@ -126,6 +135,7 @@ module _ (v : Server) (x : Site) (dead : ℕ → Bool) (app d now : ℕ) (frame 
         unlearnt = ap (λ (n : ℕ). (x.lane_at n w.order).began) (sym w.number) ∙ w.unlearnt;
         acked = refl;
         taken = refl;
+        numbered = told_numbered front.w front.s s round.queued round.owed;
         way =
             subst (λ (q : Bool). DownWay (order_at v w.order) (stays_at v w.order) s.number (x.lane_at s.number w.order) q rest) (sym recovers)
             (subst (λ (n : ℕ). DownWay (order_at v w.order) (stays_at v w.order) n (x.lane_at n w.order) true rest) w.number w.way);
@@ -167,58 +177,67 @@ told_news l c m app now d frame outs written new h run shows allowed goes news =
         ∙ news))
     go (inr is) = subst (λ (t : AppEnd). WelcomeTold frame.message d now t (begun a) z) same is.1
 
--- An end that learns of an order by a frame has just what is on its way to it.
-pub way_kept_by_news : (l : Layout) (c : CoresState) (m : Machine) (app now d : ℕ) (frame : DownFrame) (outs : MoveOuts) (written : List Act) (new : Machine)
-    → Holds l m → IsRun l m.trail → Mirrors c m → Allowed c (App app now (app_in.Frame d frame)) → (goes : AppGoes m app now (app_in.Frame d frame) outs written new)
-    → is_told_new ((m.site_at d).end_at app).state.session (end_at goes.state d).session ≡ true
-    → AppWay ((state_after l new.trail).server_at d) (new.site_at d) app ((new.site_at d).end_at app)
-way_kept_by_news l c m app now d frame outs written new h run shows allowed goes news =
-    subst (λ (n : Machine). AppWay ((state_after l n.trail).server_at d) (n.site_at d) app ((n.site_at d).end_at app)) (sym goes.after)
-    (subst (λ (ws : List Act). AppWay ((state_after l (m.trail ++ ws)).server_at d) y app (y.end_at app)) (sym goes.acts)
-    (subst (λ (q : Plain). AppWay (q.server_at d) y app (y.end_at app)) (sym (after_all-append l start m.trail goes.app_outs.acts))
-    (way_learnt v ((after_all l (state_after l m.trail) goes.app_outs.acts).server_at d) x m.is_dead_at app d frame goes.app_outs goes.state goes.shown
-    ((after_input l c m app now (app_in.Frame d frame) outs written new h run shows allowed goes).orders d) (h.sites d).link taken.connection taken.its taken.behind taken.left news
-    learns)))
-  where
-    a : AppState
-    a = app_state m app
+module _ (l : Layout) (c : CoresState) (m : Machine) (app now d : ℕ) (frame : DownFrame) (outs : MoveOuts) (written : List Act) (new : Machine)
+    (h : Holds l m) (run : IsRun l m.trail) (shows : Mirrors c m) (allowed : Allowed c (App app now (app_in.Frame d frame)))
+    (goes : AppGoes m app now (app_in.Frame d frame) outs written new)
+    (news : is_told_new ((m.site_at d).end_at app).state.session (end_at goes.state d).session ≡ true) where
+  abbrev a : AppState
+  a = app_state m app
 
-    x : Site
-    x = m.site_at d
+  abbrev x : Site
+  x = m.site_at d
 
-    y : Site
-    y = input_site app (app_in.Frame d frame) goes.app_outs goes.state goes.shown d x
+  abbrev y : Site
+  y = input_site app (app_in.Frame d frame) goes.app_outs goes.state goes.shown d x
 
-    v : Server
-    v = (state_after l m.trail).server_at d
+  abbrev v : Server
+  v = (state_after l m.trail).server_at d
 
-    z : Sofar
-    z = made goes.state goes.app_outs
+  abbrev z : Sofar
+  z = made goes.state goes.app_outs
 
-    alive : m.is_dead_at app ≡ false
-    alive = sym (shows.dead app) ∙ allowed.alive
+  alive : m.is_dead_at app ≡ false
+  alive = sym (shows.dead app) ∙ allowed.alive
 
-    taken : Taken (x.end_at app) frame
-    taken = taken_down c m app d frame shows allowed.takes
+  taken : Taken (x.end_at app) frame
+  taken = taken_down c m app d frame shows allowed.takes
 
-    told : WelcomeTold frame.message d now (x.end_at app).state (begun a) z
-    told = told_news l c m app now d frame outs written new h run shows allowed goes news
+  told : WelcomeTold frame.message d now (x.end_at app).state (begun a) z
+  told = told_news l c m app now d frame outs written new h run shows allowed goes news
 
-    by : (n : Down) → frame.message ≡ n → WelcomeTold n d now (x.end_at app).state (begun a) z → Learns v x app d goes.app_outs goes.state taken.connection taken.behind
-    by (Welcome session epoch kept front count) is (inl w) =
-        learns_met v x m.is_dead_at app d now frame goes.app_outs goes.state (begun a) refl alive (h.sites d).link (h.sites d).ends taken.connection taken.its taken.behind taken.left
-        session epoch kept front count is w
-    by (Welcome session epoch kept front count) is (inr w) =
-        learns_epoch v x m.is_dead_at app d now frame goes.app_outs goes.state (begun a) refl alive (h.sites d).link (h.sites d).ends taken.connection taken.its taken.behind taken.left
-        session epoch kept front count is w
-    by (Reset session at) is w = absurd w
-    by (Block front block) is w = absurd w
-    by (Drop front lo hi) is w = absurd w
-    by (Ack front) is w = absurd w
-    by (Grant front ticket at) is w = absurd w
-    by (Answer front about job number at sum) is w = absurd w
-    by (Normal front) is w = absurd w
-    by Bare is w = absurd w
+  by : (n : Down) → frame.message ≡ n → WelcomeTold n d now (x.end_at app).state (begun a) z → Learns v x app d goes.app_outs goes.state taken.connection taken.behind
+  by (Welcome session epoch kept front count) is (inl w) =
+      learns_met v x m.is_dead_at app d now frame goes.app_outs goes.state (begun a) refl alive (h.sites d).link (h.sites d).ends taken.connection taken.its taken.behind taken.left
+      session epoch kept front count is w
+  by (Welcome session epoch kept front count) is (inr w) =
+      learns_epoch v x m.is_dead_at app d now frame goes.app_outs goes.state (begun a) refl alive (h.sites d).link (h.sites d).ends taken.connection taken.its taken.behind taken.left
+      session epoch kept front count is ((h.sites d).rounds.apps app alive) w
+  by (Reset session at) is w = absurd w
+  by (Block front block) is w = absurd w
+  by (Drop front lo hi) is w = absurd w
+  by (Ack front) is w = absurd w
+  by (Grant front ticket at) is w = absurd w
+  by (Answer front about job number at sum) is w = absurd w
+  by (Normal front) is w = absurd w
+  by Bare is w = absurd w
 
-    learns : Learns v x app d goes.app_outs goes.state taken.connection taken.behind
-    learns = by frame.message refl told
+  learns : Learns v x app d goes.app_outs goes.state taken.connection taken.behind
+  learns = by frame.message refl told
+
+  -- An end that learns of an order by a frame has just what is on its way to it.
+  pub way_kept_by_news : AppWay ((state_after l new.trail).server_at d) (new.site_at d) app ((new.site_at d).end_at app)
+  way_kept_by_news =
+      subst (λ (n : Machine). AppWay ((state_after l n.trail).server_at d) (n.site_at d) app ((n.site_at d).end_at app)) (sym goes.after)
+      (subst (λ (ws : List Act). AppWay ((state_after l (m.trail ++ ws)).server_at d) y app (y.end_at app)) (sym goes.acts)
+      (subst (λ (q : Plain). AppWay (q.server_at d) y app (y.end_at app)) (sym (after_all-append l start m.trail goes.app_outs.acts))
+      (way_learnt v ((after_all l (state_after l m.trail) goes.app_outs.acts).server_at d) x m.is_dead_at app d frame goes.app_outs goes.state goes.shown
+      ((after_input l c m app now (app_in.Frame d frame) outs written new h run shows allowed goes).orders d) (h.sites d).link taken.connection taken.its taken.behind taken.left news
+      learns)))
+
+  -- And the lanes there count what was put and taken.
+  pub lanes_kept_by_news : (s k : ℕ) → LaneCounts ((new.site_at d).lane_at s k)
+  lanes_kept_by_news s k =
+      subst (λ (n : Machine). LaneCounts ((n.site_at d).lane_at s k)) (sym goes.after)
+      (counts_learnt v ((after_all l (state_after l m.trail) goes.app_outs.acts).server_at d) x m.is_dead_at app d frame goes.app_outs goes.state goes.shown
+      ((after_input l c m app now (app_in.Frame d frame) outs written new h run shows allowed goes).orders d) (h.sites d).link taken.connection taken.its taken.behind taken.left news
+      learns s k)

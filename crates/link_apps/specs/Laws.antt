@@ -17,7 +17,7 @@ use Rattle.cluster_runs.specs.Machine.{Machine}
 use Rattle.cluster_runs.specs.Mirrors.{Mirrors}
 use Rattle.cluster_runs.specs.Moves.{Allowed}
 use Rattle.cluster_invariant.specs.Holds.{Holds}
-use Rattle.cluster_invariant.specs.Link.{AppWay, LinkHolds}
+use Rattle.cluster_invariant.specs.Link.{AppWay, LaneCounts, LinkHolds}
 use Rattle.link_kept.specs.Laws.{EachLinkHolds}
 
 -- Each command of a job keeps it.
@@ -61,3 +61,10 @@ NewsKeepOtherLinks = (l : Layout) (c : CoresState) (m : Machine) (app now d : �
     → Holds l m → IsRun l m.trail → Mirrors c m → Allowed c (App app now (app_in.Frame d frame)) → (goes : AppGoes m app now (app_in.Frame d frame) outs written new)
     → is_told_new ((m.site_at d).end_at app).state.session (end_at goes.state d).session ≡ true → (k : ℕ) → k ≢ d
     → LinkHolds ((state_after l new.trail).server_at k) (new.site_at k) new.is_dead_at
+
+-- And the lanes at its own count what was put and taken.
+abbrev pub NewsKeepLanes : Type 0
+NewsKeepLanes = (l : Layout) (c : CoresState) (m : Machine) (app now d : ℕ) (frame : DownFrame) (outs : MoveOuts) (written : List Act) (new : Machine)
+    → Holds l m → IsRun l m.trail → Mirrors c m → Allowed c (App app now (app_in.Frame d frame)) → (goes : AppGoes m app now (app_in.Frame d frame) outs written new)
+    → is_told_new ((m.site_at d).end_at app).state.session (end_at goes.state d).session ≡ true → (session k : ℕ)
+    → LaneCounts ((new.site_at d).lane_at session k)
