@@ -50,6 +50,8 @@ use Rattle.link_kept.specs.Laws.{EachLinkHolds}
 use Rattle.link_kept.proofs.Later.{front_same}
 use Rattle.link_apps.proofs.EnteredStays.{keeps_entered, entered_stays, none_met, later_same}
 use Rattle.link_apps.proofs.EndsApps.{LaneDown}
+use Rattle.link_apps.proofs.RestSites.{place_number}
+use Rattle.link_apps.proofs.RestWays.{some_any}
 use Rattle.link_apps.proofs.LanesApps.{lane_down, given_put, own_lane, site_lanes}
 use Rattle.link_apps.proofs.PutSteps.{Puts, own_after}
 use Rattle.link_apps.proofs.OwnPuts.{link_kept_by_puts}
@@ -123,9 +125,6 @@ module _ (v : Server) (x : Site) (app : ℕ) (t : AppEnd) (ms : List Up) (d : �
     (grows : SessionsGrow ms (x.end_at app).state.session t.session) where
   abbrev e : End
   e = x.end_at app
-
-  place_number : (p : Place) (s k : ℕ) → ◌≡◌ {A = Option Place} (Some p) (Some (record { session = s; order = k })) → p.session ≡ s
-  place_number p s k same = (let is : p ≡ record { session = s; order = k } = cc in ap (λ (z : Place). z.session) is)
 
   -- it took as much as its lane says
   took_same : (s k : ℕ) (o q : Option Session) (p : Option Place) → IfSome o (λ u. ToldPlace v app u p)
@@ -308,7 +307,3 @@ links_kept_by_job l c m job now line command outs written new h run shows allowe
               (others_up v x app t (grew d).put d (ups_to d goes.app_outs.frames) place window grows.session s k e.state.dial (sent_before e.state.session) e.state.session
               t.session e.told place grows.session none));
         }
-          where
-            some_any : (P : Place → Type 0) → ((r : Place) → P r) → (o : Option Place) → IfSome o P
-            some_any P any None = tt
-            some_any P any (Some r) = any r
