@@ -8,6 +8,7 @@ pub mod EndStep
 pub mod OwnPlace
 pub mod PutSteps
 pub mod OwnPuts
+pub mod JobActs
 pub mod CommandLinks
 pub mod Rests
 pub mod RestWays
