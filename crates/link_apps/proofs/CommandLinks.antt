@@ -1,16 +1,14 @@
 -- The part on what is on its way, for each command of a job: what it puts follows what is on its way of the session.
-use Rattle.std.proofs.Common.{◌≡◌, ◌<◌, ℕ, Bool, true, false, ◌&&◌, List, [], ◌∷◌, ◌++◌, length, Option, Some, None, is_some, refl, sym, ◌∙◌, ap, subst}
+use Rattle.std.proofs.Common.{◌≡◌, ◌<◌, ℕ, Bool, true, false, List, ◌++◌, length, Option, Some, None, is_some, refl, sym, ◌∙◌, ap, subst}
 use Rattle.std.specs.Prelude.{IfSome}
-use Rattle.std.specs.List.{AllByRecursion, list_all}
+use Rattle.std.specs.List.{AllByRecursion}
 use Rattle.plain_orders.specs.declared.act.Act.{Act}
-use Rattle.plain_orders.specs.declared.act.Act.TheVariants.{Opened, Enter, Synced, Shut, Release, Met, Told, Back, Crash, Issue, Read, Grant as GrantAct, Granted, GiveUp, Quit, Free, Counted, NotWhole, Range, Committed, RolledBack, Reached, Level, Done, Refused, Broke, Mended, Tick, Lose, Died}
 use Rattle.plain_orders.specs.declared.layout.Layout.{Layout}
 use Rattle.plain_runs.specs.Plain.{Plain, Server, start, put}
 use Rattle.plain_runs.specs.Run.{IsRun, after_all, state_after}
 use Rattle.plain_runs.proofs.RunLemmas.{after_all-append}
 use Rattle.ecp_messages.specs.declared.up.Up.{Up}
 use Rattle.ecp_messages.specs.declared.down.Down.{Down}
-use Rattle.ecp_messages.specs.declared.up.Up.TheVariants as ups
 use Rattle.ecp_messages.specs.declared.up.UpFrame.{UpFrame}
 use Rattle.end_words.specs.Windows.{sent}
 use Rattle.plain_orders.specs.declared.entry.Entry.{Entry}
@@ -30,7 +28,7 @@ use Rattle.cluster_runs.specs.Goes.{JobGoes, job_site, app_end, at_told, with_st
 use Rattle.cluster_runs.specs.Lanes.{is_told_new, given_since, told_by, sent_before, with_app_step}
 use Rattle.cluster_invariant.specs.Ends.{ToldPlace}
 use Rattle.cluster_invariant.specs.Holds.{Holds}
-use Rattle.cluster_invariant.specs.Link.{LinkHolds, WindowIs, is_numbered_up}
+use Rattle.cluster_invariant.specs.Link.{LinkHolds, WindowIs}
 use Rattle.cluster_invariant.specs.Words.{IsFront}
 use Rattle.cluster_invariant.proofs.Small.{some_kept}
 use Rattle.cluster_invariant.proofs.OrderBeside.{SameOrders, leaves_orders, rows_same}
@@ -38,7 +36,7 @@ use Rattle.cluster_invariant.proofs.OrdersStay.{orders_agree}
 use Rattle.cluster_steps.proofs.AppSites.{app_ends, site_beside, site_ends}
 use Rattle.cluster_steps.proofs.JobActs.{Wrote, wrote_by}
 use Rattle.cluster_steps.proofs.JobEnds.{Grew, EndGrows, SessionsGrow, grows_by, put_frames}
-use Rattle.cluster_steps.proofs.JobPieces.{GoesOn, IsOfJob, IsPutByJob}
+use Rattle.cluster_steps.proofs.JobPieces.{GoesOn}
 use Rattle.cluster_steps.proofs.JobPiecesOf.{job_goes}
 use Rattle.cluster_steps.proofs.Outcomes.{EndKept, command_told}
 use Rattle.ends_kept.proofs.OrderApps.{no_news}
@@ -48,70 +46,14 @@ use Rattle.told_kept.proofs.SameSessions.{leaves_told, rows_met}
 use Rattle.told_kept.proofs.ToldJobs.{all_told}
 use Rattle.link_kept.specs.Laws.{EachLinkHolds}
 use Rattle.link_kept.proofs.Later.{front_same}
+use Rattle.link_apps.proofs.JobActs.{all_by_job, all_enter}
 use Rattle.link_apps.proofs.EnteredStays.{keeps_entered, entered_stays, none_met, later_same}
 use Rattle.link_apps.proofs.EndsApps.{LaneDown}
+use Rattle.link_apps.proofs.RestSites.{place_number}
+use Rattle.link_apps.proofs.RestWays.{some_any}
 use Rattle.link_apps.proofs.LanesApps.{lane_down, given_put, own_lane, site_lanes}
-use Rattle.link_apps.proofs.OwnPuts.{Puts, own_after, link_kept_by_puts}
-
--- acts of jobs
-
-job_enters : (app d : ℕ) (a : Act) → IsOfJob a → keeps_entered app d a ≡ true
-job_enters app d (Opened e entries) of_job = absurd of_job
-job_enters app d (Enter e entry) of_job = absurd of_job
-job_enters app d (Synced e n) of_job = absurd of_job
-job_enters app d (Shut e session cause) of_job = absurd of_job
-job_enters app d (Release e session) of_job = absurd of_job
-job_enters app d (Met a e session) of_job = absurd of_job
-job_enters app d (Told a e session epoch kept) of_job = absurd of_job
-job_enters app d (Back e) of_job = absurd of_job
-job_enters app d (Crash e kept) of_job = absurd of_job
-job_enters app d (Issue job line e w item) of_job = refl
-job_enters app d (Read job line e at via question) of_job = refl
-job_enters app d (GrantAct e session job mode key at) of_job = absurd of_job
-job_enters app d (Granted job line e at) of_job = refl
-job_enters app d (GiveUp job line e mode key) of_job = refl
-job_enters app d (Quit job line e mode key) of_job = refl
-job_enters app d (Free e session job mode key) of_job = absurd of_job
-job_enters app d (Counted job line e at sum) of_job = refl
-job_enters app d (NotWhole job line e at) of_job = refl
-job_enters app d (Range job line e at) of_job = refl
-job_enters app d (Committed job line e at) of_job = refl
-job_enters app d (RolledBack job line e at) of_job = refl
-job_enters app d (Reached job line e at) of_job = refl
-job_enters app d (Level job line level) of_job = refl
-job_enters app d (Done job line) of_job = refl
-job_enters app d (Refused job line refusal) of_job = refl
-job_enters app d (Broke a e end time) of_job = absurd of_job
-job_enters app d (Mended a e) of_job = absurd of_job
-job_enters app d (Tick time) of_job = absurd of_job
-job_enters app d (Lose a e loss) of_job = absurd of_job
-job_enters app d (Died a) of_job = absurd of_job
-
-all_enter : (app d : ℕ) (ws : List Act) → AllByRecursion IsOfJob ws → AllByRecursion (λ a. keeps_entered app d a ≡ true) ws
-all_enter app d [] of_job = tt
-all_enter app d (a ∷ ws) of_job = (job_enters app d a of_job.0, all_enter app d ws of_job.1)
-
--- what a job puts has a number
-
-by_job_numbered : (m : Up) → IsPutByJob m → is_numbered_up m ≡ true
-by_job_numbered (ups.Hello app dial) may = absurd may
-by_job_numbered (ups.Recover app session epoch said dial) may = absurd may
-by_job_numbered (ups.Update w job txn op) may = refl
-by_job_numbered (ups.Add w job key amount) may = refl
-by_job_numbered (ups.Fetch key) may = refl
-by_job_numbered (ups.Ask ticket job mode key) may = refl
-by_job_numbered (ups.Unlock job mode key) may = refl
-by_job_numbered (ups.Cancel ticket) may = refl
-by_job_numbered (ups.Commit w job txn wanted) may = refl
-by_job_numbered (ups.Rollback w job txn) may = refl
-by_job_numbered (ups.Sync ticket) may = refl
-by_job_numbered ups.Done may = absurd may
-by_job_numbered (ups.Claim job mode number at key) may = absurd may
-by_job_numbered ups.Bare may = absurd may
-
-all_by_job : (ms : List Up) → AllByRecursion IsPutByJob ms → list_all is_numbered_up ms ≡ true
-all_by_job [] may = refl
-all_by_job (m ∷ ms) may = ap (λ (b : Bool). b && list_all is_numbered_up ms) (by_job_numbered m may.0) ∙ all_by_job ms may.1
+use Rattle.link_apps.proofs.PutSteps.{Puts, own_after}
+use Rattle.link_apps.proofs.OwnPuts.{link_kept_by_puts}
 
 -- lanes of an end whose session goes on
 
@@ -122,9 +64,6 @@ module _ (v : Server) (x : Site) (app : ℕ) (t : AppEnd) (ms : List Up) (d : �
     (grows : SessionsGrow ms (x.end_at app).state.session t.session) where
   abbrev e : End
   e = x.end_at app
-
-  place_number : (p : Place) (s k : ℕ) → ◌≡◌ {A = Option Place} (Some p) (Some (record { session = s; order = k })) → p.session ≡ s
-  place_number p s k same = (let is : p ≡ record { session = s; order = k } = cc in ap (λ (z : Place). z.session) is)
 
   -- it took as much as its lane says
   took_same : (s k : ℕ) (o q : Option Session) (p : Option Place) → IfSome o (λ u. ToldPlace v app u p)
@@ -307,7 +246,3 @@ links_kept_by_job l c m job now line command outs written new h run shows allowe
               (others_up v x app t (grew d).put d (ups_to d goes.app_outs.frames) place window grows.session s k e.state.dial (sent_before e.state.session) e.state.session
               t.session e.told place grows.session none));
         }
-          where
-            some_any : (P : Place → Type 0) → ((r : Place) → P r) → (o : Option Place) → IfSome o P
-            some_any P any None = tt
-            some_any P any (Some r) = any r

@@ -28,7 +28,7 @@ use Rattle.cluster_steps.proofs.InputEnds.{ConnectedCame}
 use Rattle.link_apps.proofs.EndStep.{EndStep, IsElsewhere, OwnKept}
 use Rattle.link_apps.proofs.LanesApps.{given_put}
 use Rattle.link_apps.proofs.NodeApps.{DownsStay}
-use Rattle.link_apps.proofs.OwnPuts.{own_after}
+use Rattle.link_apps.proofs.PutSteps.{own_after}
 use Rattle.link_apps.proofs.PutsUp.{way_put}
 use Rattle.link_apps.proofs.RestWays.{LaneRests, counts_rest, put_of}
 use Rattle.link_apps.proofs.RestSites.{place_number, lane_same}

@@ -39,7 +39,7 @@ use Rattle.link_kept.specs.Laws.{EachLinkHolds}
 use Rattle.link_apps.proofs.EndStep.{IsElsewhere, link_kept_by_end}
 use Rattle.link_apps.proofs.InputPlain.{AfterInput, after_input}
 use Rattle.link_apps.proofs.LanesApps.{site_lanes}
-use Rattle.link_apps.proofs.OwnPuts.{own_after}
+use Rattle.link_apps.proofs.PutSteps.{own_after}
 use Rattle.link_apps.proofs.Rests.{EndRests, rests_same, Keeps}
 use Rattle.link_apps.proofs.RestWays.{LaneRests}
 use Rattle.link_apps.proofs.RestSites.{lane_same}
@@ -103,7 +103,7 @@ module _ (l : Layout) (c : CoresState) (m : Machine) (app now d : ℕ) (outs : M
   elsewhere : (k : ℕ) → k ≢ d
       → LinkHolds ((after_all l (state_after l m.trail) goes.app_outs.acts).server_at k) (input_site app (app_in.Connected d) goes.app_outs goes.state goes.shown k (m.site_at k)) m.is_dead_at
   elsewhere k other =
-      rest_at l c m app now (app_in.Connected d) outs written new h run shows allowed goes tells k false (ne_eqb d k (λ same. other (sym same)))
+      rest_at l c m app now (app_in.Connected d) outs written new h run shows allowed goes k false (after.later k tells) (ne_eqb d k (λ same. other (sym same)))
       (ap (λ (z : Sofar). ups_to k z.outs.frames) goes.steps ∙ frames_elsewhere (end_at a d).link d k now (becomes d with_dial (begun a)) (λ same. other (sym same)))
       (ap (list_any (is_index k)) cuts)
       (subst (λ (t : AppEnd). EndRests (end_at a k) t)

@@ -169,29 +169,31 @@ none_met v w same n none = go (w.session_at n) (same n ∙ ap (option_map whose)
     go None is = refl
     go (Some s) is = absurd cc
 
+-- the orders, and what stays of each
+
+pub order_kept : (v w : Server) → SameOrders v w → (k : ℕ) → order_at w k ≡ order_at v k
+order_kept v w s k = ap (λ (xs : List (List Entry)). get_or (xs ++ w.order ∷ []) k []) s.past ∙ ap (λ (o : List Entry). get_or (v.past ++ o ∷ []) k []) s.order
+
+pub stays_kept : (v w : Server) → SameOrders v w → (k : ℕ) → stays_at w k ≡ stays_at v k
+stays_kept v w s k =
+    ap (λ (xs : List (List Entry)). if k == length xs then w.synced else epoch_place (order_at w (k + 1)) - 1) s.past
+    ∙ ap (λ (n : ℕ). if k == current v then n else epoch_place (order_at w (k + 1)) - 1) s.synced
+    ∙ ap (λ (es : List Entry). if k == current v then v.synced else epoch_place es - 1) (order_kept v w s (k + 1))
+
 -- A plain server whose orders are the same, where no session was met.
 pub later_same : (x : Site) (v w : Server) → OrdersAgree v → SameOrders v w → NoneMet v w → Later x v w
 later_same x v w agree s none = record {
   there = omega (arith, now);
-  goes_on = λ k low. subst (λ (es : List Entry). IsFront (order_at v k) es) (sym (order_same k)) (front_same (order_at v k));
+  goes_on = λ k low. subst (λ (es : List Entry). IsFront (order_at v k) es) (sym (order_kept v w s k)) (front_same (order_at v k));
   within = stays_within v agree;
-  stays = λ k low. omega (arith, stays_same k);
-  left = λ k low. stays_same k;
-  last = λ k low. ap last_epoch (order_same k);
-  place = λ k low. ap epoch_place (order_same k);
+  stays = λ k low. omega (arith, stays_kept v w s k);
+  left = λ k low. stays_kept v w s k;
+  last = λ k low. ap last_epoch (order_kept v w s k);
+  place = λ k low. ap epoch_place (order_kept v w s k);
   met = none;
   newer = λ i j low past there stays. absurd (omega (arith, past, there, now));
-  counts = λ n k low unlearnt. ap (λ (es : List Entry). count es n) (order_same k);
+  counts = λ n k low unlearnt. ap (λ (es : List Entry). count es n) (order_kept v w s k);
 }
   where
     now : current w ≡ current v
     now = ap (λ (xs : List (List Entry)). length xs) s.past
-
-    order_same : (k : ℕ) → order_at w k ≡ order_at v k
-    order_same k = ap (λ (xs : List (List Entry)). get_or (xs ++ w.order ∷ []) k []) s.past ∙ ap (λ (o : List Entry). get_or (v.past ++ o ∷ []) k []) s.order
-
-    stays_same : (k : ℕ) → stays_at w k ≡ stays_at v k
-    stays_same k =
-        ap (λ (xs : List (List Entry)). if k == length xs then w.synced else epoch_place (order_at w (k + 1)) - 1) s.past
-        ∙ ap (λ (n : ℕ). if k == current v then n else epoch_place (order_at w (k + 1)) - 1) s.synced
-        ∙ ap (λ (es : List Entry). if k == current v then v.synced else epoch_place es - 1) (order_same (k + 1))

@@ -188,7 +188,7 @@ module _ (l : Layout) (c : CoresState) (m : Machine) (app now d : ℕ) (frame : 
   elsewhere : (k : ℕ) → k ≢ d
       → LinkHolds ((after_all l (state_after l m.trail) goes.app_outs.acts).server_at k) (input_site app (app_in.Frame d frame) goes.app_outs goes.state goes.shown k (m.site_at k)) m.is_dead_at
   elsewhere k other =
-      rest_at l c m app now (app_in.Frame d frame) outs written new h run shows allowed goes tells k false (ne_eqb d k apart_from)
+      rest_at l c m app now (app_in.Frame d frame) outs written new h run shows allowed goes k false (after.later k tells) (ne_eqb d k apart_from)
       (taken_silent k d apart_from (begun a) now frame z goes.steps)
       (apart.none_cut k apart_from)
       (subst (λ (t : AppEnd). EndRests (end_at a k) t)
@@ -207,7 +207,7 @@ module _ (l : Layout) (c : CoresState) (m : Machine) (app now d : ℕ) (frame : 
   unwired : (cut : Bool) → has_wire (end_at goes.state d).line ≡ false → ups_to d goes.app_outs.frames ≡ [] → list_any (is_index d) goes.app_outs.cuts ≡ cut
       → EndRests (end_at a d) (end_at goes.state d) → Here_
   unwired cut none frames cuts rests =
-      rest_by l c m app now (app_in.Frame d frame) outs written new h run shows allowed goes tells d cut
+      rest_by l c m app now (app_in.Frame d frame) outs written new h run shows allowed goes d cut (after.later d tells)
       (subst (λ (b : Bool). TakesNone b e (app_takes d (app_in.Frame d frame) e.state.dial e)) (sym none)
       (subst (λ (b : Bool). TakesNone false e (if b then at_number e.state.dial down_taken e else e)) (sym (eq-eqb d d refl))
       (rests_as_taken false e.state.dial down_taken e taken_rests)))

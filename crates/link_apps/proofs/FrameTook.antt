@@ -38,7 +38,7 @@ record DeliveredIs (m : Down) (s t : Session) (old new : AppLink) (ms : List Up)
 
 -- messages that are put again have numbers
 
-all_of : {A : Type 0} (g : A → Up) → ((a : A) → is_numbered_up (g a) ≡ true) → (xs : List A) → list_all is_numbered_up (map g xs) ≡ true
+pub all_of : {A : Type 0} (g : A → Up) → ((a : A) → is_numbered_up (g a) ≡ true) → (xs : List A) → list_all is_numbered_up (map g xs) ≡ true
 all_of g is [] = refl
 all_of g is (x ∷ xs) = ap (λ (b : Bool). b && list_all is_numbered_up (map g xs)) (is x) ∙ all_of g is xs
 

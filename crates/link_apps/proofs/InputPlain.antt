@@ -81,6 +81,7 @@ acts_keep app a d (z ∷ acts) other leaves own = (act_keeps app a d z other lea
 -- What is so of each plain server after the acts of an input.
 pub record AfterInput (l : Layout) (m : Machine) (app : ℕ) (acts : List Act) : Type 0 where
   pub leaves : AllByRecursion (λ z. leaves_orders z ≡ true) acts
+  pub orders : (d : ℕ) → SameOrders ((state_after l m.trail).server_at d) ((after_all l (state_after l m.trail) acts).server_at d)
   pub now : (d : ℕ) → current ((after_all l (state_after l m.trail) acts).server_at d) ≡ current ((state_after l m.trail).server_at d)
   pub others : (d a : ℕ) → a ≢ app → EnteredStays a ((state_after l m.trail).server_at d) ((after_all l (state_after l m.trail) acts).server_at d)
   pub later : (d : ℕ) → TellNothing acts → Later (m.site_at d) ((state_after l m.trail).server_at d) ((after_all l (state_after l m.trail) acts).server_at d)
@@ -89,6 +90,7 @@ pub after_input : (l : Layout) (c : CoresState) (m : Machine) (app now : ℕ) (i
     → Holds l m → IsRun l m.trail → Mirrors c m → Allowed c (App app now input) → (goes : AppGoes m app now input outs written new) → AfterInput l m app goes.app_outs.acts
 after_input l c m app now input outs written new h run shows allowed goes = record {
   leaves = orders;
+  orders = same;
   now = λ d. ap (λ (xs : List (List Entry)). length xs) (same d).past;
   others = λ d a other. entered_stays l (state_after l m.trail) goes.app_outs.acts a d (acts_keep app a d goes.app_outs.acts other orders own);
   later = λ d tells.

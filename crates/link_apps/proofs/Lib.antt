@@ -5,7 +5,10 @@ pub mod LanesApps
 pub mod PutsUp
 pub mod Relane
 pub mod EndStep
+pub mod OwnPlace
+pub mod PutSteps
 pub mod OwnPuts
+pub mod JobActs
 pub mod CommandLinks
 pub mod Rests
 pub mod RestWays
@@ -16,7 +19,6 @@ pub mod ConnectedLinks
 pub mod DialLinks
 pub mod InputLinks
 pub mod TookDown
-pub mod OwnPlace
 pub mod JoinedFirst
 pub mod JoinedNow
 pub mod JoinedTakes
@@ -24,5 +26,9 @@ pub mod FrameTook
 pub mod TakenSites
 pub mod TookSites
 pub mod WentOn
+pub mod SentFirst
+pub mod Learns
 pub mod FrameKinds
 pub mod FrameLinks
+pub mod NewsLinks
+pub mod NewsBeside

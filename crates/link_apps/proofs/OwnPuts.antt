@@ -1,10 +1,10 @@
 -- What is on its way at one data server as an application server's end puts more to its session, and takes nothing.
 use Rattle.std.proofs.Common.{◌≡◌, ◌≢◌, ◌≤◌, inl, inr, ℕ, Bool, true, false, ◌&&◌, ◌==◌, if◌then◌else◌, List, ◌++◌, length, drop, map, Option, Some, None, is_some, option_map, refl, sym, ◌∙◌, ap, subst, arith}
 use Rattle.std.specs.Prelude.{IfSome, unwrap_or}
-use Rattle.std.specs.List.{AllByRecursion, list_all}
+use Rattle.std.specs.List.{AllByRecursion}
 use Rattle.std.proofs.lemmas.Bool.{eqb-true, eq-eqb, ne_eqb, false≢true}
 use Rattle.std.proofs.lemmas.List.{append-nil, drop-append-le, length-drop}
-use Rattle.plain_runs.specs.Plain.{Server, current, put}
+use Rattle.plain_runs.specs.Plain.{Server, current}
 use Rattle.ecp_messages.specs.declared.up.Up.{Up}
 use Rattle.ecp_messages.specs.declared.up.UpFrame.{UpFrame}
 use Rattle.end_words.specs.Windows.{sent, numbered_from}
@@ -13,46 +13,23 @@ use Rattle.app_rules.specs.declared.line.Line.TheVariants.{Apart, Trying, Greeti
 use Rattle.app_rules.specs.AppState.{AppEnd, Session, no_session}
 use Rattle.app_rules.specs.Looks.{Shown}
 use Rattle.app_rules.specs.Works.{is_joined, session_of}
-use Rattle.cluster_runs.specs.Sent.{Lane, Place, Connection}
+use Rattle.cluster_runs.specs.Sent.{Place, Connection}
 use Rattle.cluster_runs.specs.Machine.{Site, End}
-use Rattle.cluster_runs.specs.Connections.{at_number, with_ups}
-use Rattle.cluster_runs.specs.Goes.{with_state}
+use Rattle.cluster_runs.specs.Connections.{with_ups}
 use Rattle.cluster_invariant.specs.Dials.{CarriesNoOther, ConnectionIs, DialsAre}
-use Rattle.cluster_invariant.specs.Ends.{EndsAre, ToldPlace}
-use Rattle.cluster_invariant.specs.Link.{AppWay, DownBy, GreetsOn, JoinedWay, LaneCounts, LinkHolds, Unmet, UpWay, UpWayOn, WindowIs, WithSession, is_joined_on, is_numbered_up}
-use Rattle.cluster_invariant.specs.Words.{IsFront, has_wire, is_number, is_wire, numbered_ups, ups_left}
+use Rattle.cluster_invariant.specs.Ends.{EndsAre}
+use Rattle.cluster_invariant.specs.Link.{AppWay, DownBy, GreetsOn, JoinedWay, LinkHolds, Unmet, UpWay, UpWayOn, WindowIs, WithSession, is_joined_on}
+use Rattle.cluster_invariant.specs.Words.{has_wire, is_number, is_wire, numbered_ups, ups_left}
 use Rattle.cluster_invariant.proofs.Small.{of_some, some_kept}
-use Rattle.cluster_steps.proofs.AppSites.{SameBeside}
-use Rattle.cluster_steps.proofs.JobEnds.{EndGrows, LineGrows, SessionsGrow, joined_stays, put_frames, up_frame}
+use Rattle.cluster_steps.proofs.JobEnds.{LineGrows, SessionsGrow, joined_stays, put_frames, up_frame}
 use Rattle.link_kept.proofs.Later.{EnteredStays, Later}
 use Rattle.link_kept.proofs.AppLater.{unmet_later}
 use Rattle.link_kept.proofs.ShortMoves.{firsts_there, told_there}
 use Rattle.link_apps.proofs.NodeApps.{LanePut, DownsStay}
 use Rattle.link_apps.proofs.EndStep.{EndStep, OwnKept, link_kept_by_end}
-use Rattle.link_apps.proofs.EndsApps.{LaneDown, SessionsLike, down_same, down_like}
-use Rattle.link_apps.proofs.PutsUp.{numbered_frames, acks_frames, way_put, way_sent, counts_put}
-
--- the end after the step, of which the connection that it has is changed
-abbrev pub own_after : (Connection → Connection) → AppEnd → Shown → End → End
-own_after g t shown e = at_number t.dial g (with_state t shown e)
-
--- What a step of an application server makes of its end at one data server: it puts these messages, in frames where the connection's Welcome
--- was taken.
-pub record Puts (x y : Site) (app : ℕ) (t : AppEnd) (shown : Shown) (ms : List Up) : Type 0 where
-  pub beside : SameBeside x y
-  pub ends : y.end_at
-      ≡ put x.end_at app (own_after (with_ups (put_frames (is_joined (x.end_at app).state.line) (session_of (x.end_at app).state).window ms)) t shown (x.end_at app))
-  pub grows : EndGrows ms (x.end_at app).state t
-  pub numbered : list_all is_numbered_up ms ≡ true
-  pub lanes : (s k : ℕ) → LaneDown (x.lane_at s k) (y.lane_at s k)
-  pub fronts : (s k : ℕ) → IsFront (x.lane_at s k).up (y.lane_at s k).up
-  -- its lane has them, and no other lane is changed
-  pub own : IfSome (x.end_at app).state.session (λ s. IfSome (x.end_at app).told (λ p. (y.lane_at s.number p.order).up ≡ (x.lane_at s.number p.order).up ++ ms))
-  pub elsewhere : (s k : ℕ)
-      → IfSome (x.end_at app).state.session (λ u. IfSome (x.end_at app).told (λ p. (s ≡ u.number) → (k ≡ p.order) → ⊥)) → y.lane_at s k ≡ x.lane_at s k
-
-put_of : (a b : Lane) → LaneDown a b → IsFront a.up b.up → LanePut a b
-put_of a b d front = record { began = d.began; up = front; up_taken = d.up_taken; down = d.down; down_taken = omega (arith, d.down_taken) }
+use Rattle.link_apps.proofs.EndsApps.{SessionsLike, down_same, down_like}
+use Rattle.link_apps.proofs.PutSteps.{Own, Puts, counts_kept, lanes_put, own_after, own_of}
+use Rattle.link_apps.proofs.PutsUp.{numbered_frames, acks_frames, way_put, way_sent}
 
 sessions_like : (ms : List Up) (o q : Option Session) → SessionsGrow ms o q → SessionsLike o q
 sessions_like ms None None g = tt
@@ -82,72 +59,14 @@ module _ (v w : Server) (x y : Site) (dead : ℕ → Bool) (app : ℕ) (t : AppE
   abbrev f : End
   f = own_after (with_ups fs) t shown e
 
-  lanes_put : (s k : ℕ) → LanePut (x.lane_at s k) (y.lane_at s k)
-  lanes_put s k = put_of (x.lane_at s k) (y.lane_at s k) (puts.lanes s k) (puts.fronts s k)
+  abbrev Own_ : Session → ℕ → Type 0
+  Own_ u k = Own x y app ms u k
 
-  -- its session, in the order that it is told of
-  record Own (s : Session) (k : ℕ) : Type 0 where
-    its : e.state.session ≡ Some s
-    told : e.told ≡ Some (record { session = s.number; order = k })
-    window : WindowIs s.window (x.lane_at s.number k).up (x.lane_at s.number k).up_taken (x.lane_at s.number k).down_taken
-    begun : is_some (x.lane_at s.number k).began ≡ true
-    more : (y.lane_at s.number k).up ≡ (x.lane_at s.number k).up ++ ms
+  lanes : (s k : ℕ) → LanePut (x.lane_at s k) (y.lane_at s k)
+  lanes s k = lanes_put v x y dead app t shown ms alive link are puts s k
 
-  own_of : (s : Session) → e.state.session ≡ Some s → (k : ℕ) × Own s k
-  own_of s its = go (of_some (λ (q : Session). ToldPlace v app q e.told) e.state.session s its (are.told app alive).place)
-    where
-      go : ToldPlace v app s e.told → (k : ℕ) × Own s k
-      go p = (
-        p.order,
-        record {
-          its = its;
-          told = p.its;
-          window =
-              of_some (λ (z : Place). WindowIs s.window (x.lane_at s.number z.order).up (x.lane_at s.number z.order).up_taken (x.lane_at s.number z.order).down_taken) e.told
-              (record { session = s.number; order = p.order }) p.its
-              (of_some
-              (λ (q : Session).
-              IfSome e.told (λ z. WindowIs q.window (x.lane_at q.number z.order).up (x.lane_at q.number z.order).up_taken (x.lane_at q.number z.order).down_taken))
-              e.state.session s its (link.apps app alive).window);
-          begun =
-              of_some (λ (z : Place). is_some (x.lane_at s.number z.order).began ≡ true) e.told (record { session = s.number; order = p.order }) p.its
-              (of_some (λ (q : Session). IfSome e.told (λ z. is_some (x.lane_at q.number z.order).began ≡ true)) e.state.session s its (link.apps app alive).begun);
-          more =
-              of_some (λ (z : Place). (y.lane_at s.number z.order).up ≡ (x.lane_at s.number z.order).up ++ ms) e.told (record { session = s.number; order = p.order })
-              p.its
-              (of_some (λ (q : Session). IfSome e.told (λ z. (y.lane_at q.number z.order).up ≡ (x.lane_at q.number z.order).up ++ ms)) e.state.session s its puts.own);
-        },
-      )
-
-  -- all lanes count what was put and taken
-
-  counts_kept : (s k : ℕ) → LaneCounts (y.lane_at s k)
-  counts_kept s k = by e.state.session refl
-    where
-      same : IfSome e.state.session (λ u. IfSome e.told (λ p. (s ≡ u.number) → (k ≡ p.order) → ⊥)) → LaneCounts (y.lane_at s k)
-      same none = subst LaneCounts (sym (puts.elsewhere s k none)) (link.lanes s k)
-
-      here : (u : Session) (j : ℕ) → Own u j → (a b : Bool) → (s == u.number) ≡ a → (k == j) ≡ b → LaneCounts (y.lane_at s k)
-      here u j o true true at is =
-          subst (λ (n : ℕ). LaneCounts (y.lane_at n k)) (sym (eqb-true s u.number at))
-          (subst (λ (n : ℕ). LaneCounts (y.lane_at u.number n)) (sym (eqb-true k j is))
-          (counts_put (x.lane_at u.number j) (y.lane_at u.number j) ms (lanes_put u.number j) o.more
-          (λ none. absurd (false≢true (sym (ap is_some none) ∙ o.begun))) puts.numbered
-          (omega (arith, (link.lanes u.number j).down_taken, (puts.lanes u.number j).down_taken, ap (λ ds. length ds) (puts.lanes u.number j).down)) (link.lanes u.number j)))
-      here u j o false b other is =
-          same
-          (subst (λ (z : Option Session). IfSome z (λ r. IfSome e.told (λ p. (s ≡ r.number) → (k ≡ p.order) → ⊥))) (sym o.its)
-          (subst (λ (z : Option Place). IfSome z (λ p. (s ≡ u.number) → (k ≡ p.order) → ⊥)) (sym o.told)
-          (λ at here. absurd (false≢true (sym other ∙ eq-eqb s u.number at)))))
-      here u j o a false at other =
-          same
-          (subst (λ (z : Option Session). IfSome z (λ r. IfSome e.told (λ p. (s ≡ r.number) → (k ≡ p.order) → ⊥))) (sym o.its)
-          (subst (λ (z : Option Place). IfSome z (λ p. (s ≡ u.number) → (k ≡ p.order) → ⊥)) (sym o.told)
-          (λ at here. absurd (false≢true (sym other ∙ eq-eqb k j here)))))
-
-      by : (o : Option Session) → e.state.session ≡ o → LaneCounts (y.lane_at s k)
-      by None none = same (subst (λ (z : Option Session). IfSome z (λ u. IfSome e.told (λ p. (s ≡ u.number) → (k ≡ p.order) → ⊥))) (sym none) tt)
-      by (Some u) its = let o : (j : ℕ) × Own u j = own_of u its in here u o.0 o.1 (s == u.number) (k == o.0) refl refl
+  own_at : (s : Session) → e.state.session ≡ Some s → (k : ℕ) × Own_ s k
+  own_at s its = own_of v x y dead app t shown ms alive link are puts s its
 
   -- its own
 
@@ -184,11 +103,11 @@ module _ (v w : Server) (x y : Site) (dead : ℕ → Bool) (app : ℕ) (t : AppE
           subst (λ (line : Line). DownBy line v x app e c) (joined_at e.state.line joined)
           (of_some (DownBy e.state.line v x app e) (e.connection_at e.state.dial) c (ap e.connection_at (sym at) ∙ its) (link.apps app alive).down)
 
-      done : (u : Session) (k : ℕ) → Own u k → u.number ≡ s → k ≡ x.past → UpWayOn (y.lane_at s x.past) (dead app) t number s (with_ups fs c)
+      done : (u : Session) (k : ℕ) → Own_ u k → u.number ≡ s → k ≡ x.past → UpWayOn (y.lane_at s x.past) (dead app) t number s (with_ups fs c)
       done u k o its_number its_order =
           subst (λ (b : Bool). UpWay (y.lane_at s x.past) (ups_left (with_ups fs c)) b) (sym (same_joined number s ∙ whole))
           (subst (λ (xs : List UpFrame). UpWay (y.lane_at s x.past) xs true) (sym (drop-append-le c.ups_taken c.ups fs within))
-          (way_sent (x.lane_at s x.past) (y.lane_at s x.past) (ups_left c) fs ms (link.lanes s x.past) (lanes_put s x.past) (own_now.0)
+          (way_sent (x.lane_at s x.past) (y.lane_at s x.past) (ups_left c) fs ms (link.lanes s x.past) (lanes s x.past) (own_now.0)
           (λ none. absurd (false≢true (sym (ap is_some none) ∙ own_now.1.0)))
           (ap numbered_ups frames ∙ numbered_frames u.window.taken (sent u.window) ms ∙ ap (λ (n : ℕ). numbered_from n ms) own_now.1.1.0)
           (subst (λ (xs : List UpFrame). AllByRecursion (λ (g : UpFrame). g.ack ≤ (y.lane_at s x.past).down_taken) xs) (sym frames)
@@ -238,7 +157,7 @@ module _ (v w : Server) (x y : Site) (dead : ℕ → Bool) (app : ℕ) (t : AppE
       go None p none told is = absurd is
       go (Some u) None some told is = absurd is
       go (Some u) (Some p) some told j =
-          let o : (k : ℕ) × Own u k = own_of u some in
+          let o : (k : ℕ) × Own_ u k = own_at u some in
           done u o.0 o.1 (ap (λ (q : Place). q.session) same) (sym (place_parts p u.number o.0 (sym told ∙ o.1.told)).1 ∙ ap (λ (q : Place). q.order) same)
         where
           same : ◌≡◌ {A = Place} (record { session = u.number; order = p.order }) (record { session = s; order = x.past })
@@ -249,7 +168,7 @@ module _ (v w : Server) (x y : Site) (dead : ℕ → Bool) (app : ℕ) (t : AppE
       → UpWayOn (y.lane_at s x.past) (dead app) t number s c
   apart_ups s number c unjoined way =
       subst (λ (b : Bool). UpWay (y.lane_at s x.past) (ups_left c) b) (sym (same_joined number s ∙ unjoined))
-      (way_put (x.lane_at s x.past) (y.lane_at s x.past) (ups_left c) (is_joined_on (dead app) e.state number s) (link.lanes s x.past) (lanes_put s x.past) way)
+      (way_put (x.lane_at s x.past) (y.lane_at s x.past) (ups_left c) (is_joined_on (dead app) e.state number s) (link.lanes s x.past) (lanes s x.past) way)
 
   not_and : (a b c : Bool) → a ≡ false → (a && b && c) ≡ false
   not_and a b c none = ap (λ (z : Bool). z && b && c) none
@@ -316,9 +235,9 @@ module _ (v w : Server) (x y : Site) (dead : ℕ → Bool) (app : ℕ) (t : AppE
       × IfSome q (λ s. IfSome e.told (λ p. is_some (y.lane_at s.number p.order).began ≡ true))
   own_window o None its g = (tt, tt)
   own_window None (Some b) its g = absurd g
-  own_window (Some u) (Some b) its g = go (own_of u its)
+  own_window (Some u) (Some b) its g = go (own_at u its)
     where
-      go : (k : ℕ) × Own u k
+      go : (k : ℕ) × Own_ u k
           → IfSome e.told (λ p. WindowIs b.window (y.lane_at b.number p.order).up (y.lane_at b.number p.order).up_taken (y.lane_at b.number p.order).down_taken)
           × IfSome e.told (λ p. is_some (y.lane_at b.number p.order).began ≡ true)
       go o =
@@ -372,7 +291,7 @@ module _ (v w : Server) (x y : Site) (dead : ℕ → Bool) (app : ℕ) (t : AppE
   -- So its end has what is owed of it.
   pub own_puts : OwnKept v w x y dead app f
   own_puts = record {
-    counts = counts_kept;
+    counts = λ s k. counts_kept v x y dead app t shown ms alive link are puts s k;
     ups = λ s number c its carry way. own_ups s number c its carry way;
     greets = λ s number c its is. line_greets s number puts.grows.line is;
     way = own_kept;
@@ -386,7 +305,7 @@ module _ (v w : Server) (x y : Site) (dead : ℕ → Bool) (app : ℕ) (t : AppE
   puts_step = record {
     beside = puts.beside;
     ends = puts.ends;
-    lanes = lanes_put;
+    lanes = lanes;
     elsewhere = puts.elsewhere;
     stay = λ number. here (number == t.dial) (e.connection_at number);
   }

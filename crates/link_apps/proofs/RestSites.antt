@@ -25,7 +25,7 @@ use Rattle.cluster_invariant.specs.Link.{WindowIs}
 use Rattle.cluster_invariant.specs.Words.{has_wire}
 use Rattle.cluster_steps.proofs.AppSites.{site_beside, site_ends}
 use Rattle.link_apps.proofs.LanesApps.{given_put, site_lanes}
-use Rattle.link_apps.proofs.OwnPuts.{own_after}
+use Rattle.link_apps.proofs.PutSteps.{own_after}
 use Rattle.link_apps.proofs.Rests.{EndRests}
 use Rattle.link_apps.proofs.RestWays.{ConnRests, LaneRests, Rests}
 

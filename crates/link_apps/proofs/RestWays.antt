@@ -119,7 +119,7 @@ unwired_down Greeting w y app f c none = absurd (false≢true (sym none))
 unwired_down Asking w y app f c none = absurd (false≢true (sym none))
 unwired_down Joined w y app f c none = absurd (false≢true (sym none))
 
-some_any : {X : Type 0} (P : X → Type 0) → ((z : X) → P z) → (o : Option X) → IfSome o P
+pub some_any : {X : Type 0} (P : X → Type 0) → ((z : X) → P z) → (o : Option X) → IfSome o P
 some_any P any None = tt
 some_any P any (Some z) = any z
 

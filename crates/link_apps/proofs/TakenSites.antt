@@ -21,7 +21,7 @@ use Rattle.cluster_runs.specs.Sent.{Lane, Place, Connection}
 use Rattle.cluster_steps.proofs.AppSites.{SameBeside, site_beside, site_ends}
 use Rattle.link_apps.proofs.EndStep.{IsElsewhere}
 use Rattle.link_apps.proofs.LanesApps.{own_lane, site_lanes}
-use Rattle.link_apps.proofs.OwnPuts.{own_after}
+use Rattle.link_apps.proofs.PutSteps.{own_after}
 
 -- An end that took a frame, and puts these frames: it has its session, in the same epoch.
 pub record EndTakes (d : ℕ) (e : AppEnd) (outs : AppOuts) (state : AppState) : Type 0 where

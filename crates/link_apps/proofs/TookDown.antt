@@ -171,3 +171,27 @@ way_took es stays s a b may now f rest t why first = record {
       where
         some : g ∷ gs ≡ [] → ⊥
         some e = absurd cc
+
+-- What is on its way in a lane of which nothing more is taken.
+
+pub way_taken : (es : List Entry) (stays s : ℕ) (a b : Lane) (may : Bool) (left : List DownFrame) → b.up_taken ≡ a.up_taken → b.down ≡ a.down → b.down_taken ≡ a.down_taken
+    → DownWay es stays s a may left → DownWay es stays s b may left
+way_taken es stays s a b may left up_taken down taken w = record {
+  its = w.its;
+  ends = w.ends;
+  all = w.all;
+  kinds = w.kinds;
+  next =
+      subst (λ (n : ℕ). IsFront (numbered_downs w.its) (numbered_behind n b.down)) (sym taken)
+      (subst (λ (l : List Down). IsFront (numbered_downs w.its) (numbered_behind a.down_taken l)) (sym down) w.next);
+  acks = subst (λ (n : ℕ). AllByRecursion (λ (g : DownFrame). g.ack ≤ n) w.its) (sym up_taken) w.acks;
+  reset = w.reset;
+  no_normal = w.no_normal;
+}
+
+pub whole_taken : (n : DataState) (s conn : ℕ) (a b : Lane) (left : List DownFrame) → b.down ≡ a.down → b.down_taken ≡ a.down_taken → DownWhole n s conn a left → DownWhole n s conn b left
+whole_taken n s conn a b left down taken w = record {
+  bound = w.bound;
+  whole = w.whole ∙ sym (ap (λ (k : ℕ). numbered_behind k b.down) taken ∙ ap (numbered_behind a.down_taken) down);
+  closed = w.closed;
+}

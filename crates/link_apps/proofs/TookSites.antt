@@ -27,7 +27,7 @@ use Rattle.link_apps.proofs.JoinedFirst.{JoinedFirst, joined_first}
 use Rattle.link_apps.proofs.JoinedNow.{JoinedNow}
 use Rattle.link_apps.proofs.JoinedTakes.{LaneTook, Takes, joined_now_by_takes}
 use Rattle.link_apps.proofs.TakenSites.{EndTakes, beside_is, conn_is, elsewhere_is, ends_are, lane_is, others_are}
-use Rattle.link_apps.proofs.OwnPuts.{own_after}
+use Rattle.link_apps.proofs.PutSteps.{own_after}
 
 -- what a window was given behind what it had sent, as an acknowledgement came
 given_took : (s t : Window Up) (ack : ℕ) (ms : List Up) → t.acked ≡ max s.acked ack → t.waiting ≡ drop (ack - s.acked) s.waiting ++ ms → given_since (sent s) t ≡ ms

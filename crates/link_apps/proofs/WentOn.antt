@@ -6,8 +6,6 @@ use Rattle.std.proofs.lemmas.Bool.{false≢true, ltb-true}
 use Rattle.std.proofs.lemmas.List.{append-nil, drop-drop, length-drop}
 use Rattle.std.proofs.Math.Seq.{drop-nil}
 use Rattle.plain_orders.specs.declared.layout.Times.{Times}
-use Rattle.plain_orders.specs.declared.entry.Entry.{Entry}
-use Rattle.ecp_messages.specs.declared.down.Down.{Down}
 use Rattle.plain_runs.specs.Plain.{Server, order_at}
 use Rattle.link_states.specs.declared.app_link.AppLink.{AppLink}
 use Rattle.link_states.specs.declared.app_link.AppLink.TheVariants.{NotConnected, Normal as NormalLink, Trouble, Recovery}
@@ -34,7 +32,7 @@ use Rattle.cluster_runs.specs.Sent.{Lane, Connection, FirstTaken}
 use Rattle.cluster_invariant.specs.Dials.{ConnectionIs, DialsAre, KnowsStill, first_frame}
 use Rattle.cluster_invariant.specs.Ends.{EndsAre, stands}
 use Rattle.cluster_invariant.specs.Link.{AskedFirst, AskedWay, DownBy, DownWay, DownWhole, LinkHolds, SameWelcome, UpWay, WholeIf, WindowIs, WithSession, is_in_recovery, is_joined_on}
-use Rattle.cluster_invariant.specs.Words.{IsFront, downs_left, numbered_behind, numbered_downs, numbered_ups, stays_at, ups_left}
+use Rattle.cluster_invariant.specs.Words.{downs_left, numbered_behind, numbered_ups, stays_at, ups_left}
 use Rattle.cluster_invariant.proofs.AllLists.{all_joined}
 use Rattle.cluster_invariant.proofs.Small.{of_some, some_kept}
 use Rattle.cluster_steps.proofs.AppSites.{SameBeside}
@@ -42,13 +40,13 @@ use Rattle.cluster_steps.proofs.EndSteps.{bare_frames, session_put}
 use Rattle.cluster_steps.proofs.FrameEnds.{WentOn, settled_link}
 use Rattle.cluster_steps.proofs.JobEnds.{up_frame}
 use Rattle.link_apps.proofs.ConnectedLinks.{lane_rests}
-use Rattle.link_apps.proofs.EndsApps.{LaneDown}
 use Rattle.link_apps.proofs.FrameTook.{acks_bare, none_bare}
 use Rattle.link_apps.proofs.JoinedNow.{JoinedNow}
 use Rattle.link_apps.proofs.OwnPlace.{OwnPlace, at_place, own_place}
-use Rattle.link_apps.proofs.OwnPuts.{own_after}
+use Rattle.link_apps.proofs.PutSteps.{own_after}
 use Rattle.link_apps.proofs.PutsUp.{acks_frames, numbered_frames, numbered_ups_joined}
 use Rattle.link_apps.proofs.RestWays.{LaneRests, counts_rest, put_of}
+use Rattle.link_apps.proofs.TookDown.{way_taken, whole_taken}
 use Rattle.link_apps.proofs.TakenSites.{EndTakes, beside_is, conn_is, elsewhere_is, ends_are, lane_is, others_are}
 
 -- nothing but the first frame was put on a connection on which no Welcome came
@@ -76,7 +74,7 @@ sent_again acked taken came waiting put is low within = go (nat_lt (acked + leng
         ∙ ap (λ (k : ℕ). numbered_from taken (drop k put)) (omega (arith, low))
 
 -- an end that asks is in recovery
-asks_recovering : (link : AppLink) → stands link Asking ≡ true → link ≡ Recovery
+pub asks_recovering : (link : AppLink) → stands link Asking ≡ true → link ≡ Recovery
 asks_recovering NotConnected is = absurd (false≢true is)
 asks_recovering NormalLink is = absurd (false≢true is)
 asks_recovering (Trouble broke try_at) is = absurd (false≢true is)
@@ -89,29 +87,6 @@ settled_recovers due times now link is = ap (λ (z : AppLink). is_in_recovery (s
     go : (due : Bool) → is_in_recovery (settled_link due times now Recovery) ≡ due
     go true = refl
     go false = refl
-
--- what is on its way downwards in a lane that rests
-
-way_same : (es : List Entry) (stays s : ℕ) (a b : Lane) (may : Bool) (left : List DownFrame) → LaneDown a b → DownWay es stays s a may left → DownWay es stays s b may left
-way_same es stays s a b may left r w = record {
-  its = w.its;
-  ends = w.ends;
-  all = w.all;
-  kinds = w.kinds;
-  next =
-      subst (λ (n : ℕ). IsFront (numbered_downs w.its) (numbered_behind n b.down)) (sym r.down_taken)
-      (subst (λ (l : List Down). IsFront (numbered_downs w.its) (numbered_behind a.down_taken l)) (sym r.down) w.next);
-  acks = subst (λ (n : ℕ). AllByRecursion (λ (g : DownFrame). g.ack ≤ n) w.its) (sym r.up_taken) w.acks;
-  reset = w.reset;
-  no_normal = w.no_normal;
-}
-
-whole_same : (n : DataState) (s conn : ℕ) (a b : Lane) (left : List DownFrame) → LaneDown a b → DownWhole n s conn a left → DownWhole n s conn b left
-whole_same n s conn a b left r w = record {
-  bound = w.bound;
-  whole = w.whole ∙ sym (ap (λ (k : ℕ). numbered_behind k b.down) r.down_taken ∙ ap (numbered_behind a.down_taken) r.down);
-  closed = w.closed;
-}
 
 module _ (v : Server) (x : Site) (dead : ℕ → Bool) (app d now : ℕ) (frame : DownFrame) (a : AppState) (outs : AppOuts) (state : AppState) (shown : ℕ → Shown)
     (alive : dead app ≡ false) (link : LinkHolds v x dead) (are : EndsAre v x dead) (dials : DialsAre v x dead) (c : Connection)
@@ -266,7 +241,7 @@ module _ (v : Server) (x : Site) (dead : ℕ → Bool) (app d now : ℕ) (frame 
     where
       each : (n : DataState) (o : Option FirstTaken) → IsSomeAnd o (λ z. DownWhole n s.number z.conn lane rest) → IsSomeAnd o (λ z. DownWhole n s.number z.conn lane_now rest)
       each n None got = got
-      each n (Some z) got = whole_same n s.number z.conn lane lane_now rest rests.down got
+      each n (Some z) got = whole_taken n s.number z.conn lane lane_now rest rests.down.down rests.down.down_taken got
 
   -- So the session goes on.
   pub site_went : JoinedNow v x y dead app end_went c rest us
@@ -297,7 +272,7 @@ module _ (v : Server) (x : Site) (dead : ℕ → Bool) (app d now : ℕ) (frame 
     up = up_way (is_joined_on (dead app) e.state e.state.dial s.number);
     down =
         subst (λ (b : Bool). DownWay (order_at v k) (stays_at v k) s.number lane_now b rest) (sym recovers)
-        (way_same (order_at v k) (stays_at v k) s.number lane lane_now s.normal_due rest rests.down
+        (way_taken (order_at v k) (stays_at v k) s.number lane lane_now s.normal_due rest rests.down.up_taken rests.down.down rests.down.down_taken
         (subst (λ (n : ℕ). DownWay (order_at v k) (stays_at v k) n (x.lane_at n k) s.normal_due rest) same.number same.way));
     whole = whole_now;
   }

@@ -1,8 +1,8 @@
 -- Steps of application servers that keep what is on its way, where the invariant holds before them.
-use Rattle.std.specs.Prelude.{◌≡◌, ⊤, ℕ, false, List}
+use Rattle.std.specs.Prelude.{◌≡◌, ◌≢◌, ⊤, ℕ, false, true, List}
 use Rattle.plain_orders.specs.declared.act.Act.{Act}
 use Rattle.plain_orders.specs.declared.layout.Layout.{Layout}
-use Rattle.plain_runs.specs.Run.{IsRun}
+use Rattle.plain_runs.specs.Run.{IsRun, state_after}
 use Rattle.ecp_messages.specs.declared.down.DownFrame.{DownFrame}
 use Rattle.app_job.specs.declared.command.Command.{Command}
 use Rattle.app_rules.specs.declared.app_in.AppIn.{AppIn}
@@ -17,6 +17,7 @@ use Rattle.cluster_runs.specs.Machine.{Machine}
 use Rattle.cluster_runs.specs.Mirrors.{Mirrors}
 use Rattle.cluster_runs.specs.Moves.{Allowed}
 use Rattle.cluster_invariant.specs.Holds.{Holds}
+use Rattle.cluster_invariant.specs.Link.{AppWay, LaneCounts, LinkHolds}
 use Rattle.link_kept.specs.Laws.{EachLinkHolds}
 
 -- Each command of a job keeps it.
@@ -46,3 +47,24 @@ abbrev pub FramesWithoutNewsKeepLinks : Type 0
 FramesWithoutNewsKeepLinks = (l : Layout) (c : CoresState) (m : Machine) (app now d : ℕ) (frame : DownFrame) (outs : MoveOuts) (written : List Act) (new : Machine)
     → Holds l m → IsRun l m.trail → Mirrors c m → Allowed c (App app now (app_in.Frame d frame)) → (goes : AppGoes m app now (app_in.Frame d frame) outs written new)
     → is_told_new ((m.site_at d).end_at app).state.session (end_at goes.state d).session ≡ false → EachLinkHolds l new
+
+-- Where the end learns of an order, what is on its way to it is as it has to be.
+abbrev pub NewsKeepOwnWay : Type 0
+NewsKeepOwnWay = (l : Layout) (c : CoresState) (m : Machine) (app now d : ℕ) (frame : DownFrame) (outs : MoveOuts) (written : List Act) (new : Machine)
+    → Holds l m → IsRun l m.trail → Mirrors c m → Allowed c (App app now (app_in.Frame d frame)) → (goes : AppGoes m app now (app_in.Frame d frame) outs written new)
+    → is_told_new ((m.site_at d).end_at app).state.session (end_at goes.state d).session ≡ true
+    → AppWay ((state_after l new.trail).server_at d) (new.site_at d) app ((new.site_at d).end_at app)
+
+-- And the other data servers keep it.
+abbrev pub NewsKeepOtherLinks : Type 0
+NewsKeepOtherLinks = (l : Layout) (c : CoresState) (m : Machine) (app now d : ℕ) (frame : DownFrame) (outs : MoveOuts) (written : List Act) (new : Machine)
+    → Holds l m → IsRun l m.trail → Mirrors c m → Allowed c (App app now (app_in.Frame d frame)) → (goes : AppGoes m app now (app_in.Frame d frame) outs written new)
+    → is_told_new ((m.site_at d).end_at app).state.session (end_at goes.state d).session ≡ true → (k : ℕ) → k ≢ d
+    → LinkHolds ((state_after l new.trail).server_at k) (new.site_at k) new.is_dead_at
+
+-- And the lanes at its own count what was put and taken.
+abbrev pub NewsKeepLanes : Type 0
+NewsKeepLanes = (l : Layout) (c : CoresState) (m : Machine) (app now d : ℕ) (frame : DownFrame) (outs : MoveOuts) (written : List Act) (new : Machine)
+    → Holds l m → IsRun l m.trail → Mirrors c m → Allowed c (App app now (app_in.Frame d frame)) → (goes : AppGoes m app now (app_in.Frame d frame) outs written new)
+    → is_told_new ((m.site_at d).end_at app).state.session (end_at goes.state d).session ≡ true → (session k : ℕ)
+    → LaneCounts ((new.site_at d).lane_at session k)
