@@ -26,7 +26,7 @@ use Rattle.cluster_invariant.proofs.Small.{of_some}
 use Rattle.cluster_steps.proofs.EndSteps.{Here}
 use Rattle.cluster_steps.proofs.FrameCases.{BareCame}
 use Rattle.cluster_steps.proofs.FrameEnds.{EndsIt, FrameCame, NumberedCame, TookFresh, WentOn}
-use Rattle.cluster_steps.proofs.Outcomes.{WelcomeTold}
+use Rattle.cluster_steps.proofs.InputsBring.{WelcomeTold}
 use Rattle.link_kept.proofs.Answers.{repeat_below}
 use Rattle.link_apps.proofs.FrameTook.{Took, took_ack, took_fresh}
 use Rattle.link_apps.proofs.JoinedFirst.{JoinedFirst, joined_first}

@@ -38,7 +38,7 @@ use Rattle.cluster_steps.proofs.AppSites.{app_ends}
 use Rattle.cluster_steps.proofs.FrameAlone.{taken_silent}
 use Rattle.cluster_steps.proofs.FrameCases.{BareCame, bare_frame_came, frame_came}
 use Rattle.cluster_steps.proofs.FrameEnds.{FrameCame, ended_from}
-use Rattle.cluster_steps.proofs.Outcomes.{WelcomeTold}
+use Rattle.cluster_steps.proofs.InputsBring.{WelcomeTold}
 use Rattle.ends_kept.proofs.TakenDown.{Taken, taken_down}
 use Rattle.told_kept.proofs.ToldActs.{TellNothing, input_acts}
 use Rattle.link_kept.specs.Laws.{EachLinkHolds}

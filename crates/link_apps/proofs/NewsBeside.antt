@@ -29,7 +29,7 @@ use Rattle.cluster_runs.specs.Moves.{Allowed}
 use Rattle.cluster_invariant.specs.Holds.{Holds}
 use Rattle.cluster_invariant.specs.Link.{LinkHolds}
 use Rattle.cluster_steps.proofs.FrameAlone.{taken_silent}
-use Rattle.cluster_steps.proofs.Outcomes.{WelcomeTold}
+use Rattle.cluster_steps.proofs.InputsBring.{WelcomeTold}
 use Rattle.cluster_invariant.proofs.OrdersStay.{orders_agree}
 use Rattle.told_kept.proofs.SameSessions.{whose}
 use Rattle.link_kept.proofs.Later.{Later}

@@ -39,7 +39,8 @@ use Rattle.cluster_invariant.proofs.Small.{of_some}
 use Rattle.cluster_steps.proofs.AppSites.{app_ends}
 use Rattle.cluster_steps.proofs.EndSteps.{session_put}
 use Rattle.cluster_steps.proofs.FrameEnds.{Learnt, MetNew}
-use Rattle.cluster_steps.proofs.Outcomes.{EndKept, WelcomeTold, input_told}
+use Rattle.cluster_steps.proofs.Outcomes.{EndKept, input_told}
+use Rattle.cluster_steps.proofs.InputsBring.{WelcomeTold}
 use Rattle.ends_kept.proofs.OrderApps.{no_news}
 use Rattle.ends_kept.proofs.TakenDown.{Taken, taken_down}
 use Rattle.link_apps.proofs.InputPlain.{after_input}
