@@ -176,7 +176,7 @@ entered s (Claim job mode number at key) e its = absurd cc
 entered s Bare e its = absurd cc
 
 -- What each piece does.
-does_piece : (t : Coming) (p : Piece) (b : Sofar) → MayMake t p b → Does b (makes t.now p b)
+pub does_piece : (t : Coming) (p : Piece) (b : Sofar) → MayMake t p b → Does b (makes t.now p b)
 does_piece t (Accepts conn) b may =
     does_still b (makes t.now (Accepts conn) b) (record { acts = refl; order = refl; synced = refl; server = refl; times = refl })
 does_piece t (Forgets ending conn) b may =

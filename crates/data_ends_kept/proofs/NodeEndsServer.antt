@@ -62,9 +62,10 @@ use Rattle.data_ends_kept.proofs.HellosAfter.{linked_leaves}
 use Rattle.data_ends_kept.proofs.HellosTaken.{FirstFrames, link_after, linked_hears, not_link, old_only, old_takes}
 use Rattle.data_ends_kept.proofs.NodeEndsBegin.{node_ends_at_one}
 use Rattle.data_ends_kept.proofs.NodeEndsMoves.{NodeEndsAt, NodeEndsHold}
+use Rattle.data_pieces.proofs.Places.{places_all}
 use Rattle.data_pieces.proofs.PlainView.{view}
 use Rattle.data_puts.proofs.RecoverLearnt.{FirstCame, first_came, recover_unlearnt}
-use Rattle.data_ends_kept.proofs.ServerBegins.{Greets, awaited_begin, awaited_end, awaits_begin, places_all, speaks_begin, waits_spoken}
+use Rattle.data_ends_kept.proofs.ServerBegins.{Greets, awaited_begin, awaited_end, awaits_begin, speaks_begin, waits_spoken}
 use Rattle.data_puts.proofs.RoundAfter.{calls_after, over_after}
 use Rattle.data_puts.proofs.Spoken.{ReplyOn, SpokenOn, is_spoken}
 use Rattle.data_puts.proofs.SpokenAlong.{Along}

@@ -1,8 +1,8 @@
 -- The data ends of a node that starts: each live session's end is in the round, or there is none.
-use Rattle.std.proofs.Common.{◌≡◌, ◌≢◌, ◌<◌, ◌≤◌, ◌⊎◌, inl, inr, ℕ, zero, suc, ◌+◌, ◌&&◌, ◌||◌, ◌==◌, Bool, true, false, not, cond, List, [], ◌∷◌, ◌++◌, length, Option, Some, None, is_some, option_map, map, refl, sym, ◌∙◌, ap, subst, arith, eqb, if◌then◌else◌}
-use Rattle.std.specs.Prelude.{IfSome, IsSomeAnd, drop, nat_lt}
-use Rattle.std.specs.List.{AllByRecursion, filter, find, list_all, list_any, range_with_len}
-use Rattle.std.proofs.lemmas.Bool.{ltb-true, ltb-false, eqb-true, eq-eqb, ne_eqb, false≢true}
+use Rattle.std.proofs.Common.{◌≡◌, ◌≢◌, ◌<◌, ◌⊎◌, inl, inr, ℕ, ◌+◌, ◌&&◌, ◌||◌, ◌==◌, Bool, true, false, not, cond, List, [], ◌∷◌, ◌++◌, length, Option, Some, None, is_some, option_map, map, refl, sym, ◌∙◌, ap, subst, arith, eqb, if◌then◌else◌}
+use Rattle.std.specs.Prelude.{IfSome, IsSomeAnd, drop}
+use Rattle.std.specs.List.{AllByRecursion, filter, find, list_all, list_any}
+use Rattle.std.proofs.lemmas.Bool.{eqb-true, eq-eqb, ne_eqb, false≢true}
 use Rattle.std.proofs.lemmas.List.{get_or-replicate, get_or-set_same, get_or-set_other, length-replicate, length-set}
 use Rattle.plain_orders.specs.declared.entry.Entry.{Entry}
 use Rattle.plain_orders.specs.declared.entry.Entry.TheVariants.{Epoch}
@@ -30,6 +30,7 @@ use Rattle.cluster_runs.specs.Machine.{Site}
 use Rattle.cluster_runs.specs.Sent.{Lane, no_lane}
 use Rattle.cluster_invariant.specs.Ends.{CallerIs, LinkIs, app_of_caller, NodeEnds, due_in, is_undone}
 use Rattle.cluster_invariant.specs.Words.{all_differ, is_same}
+use Rattle.data_pieces.proofs.Places.{in_range}
 use Rattle.data_pieces.proofs.AwaitedSessions.{quiet_sessions}
 
 -- the ends that recover
@@ -83,21 +84,6 @@ stays_free (a ∷ apps) es due app d none = go (live_session es a) refl (λ k. s
     go (Some q) has more =
         more (with_link a (Recovering due) d)
         ∙ get_or-set_other d.links a app (Recovering due) Free (λ same. absurd (let both : Some q ≡ None = sym has ∙ ap (live_session es) (sym same) ∙ none in cc))
-
-above : (a k : ℕ) → (k ≢ a) → a ≤ k → a + 1 ≤ k
-above a k differs from = go (nat_lt a k) refl
-  where
-    go : (b : Bool) → nat_lt a k ≡ b → a + 1 ≤ k
-    go true is = omega (arith, ltb-true a k is)
-    go false is = absurd (differs (omega (arith, from, ltb-false a k is)))
-
-pub in_range : (n a k : ℕ) → a ≤ k → k < a + n → list_any (is_same k) (range_with_len a n) ≡ true
-in_range zero a k from below = absurd (omega (arith, from, below))
-in_range (suc n) a k from below = go (eqb k a) refl (in_range n (a + 1) k)
-  where
-    go : (b : Bool) → eqb k a ≡ b → (a + 1 ≤ k → k < a + 1 + n → list_any (is_same k) (range_with_len (a + 1) n) ≡ true) → (b || list_any (is_same k) (range_with_len (a + 1) n)) ≡ true
-    go true same more = refl
-    go false other more = more (above a k (λ same. false≢true (sym other ∙ eq-eqb k a same)) from) (omega (arith, below))
 
 -- the round
 

@@ -1,5 +1,5 @@
 -- What a step of a data server begins with, and what its lanes make of what a round awaits.
-use Rattle.std.proofs.Common.{◌≡◌, ◌<◌, ℕ, Bool, true, not, List, filter, take, Option, Some, None, sym, ◌∙◌, ap, subst, arith, if◌then◌else◌}
+use Rattle.std.proofs.Common.{◌≡◌, ℕ, Bool, true, not, List, filter, take, Option, Some, None, sym, ◌∙◌, ap, subst, if◌then◌else◌}
 use Rattle.std.specs.Prelude.{IfSome}
 use Rattle.std.specs.List.{AllByRecursion, list_any}
 use Rattle.plain_orders.specs.Entries.{live}
@@ -13,31 +13,23 @@ use Rattle.data_rules.specs.declared.data_in.DataIn.{DataIn}
 use Rattle.data_rules.specs.declared.data_in.DataIn.TheVariants as data_in
 use Rattle.data_rules.specs.declared.data_outs.DataOuts.{DataOuts}
 use Rattle.data_rules.specs.declared.down_frames.DownOut.{DownOut}
-use Rattle.data_rules.specs.declared.limits.TheConstants.{APP_LIMIT}
 use Rattle.data_rules.specs.declared.rows.Caller.{Caller}
 use Rattle.data_rules.specs.declared.rows.Reply.{Reply}
 use Rattle.data_rules.specs.declared.rows.Says.{Says}
 use Rattle.data_rules.specs.declared.rows.Says.TheVariants.{NewWelcome, EpochWelcome, ResetOf, GrantOf, AnswerOf}
-use Rattle.data_rules.specs.Opening.{all_apps}
 use Rattle.data_rules.specs.Puts.{begun, window_in}
 use Rattle.cluster_runs.specs.Machine.{Site}
 use Rattle.cluster_runs.specs.Sent.{Lane, ups_taken}
 use Rattle.cluster_invariant.specs.Ends.{is_done, is_undone}
 use Rattle.cluster_invariant.specs.Waiting.{ReplyWaits, WaitsFor, conns_of}
-use Rattle.cluster_invariant.specs.Words.{is_same}
 use Rattle.cluster_invariant.proofs.PieceMay.{begins}
 use Rattle.cluster_invariant.proofs.PiecesOfSteps.{synced_state}
 use Rattle.link_kept.proofs.WindowsServer.{LanesGrow}
 use Rattle.data_puts.proofs.AwaitsGo.{Awaits, same_passed, undone_in}
 use Rattle.data_puts.proofs.AwaitsPieces.{AwaitsOn}
 use Rattle.data_pieces.proofs.ConnLists.{role_at}
-use Rattle.data_ends_kept.proofs.NodeEndsStarts.{in_range}
 use Rattle.data_puts.proofs.Spoken.{ReplyOn, SpokenOn, is_for_session}
 use Rattle.data_puts.proofs.SpokenPieces.{SpeaksAt, begins_frames}
-
--- all application servers have their places
-pub places_all : (app : ℕ) → app < APP_LIMIT → list_any (is_same app) all_apps ≡ true
-places_all app low = in_range APP_LIMIT 0 app (omega arith) low
 
 -- a Hello came just now
 pub record Greets (old : DataState) (input : DataIn) (c : Caller) : Type 0 where

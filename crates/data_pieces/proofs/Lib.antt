@@ -1,3 +1,4 @@
+pub mod Places
 pub mod AwaitedSessions
 pub mod ConnLists
 pub mod PlainView

@@ -1,0 +1,204 @@
+-- The acts of a data server's step but its saves: what they leave, and what locks rest on.
+use Rattle.std.proofs.Common.{◌≡◌, ℕ, Bool, true, false, List, [], ◌∷◌, ◌++◌, cond, refl, ◌∙◌, ap}
+use Rattle.std.specs.List.{AllByRecursion}
+use Rattle.std.proofs.lemmas.Bool.{false≢true}
+use Rattle.plain_orders.specs.declared.act.Act.{Act}
+use Rattle.plain_orders.specs.declared.act.Act.TheVariants.{Opened, Enter, Synced, Shut, Release, Met, Told, Back, Crash, Issue, Read, Grant, Granted, GiveUp, Quit, Free, Counted, NotWhole, Range, Committed, RolledBack, Reached, Level, Done, Refused, Broke, Mended, Tick, Lose, Died}
+use Rattle.plain_orders.specs.declared.causes.PairEnd.{PairEnd}
+use Rattle.plain_orders.specs.declared.causes.PairEnd.TheVariants.{App as AppSide, Server as ServerSide}
+use Rattle.plain_orders.specs.declared.entry.Entry.{Entry}
+use Rattle.plain_orders.specs.declared.entry.Entry.TheVariants as entry
+use Rattle.plain_orders.specs.declared.layout.Layout.{Layout}
+use Rattle.plain_runs.specs.EndRows.{broke}
+use Rattle.plain_runs.specs.OrderRows.{entered}
+use Rattle.plain_runs.specs.Plain.{Plain, Server}
+use Rattle.plain_runs.specs.Run.{after_all}
+use Rattle.plain_runs.specs.Step.{after}
+use Rattle.plain_runs.proofs.RunLemmas.{at_put}
+use Rattle.cluster_runs.specs.Steps.{is_raised, raised}
+use Rattle.data_pieces.proofs.PlainView.{is_of_locks}
+use Rattle.runs_kept.proofs.NowFrom.{MayNow, NowFrom}
+
+-- an act of a step that is no save
+abbrev pub is_data : Act → Bool
+is_data (Enter d e) = true
+is_data (Shut d session cause) = true
+is_data (Release d session) = true
+is_data (Back d) = true
+is_data (Grant d session job mode key at) = true
+is_data (Free d session job mode key) = true
+is_data (Broke app d end time) = true
+is_data a = false
+
+-- the moment, and which servers had a first order
+pub record Kept (p q : Plain) : Type 0 where
+  pub clock : q.clock ≡ p.clock
+  pub opened : (d : ℕ) → (p.server_at d).opened ≡ true → (q.server_at d).opened ≡ true
+
+abbrev Still : Server → Server → Type 0
+Still v w = v.opened ≡ true → w.opened ≡ true
+
+enters_still : (v : Server) (e : Entry) → Still v (entered v e)
+enters_still v (entry.Epoch number) is = is
+enters_still v (entry.Opened session app) is = is
+enters_still v (entry.Closed session) is = is
+enters_still v (entry.Update session w job txn op) is = is
+enters_still v (entry.Commit session w job txn) is = is
+enters_still v (entry.Rollback session w job txn) is = is
+
+broke_still : (v : Server) (app : ℕ) (end : PairEnd) (time : ℕ) → Still v (broke v app end time)
+broke_still v app AppSide time is = is
+broke_still v app ServerSide time is = is
+
+pub data_keeps : (l : Layout) (p : Plain) (a : Act) → is_data a ≡ true → Kept p (after l p a)
+data_keeps l p (Opened d entries) its = absurd (false≢true its)
+data_keeps l p (Enter d e) its = record { clock = refl; opened = at_put Still p.server_at d _ (λ v is. is) (enters_still (p.server_at d) e) }
+data_keeps l p (Synced d n) its = absurd (false≢true its)
+data_keeps l p (Shut d session cause) its = record { clock = refl; opened = at_put Still p.server_at d _ (λ v is. is) (λ is. is) }
+data_keeps l p (Release d session) its = record { clock = refl; opened = at_put Still p.server_at d _ (λ v is. is) (λ is. is) }
+data_keeps l p (Met app d session) its = absurd (false≢true its)
+data_keeps l p (Told app d session epoch kept) its = absurd (false≢true its)
+data_keeps l p (Back d) its = record { clock = refl; opened = at_put Still p.server_at d _ (λ v is. is) (λ is. is) }
+data_keeps l p (Crash d kept) its = absurd (false≢true its)
+data_keeps l p (Issue job line d w item) its = absurd (false≢true its)
+data_keeps l p (Read job line d at via question) its = absurd (false≢true its)
+data_keeps l p (Grant d session job mode key at) its = record { clock = refl; opened = at_put Still p.server_at d _ (λ v is. is) (λ is. is) }
+data_keeps l p (Granted job line d at) its = absurd (false≢true its)
+data_keeps l p (GiveUp job line d mode key) its = absurd (false≢true its)
+data_keeps l p (Quit job line d mode key) its = absurd (false≢true its)
+data_keeps l p (Free d session job mode key) its = record { clock = refl; opened = at_put Still p.server_at d _ (λ v is. is) (λ is. is) }
+data_keeps l p (Counted job line d at sum) its = absurd (false≢true its)
+data_keeps l p (NotWhole job line d at) its = absurd (false≢true its)
+data_keeps l p (Range job line d at) its = absurd (false≢true its)
+data_keeps l p (Committed job line d at) its = absurd (false≢true its)
+data_keeps l p (RolledBack job line d at) its = absurd (false≢true its)
+data_keeps l p (Reached job line d at) its = absurd (false≢true its)
+data_keeps l p (Level job line level) its = absurd (false≢true its)
+data_keeps l p (Done job line) its = absurd (false≢true its)
+data_keeps l p (Refused job line refusal) its = absurd (false≢true its)
+data_keeps l p (Broke app d end time) its = record { clock = refl; opened = at_put Still p.server_at d _ (λ v is. is) (broke_still (p.server_at d) app end time) }
+data_keeps l p (Mended app d) its = absurd (false≢true its)
+data_keeps l p (Tick time) its = absurd (false≢true its)
+data_keeps l p (Lose app d loss) its = absurd (false≢true its)
+data_keeps l p (Died app) its = absurd (false≢true its)
+
+pub data_raised : (k : ℕ) (a : Act) → is_data a ≡ true → is_raised k a ≡ true
+data_raised k (Opened d entries) its = absurd (false≢true its)
+data_raised k (Enter d e) its = refl
+data_raised k (Synced d n) its = absurd (false≢true its)
+data_raised k (Shut d session cause) its = refl
+data_raised k (Release d session) its = refl
+data_raised k (Met app d session) its = absurd (false≢true its)
+data_raised k (Told app d session epoch kept) its = absurd (false≢true its)
+data_raised k (Back d) its = refl
+data_raised k (Crash d kept) its = absurd (false≢true its)
+data_raised k (Issue job line d w item) its = absurd (false≢true its)
+data_raised k (Read job line d at via question) its = absurd (false≢true its)
+data_raised k (Grant d session job mode key at) its = refl
+data_raised k (Granted job line d at) its = absurd (false≢true its)
+data_raised k (GiveUp job line d mode key) its = absurd (false≢true its)
+data_raised k (Quit job line d mode key) its = absurd (false≢true its)
+data_raised k (Free d session job mode key) its = refl
+data_raised k (Counted job line d at sum) its = absurd (false≢true its)
+data_raised k (NotWhole job line d at) its = absurd (false≢true its)
+data_raised k (Range job line d at) its = absurd (false≢true its)
+data_raised k (Committed job line d at) its = absurd (false≢true its)
+data_raised k (RolledBack job line d at) its = absurd (false≢true its)
+data_raised k (Reached job line d at) its = absurd (false≢true its)
+data_raised k (Level job line level) its = absurd (false≢true its)
+data_raised k (Done job line) its = absurd (false≢true its)
+data_raised k (Refused job line refusal) its = absurd (false≢true its)
+data_raised k (Broke app d end time) its = refl
+data_raised k (Mended app d) its = absurd (false≢true its)
+data_raised k (Tick time) its = absurd (false≢true its)
+data_raised k (Lose app d loss) its = absurd (false≢true its)
+data_raised k (Died app) its = absurd (false≢true its)
+
+-- acts of locks are such, and rest on nothing here
+pub locks_data : (a : Act) → is_of_locks a ≡ true → is_data a ≡ true
+locks_data (Opened d entries) is = absurd (false≢true is)
+locks_data (Enter d e) is = absurd (false≢true is)
+locks_data (Synced d n) is = absurd (false≢true is)
+locks_data (Shut d session cause) is = absurd (false≢true is)
+locks_data (Release d session) is = refl
+locks_data (Met app d session) is = absurd (false≢true is)
+locks_data (Told app d session epoch kept) is = absurd (false≢true is)
+locks_data (Back d) is = absurd (false≢true is)
+locks_data (Crash d kept) is = absurd (false≢true is)
+locks_data (Issue job line d w item) is = absurd (false≢true is)
+locks_data (Read job line d at via question) is = absurd (false≢true is)
+locks_data (Grant d session job mode key at) is = refl
+locks_data (Granted job line d at) is = absurd (false≢true is)
+locks_data (GiveUp job line d mode key) is = absurd (false≢true is)
+locks_data (Quit job line d mode key) is = absurd (false≢true is)
+locks_data (Free d session job mode key) is = refl
+locks_data (Counted job line d at sum) is = absurd (false≢true is)
+locks_data (NotWhole job line d at) is = absurd (false≢true is)
+locks_data (Range job line d at) is = absurd (false≢true is)
+locks_data (Committed job line d at) is = absurd (false≢true is)
+locks_data (RolledBack job line d at) is = absurd (false≢true is)
+locks_data (Reached job line d at) is = absurd (false≢true is)
+locks_data (Level job line level) is = absurd (false≢true is)
+locks_data (Done job line) is = absurd (false≢true is)
+locks_data (Refused job line refusal) is = absurd (false≢true is)
+locks_data (Broke app d end time) is = absurd (false≢true is)
+locks_data (Mended app d) is = absurd (false≢true is)
+locks_data (Tick time) is = absurd (false≢true is)
+locks_data (Lose app d loss) is = absurd (false≢true is)
+locks_data (Died app) is = absurd (false≢true is)
+
+locks_may : (l : Layout) (p : Plain) (a : Act) → is_of_locks a ≡ true → MayNow l p a
+locks_may l p (Opened d entries) is = absurd (false≢true is)
+locks_may l p (Enter d e) is = absurd (false≢true is)
+locks_may l p (Synced d n) is = absurd (false≢true is)
+locks_may l p (Shut d session cause) is = absurd (false≢true is)
+locks_may l p (Release d session) is = tt
+locks_may l p (Met app d session) is = absurd (false≢true is)
+locks_may l p (Told app d session epoch kept) is = absurd (false≢true is)
+locks_may l p (Back d) is = absurd (false≢true is)
+locks_may l p (Crash d kept) is = absurd (false≢true is)
+locks_may l p (Issue job line d w item) is = absurd (false≢true is)
+locks_may l p (Read job line d at via question) is = absurd (false≢true is)
+locks_may l p (Grant d session job mode key at) is = tt
+locks_may l p (Granted job line d at) is = absurd (false≢true is)
+locks_may l p (GiveUp job line d mode key) is = absurd (false≢true is)
+locks_may l p (Quit job line d mode key) is = absurd (false≢true is)
+locks_may l p (Free d session job mode key) is = tt
+locks_may l p (Counted job line d at sum) is = absurd (false≢true is)
+locks_may l p (NotWhole job line d at) is = absurd (false≢true is)
+locks_may l p (Range job line d at) is = absurd (false≢true is)
+locks_may l p (Committed job line d at) is = absurd (false≢true is)
+locks_may l p (RolledBack job line d at) is = absurd (false≢true is)
+locks_may l p (Reached job line d at) is = absurd (false≢true is)
+locks_may l p (Level job line level) is = absurd (false≢true is)
+locks_may l p (Done job line) is = absurd (false≢true is)
+locks_may l p (Refused job line refusal) is = absurd (false≢true is)
+locks_may l p (Broke app d end time) is = absurd (false≢true is)
+locks_may l p (Mended app d) is = absurd (false≢true is)
+locks_may l p (Tick time) is = absurd (false≢true is)
+locks_may l p (Lose app d loss) is = absurd (false≢true is)
+locks_may l p (Died app) is = absurd (false≢true is)
+
+pub locks_now : (l : Layout) (p : Plain) (acts : List Act) → AllByRecursion (λ a. is_of_locks a ≡ true) acts → NowFrom l p acts
+locks_now l p [] all = tt
+locks_now l p (a ∷ acts) all = (locks_may l p a all.0, locks_now l (after l p a) acts all.1)
+
+-- what they make together
+pub all_keep : (l : Layout) (p : Plain) (acts : List Act) → AllByRecursion (λ a. is_data a ≡ true) acts → Kept p (after_all l p acts)
+all_keep l p [] all = record { clock = refl; opened = λ d is. is }
+all_keep l p (a ∷ acts) all = go (data_keeps l p a all.0) (all_keep l (after l p a) acts all.1)
+  where
+    go : Kept p (after l p a) → Kept (after l p a) (after_all l (after l p a) acts) → Kept p (after_all l p (a ∷ acts))
+    go f m = record { clock = m.clock ∙ f.clock; opened = λ d is. m.opened d (f.opened d is) }
+
+pub raised_data : (k : ℕ) (acts : List Act) → AllByRecursion (λ a. is_data a ≡ true) acts → raised k acts ≡ acts
+raised_data k [] all = refl
+raised_data k (a ∷ acts) all = ap (λ (b : Bool). cond b (a ∷ raised k acts) (raised k acts)) (data_raised k a all.0) ∙ ap (λ (xs : List Act). a ∷ xs) (raised_data k acts all.1)
+
+pub raised_joined : (k : ℕ) (xs ys : List Act) → raised k (xs ++ ys) ≡ raised k xs ++ raised k ys
+raised_joined k [] ys = refl
+raised_joined k (x ∷ xs) ys = go (is_raised k x) (raised_joined k xs ys)
+  where
+    go : (b : Bool) → raised k (xs ++ ys) ≡ raised k xs ++ raised k ys → cond b (x ∷ raised k (xs ++ ys)) (raised k (xs ++ ys)) ≡ cond b (x ∷ raised k xs) (raised k xs) ++ raised k ys
+    go true more = ap (λ (zs : List Act). x ∷ zs) more
+    go false more = more

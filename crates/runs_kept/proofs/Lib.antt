@@ -1,0 +1,6 @@
+pub mod NowFrom
+pub mod ActsGo
+pub mod RunGo
+pub mod RunMay
+pub mod RunPieces
+pub mod RunSteps

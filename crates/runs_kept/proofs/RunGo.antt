@@ -1,0 +1,62 @@
+-- What holds of the acts of a data server's step so far: orders and ends let each of them come.
+use Rattle.std.proofs.Common.{◌≡◌, ℕ, true, List, [], ◌∷◌, ◌++◌, sym, ◌∙◌, ap, subst}
+use Rattle.std.specs.List.{AllByRecursion}
+use Rattle.std.proofs.lemmas.List.{append-nil}
+use Rattle.plain_orders.specs.declared.act.Act.{Act}
+use Rattle.plain_orders.specs.declared.layout.Layout.{Layout}
+use Rattle.plain_runs.specs.Plain.{Plain}
+use Rattle.plain_runs.specs.Run.{after_all}
+use Rattle.plain_runs.proofs.RunLemmas.{after_all-append}
+use Rattle.data_rules.specs.Puts.{Sofar}
+use Rattle.cluster_runs.specs.Steps.{raised}
+use Rattle.cluster_invariant.proofs.AllLists.{all_follow}
+use Rattle.data_pieces.proofs.PlainView.{is_of_locks, view}
+use Rattle.data_pieces.proofs.QuietPieces.{Quiet}
+use Rattle.runs_kept.proofs.ActsGo.{Kept, all_keep, is_data, locks_data, locks_now, raised_data, raised_joined}
+use Rattle.runs_kept.proofs.NowFrom.{MayNow, NowFrom, now_joined}
+
+-- the acts so far, what moment it is, and that the server has an order
+pub record NowGo (l : Layout) (p : Plain) (d k now : ℕ) (b : Sofar) : Type 0 where
+  pub run : NowFrom l p (raised k b.outs.acts)
+  pub clock : now ≡ (after_all l p (raised k b.outs.acts)).clock
+  pub opened : (view l p d k b.outs.acts).opened ≡ true
+
+-- what a small change adds
+pub record Adds (l : Layout) (p : Plain) (k : ℕ) (b c : Sofar) : Type 0 where
+  pub more : List Act
+  pub acts : c.outs.acts ≡ b.outs.acts ++ more
+  pub plain : AllByRecursion (λ a. is_data a ≡ true) more
+  pub run : NowFrom l (after_all l p (raised k b.outs.acts)) more
+
+pub adds_go : (l : Layout) (p : Plain) (d k now : ℕ) (b c : Sofar) → Adds l p k b c → NowGo l p d k now b → NowGo l p d k now c
+adds_go l p d k now b c a h = go (all_keep l (after_all l p (raised k b.outs.acts)) a.more a.plain)
+  where
+    acts : raised k c.outs.acts ≡ raised k b.outs.acts ++ a.more
+    acts = ap (raised k) a.acts ∙ raised_joined k b.outs.acts a.more ∙ ap (λ (ys : List Act). raised k b.outs.acts ++ ys) (raised_data k a.more a.plain)
+
+    plain : after_all l p (raised k c.outs.acts) ≡ after_all l (after_all l p (raised k b.outs.acts)) a.more
+    plain = ap (after_all l p) acts ∙ after_all-append l p (raised k b.outs.acts) a.more
+
+    go : Kept (after_all l p (raised k b.outs.acts)) (after_all l (after_all l p (raised k b.outs.acts)) a.more) → NowGo l p d k now c
+    go kept = record {
+      run = subst (NowFrom l p) (sym acts) (now_joined l p (raised k b.outs.acts) a.more h.run a.run);
+      clock = h.clock ∙ sym kept.clock ∙ sym (ap (λ (q : Plain). q.clock) plain);
+      opened = ap (λ (q : Plain). (q.server_at d).opened) plain ∙ kept.opened d h.opened;
+    }
+
+-- no act
+pub same_adds : (l : Layout) (p : Plain) (k : ℕ) (b c : Sofar) → c.outs.acts ≡ b.outs.acts → Adds l p k b c
+same_adds l p k b c same = record { more = []; acts = same ∙ sym (append-nil b.outs.acts); plain = tt; run = tt }
+
+-- one
+pub one_adds : (l : Layout) (p : Plain) (k : ℕ) (b c : Sofar) (a : Act) → c.outs.acts ≡ b.outs.acts ++ a ∷ [] → is_data a ≡ true → MayNow l (after_all l p (raised k b.outs.acts)) a → Adds l p k b c
+one_adds l p k b c a acts its may = record { more = a ∷ []; acts = acts; plain = (its, tt); run = (may, tt) }
+
+-- acts of locks
+pub quiet_adds : (l : Layout) (p : Plain) (k : ℕ) (b c : Sofar) → Quiet b c → Adds l p k b c
+quiet_adds l p k b c q = record {
+  more = q.acts.more;
+  acts = q.acts.acts;
+  plain = all_follow (λ a. is_of_locks a ≡ true) (λ a. is_data a ≡ true) locks_data q.acts.more q.acts.all;
+  run = locks_now l (after_all l p (raised k b.outs.acts)) q.acts.more q.acts.all;
+}

@@ -1,0 +1,182 @@
+-- The trail stays a run over a step of a data server.
+use Rattle.std.proofs.Common.{◌≡◌, ◌≢◌, ◌≤◌, ℕ, Bool, true, false, cond, List, [], ◌∷◌, length, Option, Some, refl, sym, ◌∙◌, ap, subst, arith}
+use Rattle.std.specs.Prelude.{nat_lt}
+use Rattle.std.proofs.lemmas.Bool.{ltb-true}
+use Rattle.plain_orders.specs.declared.act.Act.{Act}
+use Rattle.plain_orders.specs.declared.act.Act.TheVariants as act
+use Rattle.plain_orders.specs.declared.entry.Entry.{Entry}
+use Rattle.plain_orders.specs.declared.layout.Layout.{Layout}
+use Rattle.plain_orders.specs.Entries.{last_epoch, live}
+use Rattle.plain_runs.specs.Plain.{Plain, Server, start}
+use Rattle.plain_runs.specs.Run.{IsRun, after_all, state_after}
+use Rattle.plain_runs.proofs.OrderLaws.{orders_kept}
+use Rattle.plain_runs.proofs.Ordered.{ordered_kept}
+use Rattle.plain_runs.proofs.RunLemmas.{at_put, run_joined}
+use Rattle.data_rules.specs.DataState.{DataState}
+use Rattle.data_rules.specs.declared.data_in.DataIn.{DataIn}
+use Rattle.data_rules.specs.declared.data_in.DataIn.TheVariants as data_in
+use Rattle.data_rules.specs.declared.rows.Caller.{Caller}
+use Rattle.data_rules.specs.declared.rows.Role.TheVariants.{Bound}
+use Rattle.data_rules.specs.Conns.{role_of}
+use Rattle.data_rules.specs.Puts.{Sofar, becomes, begun}
+use Rattle.data_rules.specs.Saving.{writes_synced}
+use Rattle.data_rules.specs.Step.{DataMay, made}
+use Rattle.cluster_runs.specs.CoresState.{CoresState}
+use Rattle.cluster_runs.specs.declared.move_outs.MoveOuts.{MoveOuts}
+use Rattle.cluster_runs.specs.declared.moves.Move.TheVariants.{Server as ServerMove}
+use Rattle.cluster_runs.specs.Goes.{ServerGoes}
+use Rattle.cluster_runs.specs.Machine.{Machine, Site}
+use Rattle.cluster_runs.specs.Mirrors.{Mirrors}
+use Rattle.cluster_runs.specs.Moves.{Allowed, NodeMay}
+use Rattle.cluster_runs.specs.Steps.{raised}
+use Rattle.cluster_invariant.specs.Dials.{BoundIs, NodeDials, RoleIs}
+use Rattle.cluster_invariant.specs.Ends.{CallerIs, NodeEnds}
+use Rattle.cluster_invariant.specs.Holds.{Holds, SiteHolds}
+use Rattle.cluster_invariant.specs.Orders.{NodeOrder}
+use Rattle.cluster_invariant.proofs.AllLists.{all_follow}
+use Rattle.cluster_invariant.proofs.OrderMoves.{step_from}
+use Rattle.cluster_invariant.proofs.PieceDeeds.{does_piece}
+use Rattle.cluster_invariant.proofs.PieceMay.{Coming, begins}
+use Rattle.cluster_invariant.proofs.Pieces.{kept_by_pieces}
+use Rattle.cluster_invariant.proofs.PiecesOfSteps.{StepFrom, step_pieces, synced_state}
+use Rattle.cluster_invariant.proofs.Small.{of_some}
+use Rattle.data_pieces.proofs.ConnLists.{conn_for}
+use Rattle.data_pieces.proofs.EndsAlong.{ends_piece}
+use Rattle.data_pieces.proofs.EndsBegin.{NodeHas, ends_begin}
+use Rattle.data_pieces.proofs.EndsGo.{EndsGo}
+use Rattle.data_pieces.proofs.EndsPieces.{ConnsHold}
+use Rattle.data_pieces.proofs.Places.{places_all}
+use Rattle.data_pieces.proofs.PlainView.{view}
+use Rattle.runs_kept.specs.Later.{AllLater}
+use Rattle.runs_kept.proofs.NowFrom.{NowFrom, both_run}
+use Rattle.runs_kept.proofs.RunGo.{NowGo}
+use Rattle.runs_kept.proofs.RunPieces.{run_piece}
+
+begins_times : (old : DataState) (now : ℕ) (input : DataIn) → (begins (record { old = old; now = now; input = input })).state.times ≡ old.times
+begins_times old now (data_in.Frame conn up) = refl
+begins_times old now (data_in.Connected conn) = refl
+begins_times old now (data_in.Broken conn) = refl
+begins_times old now data_in.Tick = refl
+begins_times old now (data_in.Saved upto) = ap (λ (n : DataState). n.times) (synced_state upto (begun old))
+
+-- a save that comes raises what is synced
+now_begins : (l : Layout) (p : Plain) (d : ℕ) (old : DataState) (now : ℕ) (input : DataIn) → NodeHas d (p.server_at d) old → now ≡ p.clock → (p.server_at d).opened ≡ true → DataMay old input
+    → NowGo l p d (p.server_at d).synced now (begins (record { old = old; now = now; input = input }))
+now_begins l p d old now (data_in.Frame conn up) has clock opened may = record { run = tt; clock = clock; opened = opened }
+now_begins l p d old now (data_in.Connected conn) has clock opened may = record { run = tt; clock = clock; opened = opened }
+now_begins l p d old now (data_in.Broken conn) has clock opened may = record { run = tt; clock = clock; opened = opened }
+now_begins l p d old now data_in.Tick has clock opened may = record { run = tt; clock = clock; opened = opened }
+now_begins l p d old now (data_in.Saved upto) has clock opened may = go (nat_lt old.synced upto)
+  where
+    acts : Bool → List Act
+    acts b = cond b (act.Synced old.server upto ∷ []) []
+
+    by : (b : Bool) → nat_lt (p.server_at d).synced upto ≡ b
+        → NowFrom l p (cond b (act.Synced old.server upto ∷ []) [])
+        × ((now ≡ (after_all l p (cond b (act.Synced old.server upto ∷ []) [])).clock) × (((after_all l p (cond b (act.Synced old.server upto ∷ []) [])).server_at d).opened ≡ true))
+    by false is = (tt, (clock, opened))
+    by true is = (
+      (
+        record {
+          opened = ap (λ (q : ℕ). (p.server_at q).opened) has.server ∙ opened;
+          no_less = subst (λ (q : ℕ). (p.server_at q).synced ≤ upto) (sym has.server) (omega (arith, ltb-true (p.server_at d).synced upto is));
+          within = subst (λ (q : ℕ). upto ≤ length (p.server_at q).order) (sym has.server) (subst (λ (es : List Entry). upto ≤ length es) (sym has.order) may.within);
+        },
+        tt,
+      ),
+      (clock, at_put (λ (v : Server) (w : Server). v.opened ≡ true → w.opened ≡ true) p.server_at old.server _ (λ v its. its) (λ its. its) d opened),
+    )
+
+    go : (rises : Bool) → NowGo l p d (p.server_at d).synced now (becomes (λ n. record n { synced = upto }) (writes_synced rises upto (begun old)))
+    go false = record { run = tt; clock = clock; opened = opened }
+    go true = from (by (nat_lt (p.server_at d).synced upto) refl)
+      where
+        from : NowFrom l p (raised (p.server_at d).synced (act.Synced old.server upto ∷ []))
+            × ((now ≡ (after_all l p (raised (p.server_at d).synced (act.Synced old.server upto ∷ []))).clock) × (((after_all l p (raised (p.server_at d).synced (act.Synced old.server upto ∷ []))).server_at d).opened ≡ true))
+            → NowGo l p d (p.server_at d).synced now (becomes (λ n. record n { synced = upto }) (writes_synced true upto (begun old)))
+        from h = record { run = h.0; clock = h.1.0; opened = h.1.1 }
+
+module _ (l : Layout) (c : CoresState) (m : Machine) (server now : ℕ) (input : DataIn) (outs : MoveOuts) (written : List Act) (new : Machine)
+    (h : Holds l m) (run : IsRun l m.trail) (shows : Mirrors c m) (allowed : Allowed c (ServerMove server now input)) (goes : ServerGoes m server now input outs written new) where
+  abbrev p : Plain
+  p = state_after l m.trail
+
+  abbrev v : Server
+  v = (state_after l m.trail).server_at server
+
+  abbrev x : Site
+  x = m.site_at server
+
+  abbrev old : DataState
+  old = goes.node
+
+  abbrev t : Coming
+  t = record { old = goes.node; now = now; input = input }
+
+  abbrev W : Caller → Type 0
+  W w = Unit {0}
+
+  its : SiteHolds l server m.is_dead_at ((state_after l m.trail).server_at server) (m.site_at server)
+  its = h.sites server
+
+  node : NodeEnds v x old
+  node = of_some (NodeEnds v x) x.node old goes.runs its.ends.node
+
+  order : NodeOrder l server x.past v old
+  order = of_some (NodeOrder l server x.past v) x.node old goes.runs its.order.node
+
+  dials : NodeDials x old
+  dials = of_some (NodeDials x) x.node old goes.runs its.dials.node
+
+  from : StepFrom old
+  from = step_from l m server old h run goes.runs
+
+  may : DataMay old input
+  may = subst (λ (o : Option DataState). NodeMay o input) (shows.nodes server ∙ goes.runs) allowed.may
+
+  has : NodeHas server v old
+  has = record {
+    server = order.its_server;
+    ordered = from.ordered;
+    started = subst (λ (es : List Entry). last_epoch es ≢ 0) (sym order.order) ((ordered_kept l m.trail server run).begun order.opened);
+    order = sym order.order;
+    differ = dials.differ;
+    within = subst (λ (es : List Entry). old.synced ≤ length es) (sym order.order) (omega (arith, order.synced, (orders_kept l m.trail server run).within));
+  }
+
+  hold : ConnsHold old
+  hold = record { bound = λ conn s role. by conn s role (of_some (RoleIs x old conn) (role_of old conn) (Bound s) role (dials.roles conn)) }
+    where
+      by : (conn s : ℕ) → role_of old conn ≡ Some (Bound s) → BoundIs x old conn s → (live old.order s ≡ true) × (conn_for s old.conns ≡ Some conn)
+      by conn s role b = (b.lives, b.its)
+
+  clock : now ≡ (state_after l m.trail).clock
+  clock = allowed.now_may.clock ∙ shows.clock ∙ sym h.clock
+
+  abbrev Goes : Sofar → Type 0
+  Goes b = EndsGo t W server (view l p server v.synced b.outs.acts) b.state × ((b.state.times ≡ l.times) × NowGo l p server v.synced now b)
+
+  begin : Goes (begins t)
+  begin = (
+    ends_begin l p server v.synced W x old now input has node (all_follow (CallerIs old x) W (λ w is. tt) old.callers node.callers.each),
+    (begins_times old now input ∙ order.its_times, now_begins l p server old now input has clock order.opened may),
+  )
+
+  -- what orders and ends let come
+  run_now : NowFrom l p (raised v.synced goes.data_outs.acts)
+  run_now =
+      (kept_by_pieces t Goes
+      (λ q b known g. (
+        ends_piece l p server v.synced t W hold places_all (λ app conn e is. tt) q b known g.0,
+        ((does_piece t q b known).times ∙ g.1.0, run_piece l p server v.synced t W hold q b known g.0 g.1.0 g.1.1),
+      ))
+      (begins t) (made goes.state goes.data_outs) (step_pieces old now input goes.data_outs goes.state from may goes.steps) begin).1.1.run
+
+  -- With what it rests on beside them the trail stays a run.
+  pub run_kept_by_server : AllLater l (state_after l m.trail) written → IsRun l new.trail
+  run_kept_by_server later =
+      subst (λ (n : Machine). IsRun l n.trail) (sym goes.after)
+      (run_joined l start m.trail written run (both_run l p written (subst (NowFrom l p) (sym same_acts) run_now) later))
+    where
+      same_acts : written ≡ raised v.synced goes.data_outs.acts
+      same_acts = goes.acts ∙ ap (λ (q : Layout). raised ((state_after q m.trail).server_at server).synced goes.data_outs.acts) h.layout
