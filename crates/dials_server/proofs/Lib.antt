@@ -14,7 +14,11 @@ pub mod FittingDials
 pub mod SaveNodes
 pub mod OpenedNodes
 pub mod RoundNodes
-pub mod SaveDials
 pub mod TakenFrames
 pub mod GoNodes
 pub mod GoRounds
+pub mod TakesNodes
+pub mod OverRounds
+pub mod SaveDials
+pub mod FrameDials
+pub mod FrameSettled

@@ -43,7 +43,7 @@ module _ (v : Server) (x : Site) (dead : ℕ → Bool) (conn : ℕ) (l : Linked)
         go None none = absurd (false≢true none)
         go (Some j) some = refl
 
-    connections : (k : ℕ) → y.connection_at k ≡ x.connection_at k
+    pub connections : (k : ℕ) → y.connection_at k ≡ x.connection_at k
     connections k = go (k == conn) refl
       where
         go : (b : Bool) → (k == conn) ≡ b → (if b then option_map (linked_if named) (x.connection_at k) else x.connection_at k) ≡ x.connection_at k
