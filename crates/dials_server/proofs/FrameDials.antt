@@ -147,7 +147,7 @@ module _ (l : Layout) (c : CoresState) (m : Machine) (server now conn : ℕ) (f 
       w.its ∙ ap (order_by w.deeds) node.order ∙ sym w.order ∙ sym (order_now (q.server_at server))
       ∙ ap (order_at (q.server_at server)) (ap (λ (os : List (List Entry)). length os) w.past ∙ sym its.order.past)
 
-  link_z : (k : ℕ) → link_of z k ≡ link_of x k
+  pub link_z : (k : ℕ) → link_of z k ≡ link_of x k
   link_z k = ap link_in (connections v x m.is_dead_at conn link (named_dial f.message) f n linked next goes.runs its.dials k)
 
   -- the session of the connection learnt of the order

@@ -22,3 +22,5 @@ pub mod OverRounds
 pub mod SaveDials
 pub mod FrameDials
 pub mod FrameSettled
+pub mod FrameEnded
+pub mod FrameKept
