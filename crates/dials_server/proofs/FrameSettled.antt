@@ -42,39 +42,39 @@ module _ (v w : Server) (z : Site) (dead : ℕ → Bool) (k : DataState) (gone :
     (ordered : IsOrdered k.order) (learnt : (s : ℕ) → role_of k conn ≡ Some (Bound s) → HasLearnt z s) (apart : role_of k conn ≡ Some Waiting → ⊥) (is : DialsAre v z dead)
     (runs : z.node ≡ Some k) (inv : GoInv z k gone b)
   where
-  fresh : (s : ℕ) → length k.order < s → IsFresh z s
-  fresh = fresh_at v z dead k.order order_v ordered is
+    fresh : (s : ℕ) → length k.order < s → IsFresh z s
+    fresh = fresh_at v z dead k.order order_v ordered is
 
-  rounds_inv : OpenInv z k gone [] (flushed (rounds now b))
-  rounds_inv = flush_go z k gone fresh (rounds now b) (rounds_go z k gone fresh now b inv)
+    rounds_inv : OpenInv z k gone [] (flushed (rounds now b))
+    rounds_inv = flush_go z k gone fresh (rounds now b) (rounds_go z k gone fresh now b inv)
 
-  -- it is for what it was for before
-  bound_before : (s : ℕ) → role_of (flushed (rounds now b)).state conn ≡ Some (Bound s) → HasLearnt z s
-  bound_before s role = go (role_of k conn) refl
-    where
-      same : (r : Role) → role_of k conn ≡ Some r → (r ≡ Waiting → ⊥) → Some r ≡ Some (Bound s)
-      same r was other = sym (rounds_inv.stays conn r other was) ∙ role
+    -- it is for what it was for before
+    bound_before : (s : ℕ) → role_of (flushed (rounds now b)).state conn ≡ Some (Bound s) → HasLearnt z s
+    bound_before s role = go (role_of k conn) refl
+      where
+        same : (r : Role) → role_of k conn ≡ Some r → (r ≡ Waiting → ⊥) → Some r ≡ Some (Bound s)
+        same r was other = sym (rounds_inv.stays conn r other was) ∙ role
 
-      go : (o : Option Role) → role_of k conn ≡ o → HasLearnt z s
-      go None was = absurd (false≢true (sym (ap (λ (o : Option Role). is_some o) was) ∙ sym (rounds_inv.there conn) ∙ ap (λ (o : Option Role). is_some o) role))
-      go (Some New) was = (let both : ◌≡◌ {A = Option Role} (Some New) (Some (Bound s)) = same New was (λ is. absurd cc) in absurd cc)
-      go (Some Waiting) was = absurd (apart was)
-      go (Some (Bound t)) was = learnt s (was ∙ same (Bound t) was (λ is. absurd cc))
-      go (Some (Closing t)) was = (let both : ◌≡◌ {A = Option Role} (Some (Closing t)) (Some (Bound s)) = same (Closing t) was (λ is. absurd cc) in absurd cc)
+        go : (o : Option Role) → role_of k conn ≡ o → HasLearnt z s
+        go None was = absurd (false≢true (sym (ap (λ (o : Option Role). is_some o) was) ∙ sym (rounds_inv.there conn) ∙ ap (λ (o : Option Role). is_some o) role))
+        go (Some New) was = (let both : ◌≡◌ {A = Option Role} (Some New) (Some (Bound s)) = same New was (λ is. absurd cc) in absurd cc)
+        go (Some Waiting) was = absurd (apart was)
+        go (Some (Bound t)) was = learnt s (was ∙ same (Bound t) was (λ is. absurd cc))
+        go (Some (Closing t)) was = (let both : ◌≡◌ {A = Option Role} (Some (Closing t)) (Some (Bound s)) = same (Closing t) was (λ is. absurd cc) in absurd cc)
 
-  pub made_inv : (st : DataState) (outs : DataOuts) → made st outs ≡ settled conn now b → OpenInv z k gone [] (made st outs)
-  made_inv st outs steps = subst (λ (d : Sofar). OpenInv z k gone [] d) (sym steps) (settled_go z k gone fresh conn now b bound_before inv)
+    pub made_inv : (st : DataState) (outs : DataOuts) → made st outs ≡ settled conn now b → OpenInv z k gone [] (made st outs)
+    made_inv st outs steps = subst (λ (d : Sofar). OpenInv z k gone [] d) (sym steps) (settled_go z k gone fresh conn now b bound_before inv)
 
-  -- The whole part then.
-  pub settled_dials : (st : DataState) (outs : DataOuts) → made st outs ≡ settled conn now b → (y : Site) → PutsFrames z y st outs.frames → st.order ≡ order_at w z.past
-      → DialsAre w y dead
-  settled_dials st outs steps y put order = go (made_inv st outs steps)
-    where
-      go : OpenInv z k gone [] (made st outs) → DialsAre w y dead
-      go inv =
-          dials_after v w z y dead st outs.frames later
-          (record { past = put.past; began = put.began; connections = put.connections; each = put.each; fits = inv.frames }) put.taken put.states put.tolds is inv.nodes order
-          put.node
-          (λ i.
-          ap (λ (g : ℕ → Option DataConnection). is_here (g i)) put.connections ∙ is.here i ∙ ap (λ (o : Option DataState). has_conn o i) runs
-          ∙ sym (inv.there i))
+    -- The whole part then.
+    pub settled_dials : (st : DataState) (outs : DataOuts) → made st outs ≡ settled conn now b → (y : Site) → PutsFrames z y st outs.frames → st.order ≡ order_at w z.past
+        → DialsAre w y dead
+    settled_dials st outs steps y put order = go (made_inv st outs steps)
+      where
+        go : OpenInv z k gone [] (made st outs) → DialsAre w y dead
+        go inv =
+            dials_after v w z y dead st outs.frames later
+            (record { past = put.past; began = put.began; connections = put.connections; each = put.each; fits = inv.frames }) put.taken put.states put.tolds is inv.nodes order
+            put.node
+            (λ i.
+            ap (λ (g : ℕ → Option DataConnection). is_here (g i)) put.connections ∙ is.here i ∙ ap (λ (o : Option DataState). has_conn o i) runs
+            ∙ sym (inv.there i))
