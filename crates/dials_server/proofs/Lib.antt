@@ -24,3 +24,4 @@ pub mod FrameDials
 pub mod FrameSettled
 pub mod FrameEnded
 pub mod FrameKept
+pub mod FirstSites
