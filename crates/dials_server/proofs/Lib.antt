@@ -25,3 +25,4 @@ pub mod FrameSettled
 pub mod FrameEnded
 pub mod FrameKept
 pub mod FirstSites
+pub mod FirstNodes
