@@ -40,25 +40,30 @@ use Rattle.dials_server.proofs.NodeConns.{conn_goes, node_goes, there_fewer}
 use Rattle.dials_server.proofs.QuietServer.{Quietly, dials_quietly, lane_step, of_some_and}
 
 -- what the node's state and the outputs are then
-record LosesOnly (b c : Sofar) : Type 0 where
-  frames : c.outs.frames ≡ b.outs.frames
-  cuts : c.outs.cuts ≡ b.outs.cuts
-  conns : c.state.conns ≡ b.state.conns
-  order : c.state.order ≡ b.state.order
-  dials : c.state.dials ≡ b.state.dials
+pub record LosesOnly (b c : Sofar) : Type 0 where
+  pub frames : c.outs.frames ≡ b.outs.frames
+  pub cuts : c.outs.cuts ≡ b.outs.cuts
+  pub conns : c.state.conns ≡ b.state.conns
+  pub order : c.state.order ≡ b.state.order
+  pub dials : c.state.dials ≡ b.state.dials
+  pub noted : c.state.noted ≡ b.state.noted
+  pub locks : c.state.locks ≡ b.state.locks
+  pub replies : c.state.replies ≡ b.state.replies
+  pub callers : c.state.callers ≡ b.state.callers
+  pub round : c.state.round ≡ b.state.round
 
 loses_same : (b : Sofar) → LosesOnly b b
-loses_same b = record { frames = refl; cuts = refl; conns = refl; order = refl; dials = refl }
+loses_same b = record { frames = refl; cuts = refl; conns = refl; order = refl; dials = refl; noted = refl; locks = refl; replies = refl; callers = refl; round = refl }
 
 breaks_only : (o : Option ℕ) (now : ℕ) (b : Sofar) → LosesOnly b (end_breaks o now b)
 breaks_only None now b = loses_same b
 breaks_only (Some app) now b = go (is_normal (node_link b.state app))
   where
     go : (t : Bool) → LosesOnly b (becomes (with_event app now Ended) (breaks_if t app now b))
-    go true = record { frames = refl; cuts = refl; conns = refl; order = refl; dials = refl }
-    go false = record { frames = refl; cuts = refl; conns = refl; order = refl; dials = refl }
+    go true = record { frames = refl; cuts = refl; conns = refl; order = refl; dials = refl; noted = refl; locks = refl; replies = refl; callers = refl; round = refl }
+    go false = record { frames = refl; cuts = refl; conns = refl; order = refl; dials = refl; noted = refl; locks = refl; replies = refl; callers = refl; round = refl }
 
-loses_only : (r : Option Role) (now : ℕ) (b : Sofar) → LosesOnly b (loses_conn r now b)
+pub loses_only : (r : Option Role) (now : ℕ) (b : Sofar) → LosesOnly b (loses_conn r now b)
 loses_only None now b = loses_same b
 loses_only (Some New) now b = loses_same b
 loses_only (Some Waiting) now b = loses_same b
@@ -69,7 +74,7 @@ none_is_here : (o : Option DataConnection) → is_here (option_map left o) ≡ f
 none_is_here None = refl
 none_is_here (Some c) = refl
 
-left_link : (o : Option DataConnection) → link_in (option_map left o) ≡ link_in o
+pub left_link : (o : Option DataConnection) → link_in (option_map left o) ≡ link_in o
 left_link None = refl
 left_link (Some c) = refl
 
@@ -79,7 +84,8 @@ leaves_keep : (b : Bool) (c : Connection) → ((if b then data_leaves c else c).
 leaves_keep true c = (refl, refl, refl)
 leaves_keep false c = (refl, refl, refl)
 
-broken_site : (v w : Server) (x : Site) (dead : ℕ → Bool) (n m : DataState) (outs : DataOuts) (now conn : ℕ) → StaysKnown v w → x.node ≡ Some n
+-- A site after one that ended there has them.
+pub broken_site : (v w : Server) (x : Site) (dead : ℕ → Bool) (n m : DataState) (outs : DataOuts) (now conn : ℕ) → StaysKnown v w → x.node ≡ Some n
     → outs.frames ≡ [] → outs.cuts ≡ [] → m.order ≡ n.order → m.dials ≡ n.dials → m.conns ≡ filter (is_other_conn conn) n.conns → DialsAre v x dead
     → DialsAre w (with_lanes n m outs (with_hellos (data_in.Broken conn) (leaves_conns [] (hears_downs [] (with_node now m (site_leaves conn x)))))) dead
 broken_site v w x dead n m outs now conn later runs frames cuts order dials conns is =

@@ -1,5 +1,5 @@
 -- What holds of a data server's connections while a step goes on that takes the message of a session that learnt of the order.
-use Rattle.std.proofs.Common.{◌≡◌, ◌≤◌, ◌<◌, ℕ, Bool, true, ◌||◌, List, [], ◌∷◌, ◌++◌, length, map, Option, Some, None, is_some, option_map, refl, sym, ◌∙◌, ap, subst, arith}
+use Rattle.std.proofs.Common.{◌≡◌, ◌≤◌, ◌<◌, ℕ, Bool, true, ◌||◌, List, [], ◌∷◌, ◌++◌, length, map, Option, Some, None, option_map, refl, sym, ◌∙◌, ap, subst, arith}
 use Rattle.std.specs.Prelude.{IfSome, get_or}
 use Rattle.std.specs.List.{AllByRecursion, find, list_any}
 use Rattle.std.proofs.lemmas.List.{length-append}
@@ -57,7 +57,7 @@ pub record GoInv (x : Site) (n : DataState) (gone : List ℕ) (b : Sofar) : Type
   pub noted : AllByRecursion (λ (y : Noted). HasLearnt x y.session) b.state.noted
   pub requests : AllByRecursion (λ (r : Request). HasLearnt x r.who.session) b.state.locks.requests
   pub replies : AllByRecursion (ReplyFits x b.state) b.state.replies
-  pub there : (k : ℕ) → is_some (role_of b.state k) ≡ is_some (role_of n k)
+  pub conns : b.state.conns ≡ n.conns
   pub longer : length n.order ≤ length b.state.order
   pub within : Within b.state.order
   pub callers : AllByRecursion (CallerIs b.state x) b.state.callers
@@ -199,7 +199,7 @@ module _ (x : Site) (n : DataState) (gone : List ℕ) where
         noted = by.noted;
         requests = by.requests;
         replies = all_follow (ReplyFits x b.state) (ReplyFits x m) (λ r at. says_same x b.state m by.conns r.says at) m.replies by.replies;
-        there = λ k. ap (λ (cs : List Conn). is_some (option_map role_in (find (is_conn k) cs))) by.conns ∙ inv.there k;
+        conns = by.conns ∙ inv.conns;
         longer = omega (arith, inv.longer, by.lists.longer);
         within = within_lists b.state.order m.order by.lists inv.within;
         callers =

@@ -1,18 +1,19 @@
 -- A round that ends, replies that leave, and an acknowledgement by itself: what follows each frame, and a save.
-use Rattle.std.proofs.Common.{◌≡◌, ◌<◌, ℕ, Bool, true, false, not, List, [], ◌∷◌, length, map, filter, drop, Option, Some, None, refl, ap}
-use Rattle.std.specs.List.{AllByRecursion, list_any}
+use Rattle.std.proofs.Common.{◌≡◌, ◌<◌, ℕ, Bool, true, false, not, List, [], ◌∷◌, length, map, filter, drop, Option, Some, None, is_some, option_map, refl, ◌∙◌, ap}
+use Rattle.std.specs.List.{AllByRecursion, list_any, find}
 use Rattle.std.proofs.lemmas.Bool.{and_parts, false≢true}
 use Rattle.plain_orders.specs.declared.act.Act.TheVariants as act
 use Rattle.plain_orders.specs.Entries.{live_session}
 use Rattle.plain_orders.specs.Sessions.{is_close}
 use Rattle.recovery_round.specs.RoundWords.{Round, is_over}
 use Rattle.data_rules.specs.declared.rows.Caller.{Caller}
+use Rattle.data_rules.specs.declared.rows.Conn.{Conn}
 use Rattle.data_rules.specs.declared.rows.LiveEnd.{LiveEnd}
 use Rattle.data_rules.specs.declared.rows.Reply.{Reply}
 use Rattle.data_rules.specs.declared.rows.Role.{Role}
 use Rattle.data_rules.specs.declared.rows.Role.TheVariants.{New, Waiting, Bound, Closing}
 use Rattle.data_rules.specs.DataState.{DataState}
-use Rattle.data_rules.specs.Conns.{role_of}
+use Rattle.data_rules.specs.Conns.{role_of, is_conn, role_in}
 use Rattle.data_rules.specs.Opening.{all_apps, come_back, is_round_over, live_ends, round_ends_if, rounds, without_round}
 use Rattle.data_rules.specs.Puts.{Sofar, becomes, conn_of, writes}
 use Rattle.cluster_runs.specs.Machine.{Site}
@@ -43,7 +44,8 @@ module _ (x : Site) (n : DataState) (gone : List ℕ) (fresh_at : (s : ℕ) → 
     cuts = inv.cuts;
     noted = inv.noted;
     replies = inv.replies;
-    there = inv.there;
+    there = λ k. ap (λ (ks : List Conn). is_some (option_map role_in (find (is_conn k) ks))) inv.conns;
+    stays = λ k r apart role. ap (λ (ks : List Conn). option_map role_in (find (is_conn k) ks)) inv.conns ∙ role;
     longer = inv.longer;
     within = inv.within;
     callers = calls;

@@ -14,7 +14,15 @@ pub mod FittingDials
 pub mod SaveNodes
 pub mod OpenedNodes
 pub mod RoundNodes
-pub mod SaveDials
 pub mod TakenFrames
 pub mod GoNodes
 pub mod GoRounds
+pub mod TakesNodes
+pub mod OverRounds
+pub mod SaveDials
+pub mod FrameDials
+pub mod FrameSettled
+pub mod FrameEnded
+pub mod FrameKept
+pub mod FirstSites
+pub mod FirstNodes

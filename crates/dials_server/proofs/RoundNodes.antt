@@ -53,6 +53,7 @@ pub record OpenInv (x : Site) (n : DataState) (gone : List ℕ) (cs : List Calle
   pub noted : AllByRecursion (λ (y : Noted). HasLearnt x y.session) b.state.noted
   pub replies : AllByRecursion (ReplyFits x b.state) b.state.replies
   pub there : (k : ℕ) → is_some (role_of b.state k) ≡ is_some (role_of n k)
+  pub stays : (k : ℕ) (r : Role) → (r ≡ Waiting → ⊥) → role_of n k ≡ Some r → role_of b.state k ≡ Some r
   pub longer : length n.order ≤ length b.state.order
   pub within : Within b.state.order
   pub callers : AllByRecursion (CallerIs b.state x) cs
@@ -77,6 +78,9 @@ module _ (x : Site) (n : DataState) (gone : List ℕ) where
         subst (λ (d : DataState). AllByRecursion (ReplyFits x d) d.replies) (sym state)
         (all_follow (ReplyFits x b.state) (ReplyFits x m) (λ r at. says_same x b.state m conns r.says at) m.replies replies);
     there = λ k. ap (λ (xs : List Conn). is_some (option_map role_in (find (is_conn k) xs))) (ap (λ (d : DataState). d.conns) state ∙ conns) ∙ inv.there k;
+    stays =
+        λ k r apart role.
+        ap (λ (xs : List Conn). option_map role_in (find (is_conn k) xs)) (ap (λ (d : DataState). d.conns) state ∙ conns) ∙ inv.stays k r apart role;
     longer = subst (λ (es : List Entry). length n.order ≤ length es) (sym (ap (λ (d : DataState). d.order) state ∙ order)) inv.longer;
     within = subst Within (sym (ap (λ (d : DataState). d.order) state ∙ order)) inv.within;
     callers =
@@ -153,6 +157,9 @@ all_apart app (c ∷ cs) none = go (app == c.app) refl none (all_apart app cs)
     go true same none_there more = absurd (false≢true (sym none_there))
     go false other none_there more = ((λ same. false≢true (sym other ∙ eq-eqb app c.app (sym same))), more none_there)
 
+role_same : (r q : Role) → Some r ≡ Some q → r ≡ q
+role_same r q same = cc (same)
+
 pub open_one : (x : Site) (n : DataState) (gone : List ℕ) → ((s : ℕ) → length n.order < s → IsFresh x s) → (c : Caller) (cs : List Caller) (now : ℕ) (b : Sofar) → OpenInv x n gone (c ∷ cs) b
     → OpenInv x n gone cs (opens c.app c.conn now b)
 open_one x n gone fresh_at c cs now b inv = go (appends_state (Opened s c.app) (writes (act.Enter b.state.server (Opened s c.app)) b))
@@ -194,6 +201,10 @@ open_one x n gone fresh_at c cs now b inv = go (appends_state (Opened s c.app) (
       there =
           λ k.
           ap (λ (ks : List Conn). is_some (option_map role_in (find (is_conn k) ks))) conns ∙ there_still c.conn (Bound s) k b.state.conns ∙ inv.there k;
+      stays =
+          λ k r other role.
+          role_kept x b.state after.state c.conn s conns inv.callers.0.waits k
+          (λ same. other (role_same r Waiting (sym (inv.stays k r other role) ∙ ap (role_of b.state) same ∙ inv.callers.0.waits))) ∙ inv.stays k r other role;
       longer = omega (arith, inv.longer, ap (λ (es : List Entry). length es) order, length-append b.state.order (Opened s c.app ∷ []));
       within = subst Within (sym order) (within_more b.state.order c.app inv.within);
       callers =

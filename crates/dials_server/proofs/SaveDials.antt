@@ -1,31 +1,28 @@
 -- The part on connections, for a save at a data server.
-use Rattle.std.proofs.Common.{◌≡◌, ◌<◌, ℕ, zero, suc, Bool, true, false, not, ◌||◌, ◌==◌, List, [], ◌∷◌, length, map, filter, cond, if◌then◌else◌, drop, take, Option, option_map, Some, None, is_some, refl, sym, ◌∙◌, ap, subst, arith}
+use Rattle.std.proofs.Common.{◌≡◌, ◌<◌, ℕ, zero, suc, Bool, true, false, ◌||◌, ◌==◌, List, [], ◌∷◌, length, map, drop, take, Option, Some, None, is_some, refl, sym, ◌∙◌, ap, subst, arith}
 use Rattle.std.specs.Prelude.{nat_lt}
-use Rattle.std.specs.List.{AllByRecursion, find, list_any}
-use Rattle.std.proofs.lemmas.Bool.{eq-eqb, eqb-true, false≢true, ne_eqb}
+use Rattle.std.specs.List.{AllByRecursion, list_any}
+use Rattle.std.proofs.lemmas.Bool.{false≢true}
 use Rattle.plain_orders.specs.declared.act.Act.{Act}
 use Rattle.plain_orders.specs.declared.entry.Entry.{Entry}
-use Rattle.plain_orders.specs.declared.entry.Entry.TheVariants.{Epoch, Opened, Closed, Update, Commit, Rollback}
 use Rattle.plain_orders.specs.declared.layout.Layout.{Layout}
-use Rattle.plain_orders.specs.Entries.{live, live_from, live_session}
+use Rattle.plain_orders.specs.Entries.{live_session}
 use Rattle.plain_orders.specs.Ordered.{IsOrdered}
-use Rattle.plain_orders.specs.Sessions.{app_in, live_sessions, opened_sessions}
-use Rattle.plain_orders.proofs.LiveSessions.{none_opened, ordered_one_live}
+use Rattle.plain_orders.specs.Sessions.{app_in, live_sessions}
+use Rattle.plain_orders.proofs.LiveSessions.{none_opened}
 use Rattle.plain_orders.proofs.PastLemmas.{ordered_past}
 use Rattle.plain_runs.specs.Plain.{Plain, Server, order_at}
 use Rattle.plain_runs.specs.Run.{IsRun, after_all, state_after}
-use Rattle.ecp_messages.specs.declared.up.Up.{Up}
 use Rattle.lock_table.specs.declared.rows.Request.{Request}
 use Rattle.recovery_round.specs.RoundWords.{Round, is_over}
 use Rattle.block_holders.specs.declared.noted.Noted.{Noted}
 use Rattle.data_rules.specs.declared.data_in.DataIn.TheVariants as data_in
 use Rattle.data_rules.specs.declared.down_frames.DownOut.{DownOut}
 use Rattle.data_rules.specs.declared.rows.Caller.{Caller}
-use Rattle.data_rules.specs.declared.rows.Conn.{Conn}
 use Rattle.data_rules.specs.declared.rows.Says.{Says}
 use Rattle.data_rules.specs.declared.rows.Says.TheVariants.{NewWelcome, EpochWelcome, ResetOf, GrantOf, AnswerOf}
 use Rattle.data_rules.specs.DataState.{DataState}
-use Rattle.data_rules.specs.Conns.{is_conn, role_in, role_of}
+use Rattle.data_rules.specs.Conns.{role_of}
 use Rattle.data_rules.specs.Puts.{Sofar, becomes, begun}
 use Rattle.plain_orders.specs.ItemEntries.{is_item_of}
 use Rattle.data_rules.specs.Saving.{closed_in, has_item_of, part_saved, savers, writes_synced}
@@ -39,13 +36,13 @@ use Rattle.cluster_runs.specs.Connections.{hears_downs, leaves_conns}
 use Rattle.cluster_runs.specs.Lanes.{with_data_step}
 use Rattle.cluster_runs.specs.Goes.{ServerGoes, server_site, with_hellos, with_lanes, with_node}
 use Rattle.cluster_invariant.specs.Dials.{CarriesOf, ConnectionIs, DialsAre, LearntBy, NodeDials, has_conn, is_here}
-use Rattle.cluster_invariant.specs.Ends.{CallerIs, NodeEnds, app_of_caller, RoundIs, is_done, is_undone}
+use Rattle.cluster_invariant.specs.Ends.{CallerIs, NodeEnds, app_of_caller}
 use Rattle.cluster_invariant.specs.Holds.{Holds, SiteHolds}
-use Rattle.cluster_invariant.specs.Link.{LaneCounts, NodeLink}
+use Rattle.cluster_invariant.specs.Link.{NodeLink}
 use Rattle.cluster_invariant.specs.Orders.{NodeOrder}
 use Rattle.cluster_invariant.specs.Served.{HasLearnt, IsServed}
 use Rattle.cluster_invariant.specs.Waiting.{ReplyWaits, WaitsFor}
-use Rattle.cluster_invariant.specs.Words.{all_differ, is_same}
+use Rattle.cluster_invariant.specs.Words.{all_differ}
 use Rattle.cluster_invariant.proofs.AllLists.{all_follow, all_passed}
 use Rattle.cluster_invariant.proofs.Deeds.{order_by}
 use Rattle.cluster_invariant.proofs.OrderMoves.{step_from}
@@ -60,11 +57,12 @@ use Rattle.dials_server.proofs.OpenedNodes.{IsFresh, Within}
 use Rattle.dials_server.proofs.QuietServer.{lane_step}
 use Rattle.dials_server.proofs.GoNodes.{GoInv}
 use Rattle.dials_server.proofs.GoRounds.{rounds_go}
+use Rattle.dials_server.proofs.OverRounds.{over_learnt}
 use Rattle.dials_server.proofs.RoundNodes.{OpenInv, caller_same}
 use Rattle.dials_server.proofs.SaveNodes.{ReplyFits, SaveInv, SaysFit, save_acks, save_flush, save_releases, save_state}
 
 -- what a node's replies are for
-says_fit : (v : Server) (x : Site) (n : DataState) (at : ℕ) (says : Says) → WaitsFor v x n at says → SaysFit says x n
+pub says_fit : (v : Server) (x : Site) (n : DataState) (at : ℕ) (says : Says) → WaitsFor v x n at says → SaysFit says x n
 says_fit v x n at (NewWelcome conn session) is = is.bound
 says_fit v x n at (EpochWelcome conn session kept) is = is.bound
 says_fit v x n at (ResetOf conn session place) is = is.closing
@@ -92,80 +90,6 @@ fresh_at v x dead es same ordered is s above = record {
     go : (o : Option ℕ) → (x.lane_at s x.past).began ≡ o → LearntBy v x s x.past o (app_in (order_at v x.past) s) → o ≡ None
     go None its at = refl
     go (Some dial) its at = absurd (subst (λ (o : Option ℕ). LearntBy v x s x.past (Some dial) o) none at)
-
--- a session of which a Done was taken learnt of the order
-done_learnt : (x : Site) (s : ℕ) → LaneCounts (x.lane_at s x.past) → is_undone (λ q. x.lane_at q x.past) s ≡ false → HasLearnt x s
-done_learnt x s counts done = go (x.lane_at s x.past).began refl
-  where
-    go : (o : Option ℕ) → (x.lane_at s x.past).began ≡ o → is_some (x.lane_at s x.past).began ≡ true
-    go (Some dial) its = ap (λ (o : Option ℕ). is_some o) its
-    go None its = absurd (false≢true (sym done ∙ ap not (ap (list_any is_done) (empty (x.lane_at s x.past).up_taken (x.lane_at s x.past).up (counts.no_up its)))))
-      where
-        empty : (k : ℕ) (ms : List Up) → ms ≡ [] → take k ms ≡ []
-        empty zero ms none = refl
-        empty (suc k) [] none = refl
-        empty (suc k) (m ∷ ms) none = absurd cc
-
--- live sessions are among those that were opened
-
-or_other : (a b : Bool) → (a ≡ false → b ≡ true) → (a || b) ≡ true
-or_other true b is = refl
-or_other false b is = is refl
-
-live_opened : (b : Bool) (es : List Entry) (s : ℕ) → live_from b es s ≡ true → b ≡ false → list_any (is_same s) (opened_sessions es) ≡ true
-live_opened b [] s lives none = absurd (false≢true (sym none ∙ lives))
-live_opened b (Epoch number ∷ es) s lives none = live_opened b es s lives none
-live_opened b (Opened session app ∷ es) s lives none =
-    or_other (s == session) (list_any (is_same s) (opened_sessions es))
-    (λ other.
-    live_opened (if session == s then true else b) es s lives
-    (ap (λ (t : Bool). if t then true else b) (ne_eqb session s (λ same. false≢true (sym other ∙ eq-eqb s session (sym same)))) ∙ none))
-live_opened b (Closed session ∷ es) s lives none = live_opened (if session == s then false else b) es s lives (go (session == s))
-  where
-    go : (t : Bool) → (if t then false else b) ≡ false
-    go true = refl
-    go false = none
-live_opened b (Update session w job txn op ∷ es) s lives none = live_opened b es s lives none
-live_opened b (Commit session w job txn ∷ es) s lives none = live_opened b es s lives none
-live_opened b (Rollback session w job txn ∷ es) s lives none = live_opened b es s lives none
-
-among_filtered : (p : ℕ → Bool) (xs : List ℕ) (s : ℕ) → p s ≡ true → list_any (is_same s) xs ≡ true → list_any (is_same s) (filter p xs) ≡ true
-among_filtered p [] s is there = absurd (false≢true there)
-among_filtered p (k ∷ ks) s is there = go (p k) refl (s == k) refl there (among_filtered p ks s is)
-  where
-    go : (t : Bool) → p k ≡ t → (b : Bool) → (s == k) ≡ b → (b || list_any (is_same s) ks) ≡ true
-        → (list_any (is_same s) ks ≡ true → list_any (is_same s) (filter p ks) ≡ true)
-        → list_any (is_same s) (cond t (k ∷ filter p ks) (filter p ks)) ≡ true
-    go true passes true same found more = ap (λ (b : Bool). b || list_any (is_same s) (filter p ks)) same
-    go true passes false other found more = ap (λ (b : Bool). b || list_any (is_same s) (filter p ks)) other ∙ more found
-    go false fails true same found more = absurd (false≢true (sym fails ∙ ap p (sym (eqb-true s k same)) ∙ is))
-    go false fails false other found more = more found
-
-none_passes : (p : ℕ → Bool) (xs : List ℕ) (s : ℕ) → filter p xs ≡ [] → list_any (is_same s) xs ≡ true → p s ≡ false
-none_passes p [] s none there = absurd (false≢true there)
-none_passes p (k ∷ ks) s none there = go (p k) refl none (s == k) refl there (none_passes p ks s)
-  where
-    go : (t : Bool) → p k ≡ t → cond t (k ∷ filter p ks) (filter p ks) ≡ [] → (b : Bool) → (s == k) ≡ b → (b || list_any (is_same s) ks) ≡ true
-        → (filter p ks ≡ [] → list_any (is_same s) ks ≡ true → p s ≡ false) → p s ≡ false
-    go true passes some b same found more = absurd (cc (some))
-    go false fails none_of true same found more = ap p (eqb-true s k same) ∙ fails
-    go false fails none_of false other found more = more none_of found
-
--- A live session that the round doesn't await learnt of the order.
-over_learnt : (v : Server) (x : Site) (n : DataState) → IsOrdered n.order → ((s : ℕ) → LaneCounts (x.lane_at s x.past)) → RoundIs v n (λ q. x.lane_at q x.past) → (r : Round)
-    → n.round ≡ Some r → is_over r ≡ true → (app s : ℕ) → live_session n.order app ≡ Some s → HasLearnt x s
-over_learnt v x n ordered counts round r its over app s has =
-    done_learnt x s (counts s)
-    (none_passes (is_undone (λ q. x.lane_at q x.past)) (live_sessions n.order) s
-    (sym (of_some (λ (r : Round). r.awaited ≡ filter (is_undone (λ q. x.lane_at q x.past)) (live_sessions n.order)) n.round r its round.awaited) ∙ empty r.awaited over)
-    (among_filtered (live n.order) (opened_sessions n.order) s lives (live_opened false n.order s lives refl)))
-  where
-    lives : live n.order s ≡ true
-    lives = (ordered_one_live n.order ordered).lives app s has
-
-    empty : (xs : List ℕ) → (length xs == 0) ≡ true → xs ≡ []
-    empty [] is = refl
-    empty (k ∷ ks) is = absurd (omega (arith, eqb-true (length (k ∷ ks)) 0 is))
 
 -- a session of which a save covers an item learnt of the order
 saved_learnt : (x : Site) (n : DataState) (upto : ℕ) → ((s : ℕ) → (x.lane_at s x.past).began ≡ None → has_item_of (drop n.synced n.order) s ≡ false)
@@ -203,7 +127,7 @@ save_goes x n b within callers differ learnt inv = record {
   noted = inv.noted;
   requests = inv.requests;
   replies = inv.replies;
-  there = λ k. ap (λ (ks : List Conn). is_some (option_map role_in (find (is_conn k) ks))) inv.conns;
+  conns = inv.conns;
   longer = omega (arith, ap (λ (es : List Entry). length es) inv.order);
   within = subst Within (sym inv.order) within;
   callers =

@@ -145,11 +145,11 @@ module _ (P : ℕ → Type 0) where
   abbrev Requests : List Request → Type 0
   Requests rs = AllByRecursion (λ (r : Request). P r.who.session) rs
 
-  record FreedAll (f : Freed) : Type 0 where
-    left : Requests f.locks.requests
-    given : Requests f.grants
+  pub record FreedAll (f : Freed) : Type 0 where
+    pub left : Requests f.locks.requests
+    pub given : Requests f.grants
 
-  pass_all : (l : Locks) (left given rs : List Request) (at : ℕ) → Requests left → Requests given → Requests rs → FreedAll (pass l left given rs at)
+  pub pass_all : (l : Locks) (left given rs : List Request) (at : ℕ) → Requests left → Requests given → Requests rs → FreedAll (pass l left given rs at)
   pass_all l left given [] at lefts gives rest = record { left = lefts; given = gives }
   pass_all l left given (r ∷ rs) at lefts gives rest =
       go (waits l.holds left r) (pass_all l (left ++ r ∷ []) given rs at (all_one_more (λ (q : Request). P q.who.session) left r lefts rest.0) gives rest.1)

@@ -29,7 +29,7 @@ abbrev pub site_taken : Site → ℕ → Linked → Option Linked → Site
 site_taken x conn l named = at_link (Some l) (up_taken x.past conn) (at_conn conn (linked_if named) x)
 
 module _ (v : Server) (x : Site) (dead : ℕ → Bool) (conn : ℕ) (l : Linked) (named : Option Linked) (f : UpFrame) (n : DataState) (linked : link_of x conn ≡ Some l)
-  (next : NextFrame x l f) (runs : x.node ≡ Some n) (is : DialsAre v x dead)
+    (next : NextFrame x l f) (runs : x.node ≡ Some n) (is : DialsAre v x dead)
   where
     abbrev y : Site
     y = site_taken x conn l named
@@ -43,7 +43,7 @@ module _ (v : Server) (x : Site) (dead : ℕ → Bool) (conn : ℕ) (l : Linked)
         go None none = absurd (false≢true none)
         go (Some j) some = refl
 
-    connections : (k : ℕ) → y.connection_at k ≡ x.connection_at k
+    pub connections : (k : ℕ) → y.connection_at k ≡ x.connection_at k
     connections k = go (k == conn) refl
       where
         go : (b : Bool) → (k == conn) ≡ b → (if b then option_map (linked_if named) (x.connection_at k) else x.connection_at k) ≡ x.connection_at k

@@ -1,16 +1,18 @@
 -- Steps of a data server that keep the connections of each pair, where the invariant holds before them and the trail stays a run.
-use Rattle.std.specs.Prelude.{ℕ, List}
+use Rattle.std.specs.Prelude.{◌≡◌, ℕ, List, Some}
 use Rattle.plain_orders.specs.declared.act.Act.{Act}
 use Rattle.plain_orders.specs.declared.layout.Layout.{Layout}
 use Rattle.plain_runs.specs.Run.{IsRun}
+use Rattle.ecp_messages.specs.declared.up.UpFrame.{UpFrame}
 use Rattle.data_rules.specs.declared.data_in.DataIn.{DataIn}
 use Rattle.data_rules.specs.declared.data_in.DataIn.TheVariants as data_in
 use Rattle.cluster_runs.specs.declared.move_outs.MoveOuts.{MoveOuts}
 use Rattle.cluster_runs.specs.declared.moves.Move.TheVariants.{Server}
-use Rattle.cluster_runs.specs.CoresState.{CoresState}
+use Rattle.cluster_runs.specs.CoresState.{CoresState, Linked}
 use Rattle.cluster_runs.specs.Moves.{Allowed}
 use Rattle.cluster_runs.specs.Mirrors.{Mirrors}
 use Rattle.cluster_runs.specs.Machine.{Machine}
+use Rattle.cluster_runs.specs.Connections.{link_of}
 use Rattle.cluster_runs.specs.Goes.{ServerGoes}
 use Rattle.cluster_invariant.specs.Holds.{Holds}
 use Rattle.dials_kept.specs.Laws.{EachDialsAre}
@@ -36,3 +38,9 @@ ServerTicksKeepDials = StepKeepsDials data_in.Tick
 -- A save does.
 abbrev pub SavesKeepDials : Type 0
 SavesKeepDials = (upto : ℕ) → StepKeepsDials (data_in.Saved upto)
+
+-- A frame on a connection of which a first frame was taken does.
+abbrev pub FramesKeepDials : Type 0
+FramesKeepDials = (conn : ℕ) (frame : UpFrame) (link : Linked) (l : Layout) (c : CoresState) (m : Machine) (server now : ℕ) (outs : MoveOuts) (written : List Act) (new : Machine)
+    → Holds l m → IsRun l m.trail → IsRun l new.trail → Mirrors c m → Allowed c (Server server now (data_in.Frame conn frame))
+    → ServerGoes m server now (data_in.Frame conn frame) outs written new → link_of (m.site_at server) conn ≡ Some link → EachDialsAre l new
