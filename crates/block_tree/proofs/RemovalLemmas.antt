@@ -1,0 +1,108 @@
+-- The pairs of a span, removed one after another by their keys, are those pairs, and what is left is what is out of the span.
+use Rattle.std.proofs.Common.{◌≡◌, ◌-◌, ◌++◌, ℕ, Bool, true, false, not, cond, List, [], ◌∷◌, Some, refl, sym, ap, ◌∙◌, arith}
+use Rattle.std.specs.List.{filter}
+use Rattle.std.specs.Map.{keys_of}
+use Rattle.std.specs.Ordering.{is_eq, is_lt, is_gt}
+use Rattle.std.proofs.lemmas.Bool.{and_parts}
+use Rattle.std.proofs.lemmas.List.Filters.{sum_by-filter_both}
+use Rattle.subscript_keys.specs.declared.span.Span.{Span}
+use Rattle.subscript_keys.proofs.Ties.{itself}
+use Rattle.plain_orders.specs.PairMap.{Map, key_cmp, value_at, remove, is_in, within}
+use Rattle.plain_orders.proofs.Values.{its_key}
+use Rattle.span_index.proofs.KeyLemmas.{not_true, below_along}
+use Rattle.block_tree.specs.declared.leaf.Leaf.{Leaf}
+use Rattle.block_tree.specs.TreeWords.{is_out, without, size, size_of}
+use Rattle.block_tree.specs.LeafWords.{begin_of, IsLeaf, AreLeaves}
+use Rattle.block_tree.specs.Removals.{all_removed, all_found, found_with, bytes_left, bytes_without}
+use Rattle.block_tree.proofs.SizeLemmas.{more, fewer}
+
+no_true : (b : Bool) → (b ≡ true → ⊥) → b ≡ false
+no_true true f = absurd (f refl)
+no_true false f = refl
+
+first_passes : (f : List ℕ × List ℕ → Bool) (m : Map) (p : List ℕ × List ℕ) (ps : Map) → filter f m ≡ p ∷ ps → f p ≡ true
+first_passes f [] p ps e = absurd (cc)
+first_passes f (q ∷ qs) p ps e = go (f q) refl e (first_passes f qs p ps)
+  where
+    go : (b : Bool) → f q ≡ b → cond b (q ∷ filter f qs) (filter f qs) ≡ p ∷ ps → (filter f qs ≡ p ∷ ps → f p ≡ true) → f p ≡ true
+    go true t e rest = let same : q ≡ p = cc in ap f (sym same) ∙ t
+    go false t e rest = rest e
+
+module _ (span : Span) where
+  -- the first pair of the span, removed by its key
+  step : (m : Map) (p : List ℕ × List ℕ) (ps : Map) → within m span ≡ p ∷ ps → (value_at m p.0 ≡ Some p.1) × (within (remove m p.0) span ≡ ps) × (without (remove m p.0) span ≡ without m span)
+  step [] p ps e = absurd (cc)
+  step (q ∷ qs) p ps e = go (is_in span q) refl e (step qs p ps)
+    where
+      go : (b : Bool) → is_in span q ≡ b → cond b (q ∷ within qs span) (within qs span) ≡ p ∷ ps
+          → (within qs span ≡ p ∷ ps → (value_at qs p.0 ≡ Some p.1) × (within (remove qs p.0) span ≡ ps) × (without (remove qs p.0) span ≡ without qs span))
+          → (value_at (q ∷ qs) p.0 ≡ Some p.1) × (within (remove (q ∷ qs) p.0) span ≡ ps) × (without (remove (q ∷ qs) p.0) span ≡ without (q ∷ qs) span)
+      go true t e rest =
+          let same : q ≡ p = cc in
+          let others : within qs span ≡ ps = cc in
+          let here : is_eq (key_cmp p.0 q.0) ≡ true = ap (λ k. is_eq (key_cmp p.0 k.0)) same ∙ ap is_eq (itself p.0) in
+          rw (here, t) (ap (λ x. Some x.1) same, others, refl)
+      go false t e rest =
+          let r = rest e in
+          let passes = first_passes (is_in span) qs p ps e in
+          let apart : is_eq (key_cmp p.0 q.0) ≡ false = no_true (is_eq (key_cmp p.0 q.0)) (λ x. clash passes (its_key p.0 q.0 x)) in
+          rw (apart, t) (r.0, r.1, ap (λ xs. q ∷ xs) r.2)
+        where
+          clash : is_in span p ≡ true → p.0 ≡ q.0 → ⊥
+          clash x y = let z : is_in span p ≡ is_in span q = ap (λ k. is_in span (k, [])) y in cc
+
+  none_in : (m : Map) → within m span ≡ [] → m ≡ without m span
+  none_in [] e = refl
+  none_in (q ∷ qs) e = go (is_in span q) e (none_in qs)
+    where
+      go : (b : Bool) → cond b (q ∷ within qs span) (within qs span) ≡ [] → (within qs span ≡ [] → qs ≡ without qs span) → q ∷ qs ≡ cond (not b) (q ∷ without qs span) (without qs span)
+      go true e rest = absurd (cc)
+      go false e rest = ap (λ xs. q ∷ xs) (rest e)
+
+  -- all of them
+  removals : (m ps : Map) → within m span ≡ ps → (all_removed m (keys_of ps) ≡ without m span) × (all_found m (keys_of ps) ≡ ps)
+  removals m [] e = (none_in m e, refl)
+  removals m (p ∷ ps) e =
+      let s = step m p ps e in
+      let r = removals (remove m p.0) ps s.1 in
+      (r.0 ∙ s.2, ap (λ o. found_with p.0 o ++ all_found (remove m p.0) (keys_of ps)) s.0 ∙ ap (λ xs. p ∷ xs) r.1)
+
+  left_from : (bytes : ℕ) (m ps : Map) → within m span ≡ ps → bytes_left bytes m (keys_of ps) ≡ bytes - size ps
+  left_from bytes m [] e = omega arith
+  left_from bytes m (p ∷ ps) e =
+      let s = step m p ps e in
+      let r = left_from (bytes - size_of p) (remove m p.0) ps s.1 in
+      let less : bytes - size_of p - size ps ≡ bytes - size (p ∷ ps) = omega (arith, more p ps) in
+      ap (λ o. bytes_left (bytes_without bytes p.0 o) (remove m p.0) (keys_of ps)) s.0 ∙ r ∙ less
+
+  -- so the pairs of a span are found and removed, and the count is that of what is left
+  pub all_of_span_removed : (m : Map) → all_removed m (keys_of (within m span)) ≡ without m span
+  all_of_span_removed m = (removals m (within m span) refl).0
+
+  pub all_of_span_found : (m : Map) → all_found m (keys_of (within m span)) ≡ within m span
+  all_of_span_found m = (removals m (within m span) refl).1
+
+  pub count_left : (bytes : ℕ) (m : Map) → bytes ≡ size m → bytes_left bytes m (keys_of (within m span)) ≡ size (without m span)
+  count_left bytes m e =
+      let both = sum_by-filter_both (is_in span) (is_out span) (λ p. refl) size_of m in
+      omega (arith, left_from bytes m (within m span) refl, both, e)
+
+-- no pair is in an empty span
+pub empty_span : (span : Span) (m : Map) → is_lt (key_cmp span.lo span.hi) ≡ false → (within m span ≡ []) × (without m span ≡ m)
+empty_span span [] e = (refl, refl)
+empty_span span (p ∷ ps) e =
+    let rest = empty_span span ps e in
+    let out : is_in span p ≡ false = no_true (is_in span p) (λ t. let parts = and_parts (not (is_gt (key_cmp span.lo p.0))) (is_lt (key_cmp p.0 span.hi)) t in let full = below_along span.lo p.0 span.hi (not_true (is_gt (key_cmp span.lo p.0)) parts.0) parts.1 in cc (full, e)) in
+    rw out (rest.0, ap (λ xs. p ∷ xs) rest.1)
+
+-- leaves of fewer pairs
+pub fewer_leaves : (f : List ℕ × List ℕ → Bool) (m : Map) (ls : List Leaf) → AreLeaves m ls → AreLeaves (filter f m) ls
+fewer_leaves f m [] a = tt
+fewer_leaves f m (l ∷ ls) a =
+    let leaf : IsLeaf (filter f m) l (begin_of ls) = record {
+      full = a.0.full;
+      short = a.0.short;
+      counted = omega (arith, a.0.counted, fewer f (is_in (record { lo = l.lo; hi = begin_of ls })) m);
+      fits = a.0.fits;
+    } in
+    (leaf, fewer_leaves f m ls a.1)

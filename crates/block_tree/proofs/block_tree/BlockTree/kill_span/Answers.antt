@@ -1,0 +1,46 @@
+use Rattle.std.proofs.Common.{◌≡◌, ◌∙◌, false, map, sym, ap, rules}
+use Rattle.std.specs.Ordering.{is_lt}
+use Rattle.plain_orders.specs.PairMap.{key_cmp}
+use Rattle.block_tree.specs.TreeWords.{as_pair, is_out, without, size}
+use Rattle.block_tree.specs.Removals.{all_removed, all_found, bytes_left}
+use Rattle.block_tree.proofs.RemovalLemmas.{all_of_span_removed, all_of_span_found, count_left, fewer_leaves, empty_span}
+use Rattle.block_tree.proofs.block_tree.BlockTree.kill_span.Goals as goal
+
+pub returns-then-ge-clause-removed : goal.returns-then-ge-clause-removed
+returns-then-ge-clause-removed c =
+    let empty : is_lt (key_cmp c.args.span.now.lo c.args.span.now.hi) ≡ false = search rules in
+    c.new.ensures ∙ ap (map as_pair) (sym (empty_span c.args.span.now c.args.self.now empty).0)
+
+pub returns-then-ge-clause-ok : goal.returns-then-ge-clause-ok
+returns-then-ge-clause-ok c =
+    let empty : is_lt (key_cmp c.args.span.now.lo c.args.span.now.hi) ≡ false = search rules in
+    sym (empty_span c.args.span.now c.args.self.now empty).1
+
+pub tidy-requires-clause-leaves : goal.tidy-requires-clause-leaves
+tidy-requires-clause-leaves c =
+    let m = c.self.inside.pairs.entries in
+    let span = c.args.span.now in
+    let left : c.remove_all.new.pairs.entries ≡ without m span = c.remove_all.ensures.pairs ∙ ap (all_removed m) c.in_ok-keys.ensures ∙ all_of_span_removed span m in
+    rw left (fewer_leaves (is_out span) m c.self.inside.leaves c.self.invariant.leaves)
+
+pub invariant_of-self : goal.invariant_of-self
+invariant_of-self c =
+    let m = c.self.inside.pairs.entries in
+    let span = c.args.span.now in
+    let left : c.remove_all.new.pairs.entries ≡ without m span = c.remove_all.ensures.pairs ∙ ap (all_removed m) c.in_ok-keys.ensures ∙ all_of_span_removed span m in
+    record {
+      leaves = c.tidy.ensures.leaves;
+      begins = c.tidy.ensures.begins;
+      counted = c.remove_all.ensures.bytes ∙ ap (bytes_left c.self.inside.bytes m) c.in_ok-keys.ensures ∙ count_left span c.self.inside.bytes m c.self.invariant.counted ∙ ap size (sym left);
+    }
+
+pub returns-clause-removed : goal.returns-clause-removed
+returns-clause-removed c =
+    let m = c.self.inside.pairs.entries in
+    rw (← c.self.view_is)
+    (c.from_vec.ensures ∙ rw c.in_ok-removed.ensures.items at c.remove_all.ensures.removed ∙ ap (λ ks. map as_pair (all_found m ks)) c.in_ok-keys.ensures ∙ ap (map as_pair) (all_of_span_found c.args.span.now m))
+
+pub returns-clause-ok : goal.returns-clause-ok
+returns-clause-ok c =
+    let m = c.self.inside.pairs.entries in
+    rw (← c.self.view_is) (c.remove_all.ensures.pairs ∙ ap (all_removed m) c.in_ok-keys.ensures ∙ all_of_span_removed c.args.span.now m)
