@@ -6,3 +6,4 @@ pub mod CutLemmas
 pub mod PutLemmas
 pub mod RemovalLemmas
 pub mod RunLemmas
+pub mod EndLemmas

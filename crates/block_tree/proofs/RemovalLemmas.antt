@@ -1,20 +1,29 @@
 -- The pairs of a span, removed one after another by their keys, are those pairs, and what is left is what is out of the span.
-use Rattle.std.proofs.Common.{◌≡◌, ◌-◌, ◌++◌, ℕ, Bool, true, false, not, cond, List, [], ◌∷◌, Some, refl, sym, ap, ◌∙◌, arith}
+use Rattle.std.proofs.Common.{◌≡◌, ◌<◌, ◌+◌, ◌-◌, ◌++◌, ℕ, Bool, true, false, not, cond, List, [], ◌∷◌, Some, length, drop, refl, sym, ap, ◌∙◌, arith}
 use Rattle.std.specs.List.{filter}
 use Rattle.std.specs.Map.{keys_of}
 use Rattle.std.specs.Ordering.{is_eq, is_lt, is_gt}
-use Rattle.std.proofs.lemmas.Bool.{and_parts}
+use Rattle.std.proofs.lemmas.Bool.{and_parts, and_from}
 use Rattle.std.proofs.lemmas.List.Filters.{sum_by-filter_both}
 use Rattle.subscript_keys.specs.declared.span.Span.{Span}
 use Rattle.subscript_keys.proofs.Ties.{itself}
 use Rattle.plain_orders.specs.PairMap.{Map, key_cmp, value_at, remove, is_in, within}
 use Rattle.plain_orders.proofs.Values.{its_key}
-use Rattle.span_index.proofs.KeyLemmas.{not_true, below_along}
+use Rattle.span_index.proofs.KeyLemmas.{is_lt-is_gt, not_true, not_above_along, below_along}
 use Rattle.block_tree.specs.declared.leaf.Leaf.{Leaf}
 use Rattle.block_tree.specs.TreeWords.{is_out, without, size, size_of}
-use Rattle.block_tree.specs.LeafWords.{begin_of, IsLeaf, AreLeaves}
+use Rattle.block_tree.specs.LeafWords.{begin_of, first_bytes, span_from, united, IsLeaf, AreLeaves, IsInLeaf, AreFreed}
+use Rattle.block_tree.proofs.LeafLemmas.{leaf_there, counted_leaves}
 use Rattle.block_tree.specs.Removals.{all_removed, all_found, found_with, bytes_left, bytes_without}
 use Rattle.block_tree.proofs.SizeLemmas.{more, fewer}
+
+-- below one that isn't above another
+below_by : (x y z : List ℕ) → is_lt (key_cmp x y) ≡ true → is_gt (key_cmp y z) ≡ false → is_lt (key_cmp x z) ≡ true
+below_by x y z l h = is_lt-is_gt x z ∙ go (is_gt (key_cmp z x)) refl
+  where
+    go : (b : Bool) → is_gt (key_cmp z x) ≡ b → b ≡ true
+    go true e = refl
+    go false e = let up = not_above_along y z x h e in absurd (let t = sym (is_lt-is_gt x y) ∙ l in cc)
 
 no_true : (b : Bool) → (b ≡ true → ⊥) → b ≡ false
 no_true true f = absurd (f refl)
@@ -106,3 +115,37 @@ fewer_leaves f m (l ∷ ls) a =
       fits = a.0.fits;
     } in
     (leaf, fewer_leaves f m ls a.1)
+
+-- what is freed in a span that holds another
+freed_within : (span leaf : Span) → ((p : List ℕ × List ℕ) → is_in span p ≡ true → is_in leaf p ≡ true) → (m : Map) → size (within (without m span) leaf) + size (within m span) ≡ size (within m leaf)
+freed_within span leaf h [] = omega arith
+freed_within span leaf h (p ∷ ps) = go (is_in span p) (is_in leaf p) refl refl (freed_within span leaf h ps)
+  where
+    go : (a b : Bool) → is_in span p ≡ a → is_in leaf p ≡ b → size (within (without ps span) leaf) + size (within ps span) ≡ size (within ps leaf)
+        → size (within (cond (not a) (p ∷ without ps span) (without ps span)) leaf) + size (cond a (p ∷ within ps span) (within ps span)) ≡ size (cond b (p ∷ within ps leaf) (within ps leaf))
+    go true true e f ih = omega (arith, ih, more p (within ps span), more p (within ps leaf))
+    go true false e f ih = absurd (let t = h p e in cc)
+    go false true e f ih = rw f (omega (arith, ih, more p (within (without ps span) leaf), more p (within ps leaf)))
+    go false false e f ih = rw f ih
+
+pub all_freed : (m : Map) (ls : List Leaf) (span : Span) (freed : ℕ) → AreLeaves m ls → freed ≡ size (within m span) → AreFreed (without m span) ls span freed
+all_freed m ls span freed a e at h inside =
+    let leaf = leaf_there m ls at h a in
+    let s : Span = span_from ls at (at + 1) in
+    omega (arith, leaf.counted, e, freed_within span s wider m)
+  where
+    wider : (p : List ℕ × List ℕ) → is_in span p ≡ true → is_in (span_from ls at (at + 1)) p ≡ true
+    wider p t =
+        let parts = and_parts (not (is_gt (key_cmp span.lo p.0))) (is_lt (key_cmp p.0 span.hi)) t in
+        and_from _ _ (ap not (not_above_along (begin_of (drop at ls)) span.lo p.0 inside.from (not_true (is_gt (key_cmp span.lo p.0)) parts.0)))
+        (below_by p.0 span.hi (begin_of (drop (at + 1) ls)) parts.1 inside.to)
+
+-- the bytes that are freed are those of the pairs of the span
+pub freed_bytes : (m : Map) (span : Span) (before after : ℕ) → before ≡ size m → after ≡ size (without m span) → before - after ≡ size (within m span)
+freed_bytes m span before after e f = omega (arith, e, f, sum_by-filter_both (is_in span) (is_out span) (λ p. refl) size_of m)
+
+-- fewer bytes are taken where so many are freed
+pub freed_leaves : (m : Map) (ls : List Leaf) (span : Span) (freed at bytes : ℕ) → AreLeaves m ls → AreFreed m ls span freed → at < length ls → IsInLeaf span ls at → bytes ≡ first_bytes (drop at ls) - freed → AreLeaves m (united ls at (at + 1) bytes)
+freed_leaves m ls span freed at bytes a f h inside e =
+    let leaf = leaf_there m ls at h a in
+    counted_leaves m ls at bytes h a (omega (arith, f at h inside, e)) (omega (arith, leaf.fits, e))

@@ -76,6 +76,15 @@ pub record IsRoom (m : Map) (key : List ℕ) (needed : ℕ) (ls : List Leaf) (ro
   pub counted : size (others (within m (span_from ls room.at (room.at + 1))) key) + needed ≤ room.bytes
   pub fits : room.bytes ≤ LEAF_ROOM
 
+-- a span is in the leaf at a place
+pub record IsInLeaf (span : Span) (ls : List Leaf) (at : ℕ) : Type 0 where
+  pub from : is_gt (key_cmp (begin_of (drop at ls)) span.lo) ≡ false
+  pub to : is_gt (key_cmp span.hi (begin_of (drop (at + 1) ls))) ≡ false
+
+-- the pairs of a leaf that the span is in take so many bytes less than was counted
+abbrev pub AreFreed : Map → List Leaf → Span → ℕ → Type 0
+AreFreed m ls span freed = (at : ℕ) → at < length ls → IsInLeaf span ls at → size (within m (span_from ls at (at + 1))) + freed ≤ first_bytes (drop at ls)
+
 -- the pairs of the leaves, and how many bytes they take
 pub record IsTree (m : Map) (ls : List Leaf) (bytes : ℕ) : Type 0 where
   pub leaves : AreLeaves m ls

@@ -145,8 +145,10 @@ impl BlockTree {
         }
         let keys = keys_in(alloc, &self.pairs, span)?;
         let mut removed = Vec::with_capacity(alloc, keys.len())?;
+        let bytes = self.bytes;
         remove_all(&mut self.pairs, &mut self.bytes, keys, &mut removed);
-        tidy(&self.pairs, &mut self.leaves, span);
+        let freed = bytes.saturating_sub(self.bytes);
+        tidy(&self.pairs, &mut self.leaves, span, freed);
         Ok(Pairs::from_vec(removed))
     }
 }

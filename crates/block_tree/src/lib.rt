@@ -12,6 +12,7 @@
 
 mod block_tree;
 mod copying;
+mod key_end;
 mod leaf;
 mod leaves;
 mod limits;
@@ -22,3 +23,4 @@ mod sizes;
 mod tidying;
 
 pub use block_tree::BlockTree;
+pub use key_end::{is_before_end, keys_are_before_end};

@@ -33,7 +33,12 @@ pub fn make_room(
     if let Some(room) = find_room(pairs, leaves, key, needed) {
         return Ok(room);
     }
-    halve(pairs, leaves, leaves.place_of(key))?;
+    let at = leaves.place_of(key);
+    count_anew(pairs, leaves, at);
+    if let Some(room) = find_room(pairs, leaves, key, needed) {
+        return Ok(room);
+    }
+    halve(pairs, leaves, at)?;
     if let Some(room) = find_room(pairs, leaves, key, needed) {
         return Ok(room);
     }
@@ -61,7 +66,7 @@ fn find_room(
 }
 
 /// Counts the bytes of a leaf anew.
-pub fn count_anew(pairs: &BTreeMap<KeyBytes, ValueBytes>, leaves: &mut Leaves, at: usize)
+fn count_anew(pairs: &BTreeMap<KeyBytes, ValueBytes>, leaves: &mut Leaves, at: usize)
     requires leaves { AreLeaves pairs.now.entries leaves.old }
     requires at { at < length leaves.old }
     ensures leaves { AreLeaves pairs.now.entries leaves.new }

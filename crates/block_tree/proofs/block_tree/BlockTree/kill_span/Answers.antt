@@ -1,9 +1,9 @@
 use Rattle.std.proofs.Common.{◌≡◌, ◌∙◌, false, map, sym, ap, rules}
 use Rattle.std.specs.Ordering.{is_lt}
-use Rattle.plain_orders.specs.PairMap.{key_cmp}
+use Rattle.plain_orders.specs.PairMap.{key_cmp, within}
 use Rattle.block_tree.specs.TreeWords.{as_pair, is_out, without, size}
 use Rattle.block_tree.specs.Removals.{all_removed, all_found, bytes_left}
-use Rattle.block_tree.proofs.RemovalLemmas.{all_of_span_removed, all_of_span_found, count_left, fewer_leaves, empty_span}
+use Rattle.block_tree.proofs.RemovalLemmas.{all_of_span_removed, all_of_span_found, count_left, fewer_leaves, empty_span, all_freed, freed_bytes}
 use Rattle.block_tree.proofs.block_tree.BlockTree.kill_span.Goals as goal
 
 pub returns-then-ge-clause-removed : goal.returns-then-ge-clause-removed
@@ -22,6 +22,15 @@ tidy-requires-clause-leaves c =
     let span = c.args.span.now in
     let left : c.remove_all.new.pairs.entries ≡ without m span = c.remove_all.ensures.pairs ∙ ap (all_removed m) c.in_ok-keys.ensures ∙ all_of_span_removed span m in
     rw left (fewer_leaves (is_out span) m c.self.inside.leaves c.self.invariant.leaves)
+
+pub tidy-requires-clause-freed : goal.tidy-requires-clause-freed
+tidy-requires-clause-freed c =
+    let m = c.self.inside.pairs.entries in
+    let span = c.args.span.now in
+    let left : c.remove_all.new.pairs.entries ≡ without m span = c.remove_all.ensures.pairs ∙ ap (all_removed m) c.in_ok-keys.ensures ∙ all_of_span_removed span m in
+    let count : c.remove_all.new.bytes ≡ size (without m span) = c.remove_all.ensures.bytes ∙ ap (bytes_left c.self.inside.bytes m) c.in_ok-keys.ensures ∙ count_left span c.self.inside.bytes m c.self.invariant.counted in
+    let freed : c.saturating_sub-freed.result ≡ size (within m span) = c.saturating_sub-freed.ensures ∙ freed_bytes m span c.self.inside.bytes c.remove_all.new.bytes c.self.invariant.counted count in
+    rw left (all_freed m c.self.inside.leaves span c.saturating_sub-freed.result c.self.invariant.leaves freed)
 
 pub invariant_of-self : goal.invariant_of-self
 invariant_of-self c =
