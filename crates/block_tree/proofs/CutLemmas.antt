@@ -23,25 +23,30 @@ less_from Equal e = absurd (cc)
 less_from Greater e = absurd (cc)
 
 -- a span that ends sooner takes no more
-pub sooner : (m : Map) (lo key hi : List ℕ) → key_cmp key hi ≡ Less → size (within m (record { lo = lo; hi = key })) ≤ size (within m (record { lo = lo; hi = hi }))
+pub sooner : (m : Map) (lo key hi : List ℕ) → key_cmp key hi ≡ Less
+    → size (within m (record { lo = lo; hi = key })) ≤ size (within m (record { lo = lo; hi = hi }))
 sooner m lo key hi h = narrower _ _ wider m
   where
-    wider : (p : List ℕ × List ℕ) → (not (is_gt (key_cmp lo p.0)) && is_lt (key_cmp p.0 key)) ≡ true → (not (is_gt (key_cmp lo p.0)) && is_lt (key_cmp p.0 hi)) ≡ true
+    wider : (p : List ℕ × List ℕ) → (not (is_gt (key_cmp lo p.0)) && is_lt (key_cmp p.0 key)) ≡ true
+        → (not (is_gt (key_cmp lo p.0)) && is_lt (key_cmp p.0 hi)) ≡ true
     wider p e =
         let t = and_parts (not (is_gt (key_cmp lo p.0))) (is_lt (key_cmp p.0 key)) e in
         and_from _ _ t.0 (ap is_lt (nat_list_cmp_total.trans p.0 key hi (less_from (key_cmp p.0 key) t.1) h))
 
 -- and one that begins later
-pub later : (m : Map) (lo key hi : List ℕ) → key_cmp lo key ≡ Less → size (within m (record { lo = key; hi = hi })) ≤ size (within m (record { lo = lo; hi = hi }))
+pub later : (m : Map) (lo key hi : List ℕ) → key_cmp lo key ≡ Less
+    → size (within m (record { lo = key; hi = hi })) ≤ size (within m (record { lo = lo; hi = hi }))
 later m lo key hi h = narrower _ _ wider m
   where
-    wider : (p : List ℕ × List ℕ) → (not (is_gt (key_cmp key p.0)) && is_lt (key_cmp p.0 hi)) ≡ true → (not (is_gt (key_cmp lo p.0)) && is_lt (key_cmp p.0 hi)) ≡ true
+    wider : (p : List ℕ × List ℕ) → (not (is_gt (key_cmp key p.0)) && is_lt (key_cmp p.0 hi)) ≡ true
+        → (not (is_gt (key_cmp lo p.0)) && is_lt (key_cmp p.0 hi)) ≡ true
     wider p e =
         let t = and_parts (not (is_gt (key_cmp key p.0))) (is_lt (key_cmp p.0 hi)) e in
         and_from _ _ (ap not (not_above_along lo key p.0 (ap is_gt h) (not_true (is_gt (key_cmp key p.0)) t.0))) t.1
 
 -- a leaf that is cut
-pub cut_leaves : (m : Map) (ls : List Leaf) (at : ℕ) (key : List ℕ) → at < length ls → AreLeaves m ls → key_cmp (begin_of (drop at ls)) key ≡ Less → key_cmp key (begin_of (drop (at + 1) ls)) ≡ Less → length key ≤ EDGE_LIMIT → AreLeaves m (cut_at ls at key)
+pub cut_leaves : (m : Map) (ls : List Leaf) (at : ℕ) (key : List ℕ) → at < length ls → AreLeaves m ls → key_cmp (begin_of (drop at ls)) key ≡ Less
+    → key_cmp key (begin_of (drop (at + 1) ls)) ≡ Less → length key ≤ EDGE_LIMIT → AreLeaves m (cut_at ls at key)
 cut_leaves m ls at key h a below above short =
     let leaf = leaf_there m ls at h a in
     let lo = begin_of (drop at ls) in
@@ -97,7 +102,8 @@ module _ (ls : List Leaf) (at : ℕ) (key : List ℕ) (h : at < length ls) where
       let rest = length-drop (at + 1) ls in
       omega (arith, front, all, rest)
 
-pub holds_parts : (key : List ℕ) (ls : List Leaf) (at : ℕ) → IsPlace key ls at → (not (is_gt (key_cmp (begin_of (drop at ls)) key)) ≡ true) × (is_lt (key_cmp key (begin_of (drop (at + 1) ls))) ≡ true)
+pub holds_parts : (key : List ℕ) (ls : List Leaf) (at : ℕ) → IsPlace key ls at
+    → (not (is_gt (key_cmp (begin_of (drop at ls)) key)) ≡ true) × (is_lt (key_cmp key (begin_of (drop (at + 1) ls))) ≡ true)
 holds_parts key ls at p = and_parts (not (is_gt (key_cmp (begin_of (drop at ls)) key))) (is_lt (key_cmp key (begin_of (drop (at + 1) ls)))) p.holds
 
 -- the key is before the end of its leaf
@@ -145,7 +151,8 @@ only_it [] (b ∷ bs) h k = absurd (go (cases_order b 0) k)
 only_it (a ∷ ks) [] h k = absurd (cc)
 only_it (a ∷ ks) (b ∷ bs) h k = go (cases_order a b) h k (only_it ks bs)
   where
-    go : (a ≡ b) ⊎ (a < b) ⊎ (b < a) → is_gt (ordering_then (nat_cmp a b) (key_cmp ks bs)) ≡ false → is_lt (ordering_then (nat_cmp b a) (key_cmp bs (ks ++ 0 ∷ []))) ≡ true
+    go : (a ≡ b) ⊎ (a < b) ⊎ (b < a) → is_gt (ordering_then (nat_cmp a b) (key_cmp ks bs)) ≡ false
+        → is_lt (ordering_then (nat_cmp b a) (key_cmp bs (ks ++ 0 ∷ []))) ≡ true
         → (is_gt (key_cmp ks bs) ≡ false → is_lt (key_cmp bs (ks ++ 0 ∷ [])) ≡ true → is_eq (key_cmp ks bs) ≡ true) → is_eq (ordering_then (nat_cmp a b) (key_cmp ks bs)) ≡ true
     go (inl same) h k ih = rw (nat_cmp-eq a b same) (ih (rw (nat_cmp-eq a b same) at h) (rw (nat_cmp-eq b a (sym same)) at k))
     go (inr (inl less)) h k ih = let r = rw (nat_cmp-gt b a less) at k in absurd (cc)
@@ -155,7 +162,8 @@ none_other : (key lo hi : List ℕ) (m : Map) → lo ≡ key → is_gt (key_cmp 
 none_other key lo hi [] e k = refl
 none_other key lo hi (p ∷ ps) e k = go (is_in (record { lo = lo; hi = hi }) p) refl (none_other key lo hi ps e k)
   where
-    go : (b : Bool) → is_in (record { lo = lo; hi = hi }) p ≡ b → others (within ps (record { lo = lo; hi = hi })) key ≡ [] → others (cond b (p ∷ within ps (record { lo = lo; hi = hi })) (within ps (record { lo = lo; hi = hi }))) key ≡ []
+    go : (b : Bool) → is_in (record { lo = lo; hi = hi }) p ≡ b → others (within ps (record { lo = lo; hi = hi })) key ≡ []
+        → others (cond b (p ∷ within ps (record { lo = lo; hi = hi })) (within ps (record { lo = lo; hi = hi }))) key ≡ []
     go false t ih = ih
     go true t ih =
         let parts = and_parts (not (is_gt (key_cmp lo p.0))) (is_lt (key_cmp p.0 hi)) t in
@@ -171,7 +179,8 @@ none_other key lo hi (p ∷ ps) e k = go (is_in (record { lo = lo; hi = hi }) p)
             by false x = let up = not_above_along hi (key ++ 0 ∷ []) p.0 k x in absurd (let t = sym (is_lt-is_gt p.0 hi) ∙ below in cc)
 
 -- so a leaf of a key's own has room for its pair
-pub room_alone : (m : Map) (key : List ℕ) (needed : ℕ) (ls : List Leaf) (at : ℕ) → IsPlace key ls at → IsAlone key ls at → needed ≤ PAIR_LIMIT → IsRoom m key needed ls (record { at = at; bytes = needed })
+pub room_alone : (m : Map) (key : List ℕ) (needed : ℕ) (ls : List Leaf) (at : ℕ) → IsPlace key ls at → IsAlone key ls at → needed ≤ PAIR_LIMIT
+    → IsRoom m key needed ls (record { at = at; bytes = needed })
 room_alone m key needed ls at p a h = record {
   place = p;
   counted = rw (none_other key (begin_of (drop at ls)) (begin_of (drop (at + 1) ls)) m a.begins a.ends) (omega arith);
@@ -179,7 +188,8 @@ room_alone m key needed ls at p a h = record {
 }
 
 -- a leaf that holds the key, and where so many bytes more fit
-pub room_there : (m : Map) (key : List ℕ) (needed bytes : ℕ) (ls : List Leaf) (at : ℕ) → AreLeaves m ls → IsPlace key ls at → bytes ≡ first_bytes (drop at ls) + needed → bytes ≤ LEAF_ROOM → IsRoom m key needed ls (record { at = at; bytes = bytes })
+pub room_there : (m : Map) (key : List ℕ) (needed bytes : ℕ) (ls : List Leaf) (at : ℕ) → AreLeaves m ls → IsPlace key ls at
+    → bytes ≡ first_bytes (drop at ls) + needed → bytes ≤ LEAF_ROOM → IsRoom m key needed ls (record { at = at; bytes = bytes })
 room_there m key needed bytes ls at a p e h =
     let leaf = leaf_there m ls at p.within a in
     record {
@@ -194,11 +204,13 @@ level lo key h k Equal e = refl
 level lo key h k Greater e = absurd (let t = ap (λ o. not (is_gt o)) e in cc)
 
 -- a leaf that holds a key and doesn't begin before it begins at it
-pub begins_there : (key : List ℕ) (ls : List Leaf) (at : ℕ) → IsPlace key ls at → is_lt (key_cmp (begin_of (drop at ls)) key) ≡ false → begin_of (drop at ls) ≡ key
+pub begins_there : (key : List ℕ) (ls : List Leaf) (at : ℕ) → IsPlace key ls at → is_lt (key_cmp (begin_of (drop at ls)) key) ≡ false
+    → begin_of (drop at ls) ≡ key
 begins_there key ls at p h =
     let lo = begin_of (drop at ls) in
     exact_bytes lo key (level lo key (holds_parts key ls at p).0 h (key_cmp lo key) refl)
 
 -- and where it doesn't end behind the bytes behind the key, no other is in it
-pub alone_there : (key : List ℕ) (ls : List Leaf) (at : ℕ) → begin_of (drop at ls) ≡ key → is_lt (key_cmp (key ++ 0 ∷ []) (begin_of (drop (at + 1) ls))) ≡ false → IsAlone key ls at
+pub alone_there : (key : List ℕ) (ls : List Leaf) (at : ℕ) → begin_of (drop at ls) ≡ key
+    → is_lt (key_cmp (key ++ 0 ∷ []) (begin_of (drop (at + 1) ls))) ≡ false → IsAlone key ls at
 alone_there key ls at e h = record { begins = e; ends = sym (is_lt-is_gt (key ++ 0 ∷ []) (begin_of (drop (at + 1) ls))) ∙ h }

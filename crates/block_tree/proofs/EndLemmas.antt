@@ -28,7 +28,8 @@ below_first b bs h = go (cases_order b 0xFF)
     go (inr (inr above)) = let g = sym (ap (λ o. ordering_then o (key_cmp bs [])) (nat_cmp-gt b 0xFF above)) ∙ h in absurd (cc)
 
 -- the first byte decides
-pub first_decides : (key : List ℕ) (b : ℕ) → Some b ≡ slice_get key 0 → (IsTrue (nat_lt b 0xFF) → key_cmp key end_of_keys ≡ Less) × (key_cmp key end_of_keys ≡ Less → IsTrue (nat_lt b 0xFF))
+pub first_decides : (key : List ℕ) (b : ℕ) → Some b ≡ slice_get key 0
+    → (IsTrue (nat_lt b 0xFF) → key_cmp key end_of_keys ≡ Less) × (key_cmp key end_of_keys ≡ Less → IsTrue (nat_lt b 0xFF))
 first_decides [] b e = absurd (cc)
 first_decides (c ∷ cs) b e =
     let same : b ≡ c = cc in

@@ -23,7 +23,8 @@ from_first l [] (suc last) h r = absurd (omega arith)
 from_first l (k ∷ ls) (suc last) h r = nat_list_cmp_total.trans l.lo k.lo (begin_of (drop last ls)) r.0 (from_first k ls last (omega arith) r.1)
 
 -- some leaves begin before they end
-pub span_full : (ls : List Leaf) (first last : ℕ) → first < last → last ≤ length ls → EdgesRise ls → key_cmp (begin_of (drop first ls)) (begin_of (drop last ls)) ≡ Less
+pub span_full : (ls : List Leaf) (first last : ℕ) → first < last → last ≤ length ls → EdgesRise ls
+    → key_cmp (begin_of (drop first ls)) (begin_of (drop last ls)) ≡ Less
 span_full ls first zero h k r = absurd (omega arith)
 span_full [] first (suc last) h k r = absurd (omega arith)
 span_full (l ∷ ls) zero (suc last) h k r = from_first l ls last (omega arith) r
@@ -42,12 +43,14 @@ begin_get (l ∷ ls) zero d h = refl
 begin_get (l ∷ ls) (suc at) d h = begin_get ls at d (omega arith)
 
 -- the leaf at a place
-pub leaf_at : (m : Map) (ls : List Leaf) (at : ℕ) → at < length ls → AreLeaves m ls → IsLeaf m (record { lo = begin_of (drop at ls); bytes = first_bytes (drop at ls) }) (begin_of (drop (suc at) ls))
+pub leaf_at : (m : Map) (ls : List Leaf) (at : ℕ) → at < length ls → AreLeaves m ls
+    → IsLeaf m (record { lo = begin_of (drop at ls); bytes = first_bytes (drop at ls) }) (begin_of (drop (suc at) ls))
 leaf_at m [] at h a = absurd (omega arith)
 leaf_at m (l ∷ ls) zero h a = a.0
 leaf_at m (l ∷ ls) (suc at) h a = leaf_at m ls at (omega arith) a.1
 
-pub leaf_there : (m : Map) (ls : List Leaf) (at : ℕ) → at < length ls → AreLeaves m ls → IsLeaf m (record { lo = begin_of (drop at ls); bytes = first_bytes (drop at ls) }) (begin_of (drop (at + 1) ls))
+pub leaf_there : (m : Map) (ls : List Leaf) (at : ℕ) → at < length ls → AreLeaves m ls
+    → IsLeaf m (record { lo = begin_of (drop at ls); bytes = first_bytes (drop at ls) }) (begin_of (drop (at + 1) ls))
 leaf_there m ls at h a = rw add-one (leaf_at m ls at h a)
 
 -- those from a place on
@@ -62,13 +65,15 @@ begin_kept ls zero rest e = e
 begin_kept [] (suc at) rest e = e
 begin_kept (l ∷ ls) (suc at) rest e = refl
 
-pub rest_changed : (m : Map) (ls : List Leaf) (at : ℕ) (rest : List Leaf) → AreLeaves m ls → begin_of rest ≡ begin_of (drop at ls) → AreLeaves m rest → AreLeaves m (take at ls ++ rest)
+pub rest_changed : (m : Map) (ls : List Leaf) (at : ℕ) (rest : List Leaf) → AreLeaves m ls → begin_of rest ≡ begin_of (drop at ls) → AreLeaves m rest
+    → AreLeaves m (take at ls ++ rest)
 rest_changed m ls zero rest a e r = r
 rest_changed m [] (suc at) rest a e r = r
 rest_changed m (l ∷ ls) (suc at) rest a e r = (subst (IsLeaf m l) (sym (begin_kept ls at rest e)) a.0, rest_changed m ls at rest a.1 e r)
 
 -- some leaves made one, where their pairs fit one
-pub united_leaves : (m : Map) (ls : List Leaf) (first last bytes : ℕ) → first < last → last ≤ length ls → AreLeaves m ls → size (within m (span_from ls first last)) ≤ bytes → bytes ≤ LEAF_ROOM → AreLeaves m (united ls first last bytes)
+pub united_leaves : (m : Map) (ls : List Leaf) (first last bytes : ℕ) → first < last → last ≤ length ls → AreLeaves m ls
+    → size (within m (span_from ls first last)) ≤ bytes → bytes ≤ LEAF_ROOM → AreLeaves m (united ls first last bytes)
 united_leaves m ls first last bytes h k a counted fits =
     let leaf = leaf_at m ls first (omega arith) a in
     let one : IsLeaf m (record { lo = begin_of (drop first ls); bytes = bytes }) (begin_of (drop last ls)) = record {
@@ -83,7 +88,8 @@ pub united_begins : (ls : List Leaf) (first last bytes : ℕ) → begin_of (unit
 united_begins ls first last bytes = begin_kept ls first (record { lo = begin_of (drop first ls); bytes = bytes } ∷ drop last ls) refl
 
 -- so many bytes in one leaf
-pub counted_leaves : (m : Map) (ls : List Leaf) (at bytes : ℕ) → at < length ls → AreLeaves m ls → size (within m (span_from ls at (at + 1))) ≤ bytes → bytes ≤ LEAF_ROOM → AreLeaves m (united ls at (at + 1) bytes)
+pub counted_leaves : (m : Map) (ls : List Leaf) (at bytes : ℕ) → at < length ls → AreLeaves m ls → size (within m (span_from ls at (at + 1))) ≤ bytes
+    → bytes ≤ LEAF_ROOM → AreLeaves m (united ls at (at + 1) bytes)
 counted_leaves m ls at bytes h a counted fits = united_leaves m ls at (at + 1) bytes (omega arith) (omega arith) a counted fits
 
 pub united_length : (ls : List Leaf) (at bytes : ℕ) → at < length ls → length (united ls at (at + 1) bytes) ≡ length ls
@@ -94,7 +100,8 @@ united_length (l ∷ ls) (suc at) bytes h =
     rw next (ap suc (united_length ls at bytes (omega arith)))
 
 -- the bytes of a leaf that are counted anew fit it as before
-pub counts_anew : (m : Map) (ls : List Leaf) (at bytes : ℕ) → at < length ls → AreLeaves m ls → bytes ≡ min (size (within m (span_from ls at (at + 1)))) (2 ^ 64 - 1) → AreLeaves m (united ls at (at + 1) bytes)
+pub counts_anew : (m : Map) (ls : List Leaf) (at bytes : ℕ) → at < length ls → AreLeaves m ls
+    → bytes ≡ min (size (within m (span_from ls at (at + 1)))) (2 ^ 64 - 1) → AreLeaves m (united ls at (at + 1) bytes)
 counts_anew m ls at bytes h a e =
     let leaf = leaf_there m ls at h a in
     counted_leaves m ls at bytes h a (omega (arith, leaf.counted, leaf.fits)) (omega (arith, leaf.counted, leaf.fits))
@@ -103,7 +110,8 @@ pub leaf_full : (m : Map) (ls : List Leaf) (at : ℕ) → at < length ls → Are
 leaf_full m ls at h a = (leaf_there m ls at h a).full
 
 -- what is left of a leaf whose bytes are set
-pub set_one : (ls : List Leaf) (at bytes : ℕ) → at < length ls → slice_set ls at (record { lo = begin_of (drop at ls); bytes = bytes }) ≡ united ls at (at + 1) bytes
+pub set_one : (ls : List Leaf) (at bytes : ℕ) → at < length ls
+    → slice_set ls at (record { lo = begin_of (drop at ls); bytes = bytes }) ≡ united ls at (at + 1) bytes
 set_one [] at bytes h = absurd (omega arith)
 set_one (l ∷ ls) zero bytes h = refl
 set_one (l ∷ ls) (suc at) bytes h =
@@ -125,7 +133,8 @@ get_kept (l ∷ ls) ks (suc at) d h =
     rw next (get_kept ls ks at d (omega arith))
 
 -- a leaf put behind a place is that place's leaf cut
-pub inserted_is_cut : (ls : List Leaf) (at : ℕ) (key : List ℕ) (d : Leaf) → at < length ls → insert ls (at + 1) (record { lo = key; bytes = (get_or ls at d).bytes }) ≡ cut_at ls at key
+pub inserted_is_cut : (ls : List Leaf) (at : ℕ) (key : List ℕ) (d : Leaf) → at < length ls
+    → insert ls (at + 1) (record { lo = key; bytes = (get_or ls at d).bytes }) ≡ cut_at ls at key
 inserted_is_cut [] at key d h = absurd (omega arith)
 inserted_is_cut (l ∷ ls) zero key d h = refl
 inserted_is_cut (l ∷ ls) (suc at) key d h =

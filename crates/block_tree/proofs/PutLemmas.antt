@@ -76,7 +76,8 @@ module _ (m : Map) (key value : List ℕ) where
       (stays l (begin_of ls) out a.0, later_leaves ls (nat_list_cmp_total.trans key l.lo (begin_of ls) h a.0.full) a.1)
 
   -- and those that end at the key or before it
-  sooner_leaves : (ls : List Leaf) (at : ℕ) (rest : List Leaf) → AreLeaves m ls → is_gt (key_cmp (begin_of (drop at ls)) key) ≡ false → begin_of rest ≡ begin_of (drop at ls) → AreLeaves (put m key value) rest → AreLeaves (put m key value) (take at ls ++ rest)
+  sooner_leaves : (ls : List Leaf) (at : ℕ) (rest : List Leaf) → AreLeaves m ls → is_gt (key_cmp (begin_of (drop at ls)) key) ≡ false
+      → begin_of rest ≡ begin_of (drop at ls) → AreLeaves (put m key value) rest → AreLeaves (put m key value) (take at ls ++ rest)
   sooner_leaves ls zero rest a h e r = r
   sooner_leaves [] (suc at) rest a h e r = r
   sooner_leaves (l ∷ ls) (suc at) rest a h e r =
@@ -86,7 +87,8 @@ module _ (m : Map) (key value : List ℕ) where
       (subst (IsLeaf (put m key value) l) (sym (begin_kept ls at rest e)) (stays l (begin_of ls) out a.0), sooner_leaves ls at rest a.1 h e r)
 
   -- leaves stay where the pair is put into one that has room for it
-  pub put_leaves : (ls : List Leaf) (room : Room) → IsRising m → AreLeaves m ls → IsRoom m key (size_of (key, value)) ls room → AreLeaves (put m key value) (united ls room.at (room.at + 1) room.bytes)
+  pub put_leaves : (ls : List Leaf) (room : Room) → IsRising m → AreLeaves m ls → IsRoom m key (size_of (key, value)) ls room
+      → AreLeaves (put m key value) (united ls room.at (room.at + 1) room.bytes)
   put_leaves ls room r a h =
       let at = room.at in
       let leaf = leaf_there m ls at h.place.within a in
@@ -104,7 +106,8 @@ module _ (m : Map) (key value : List ℕ) where
       (one, later_leaves (drop (at + 1) ls) (before_end key ls at h.place) (leaves_from m ls (at + 1) a))
 
 -- and the count of all bytes
-pub put_count : (m : Map) (key value : List ℕ) (bytes needed count : ℕ) (old : Option (List ℕ)) → IsRising m → bytes ≡ size m → needed ≡ size_of (key, value) → count ≡ bytes + needed → old ≡ value_at m key → count - old_size (length key) old ≡ size (put m key value)
+pub put_count : (m : Map) (key value : List ℕ) (bytes needed count : ℕ) (old : Option (List ℕ)) → IsRising m → bytes ≡ size m
+    → needed ≡ size_of (key, value) → count ≡ bytes + needed → old ≡ value_at m key → count - old_size (length key) old ≡ size (put m key value)
 put_count m key value bytes needed count old r e n s o = go old o
   where
     go : (v : Option (List ℕ)) → v ≡ value_at m key → count - old_size (length key) v ≡ size (put m key value)

@@ -39,7 +39,8 @@ first_passes f (q ∷ qs) p ps e = go (f q) refl e (first_passes f qs p ps)
 
 module _ (span : Span) where
   -- the first pair of the span, removed by its key
-  step : (m : Map) (p : List ℕ × List ℕ) (ps : Map) → within m span ≡ p ∷ ps → (value_at m p.0 ≡ Some p.1) × (within (remove m p.0) span ≡ ps) × (without (remove m p.0) span ≡ without m span)
+  step : (m : Map) (p : List ℕ × List ℕ) (ps : Map) → within m span ≡ p ∷ ps
+      → (value_at m p.0 ≡ Some p.1) × (within (remove m p.0) span ≡ ps) × (without (remove m p.0) span ≡ without m span)
   step [] p ps e = absurd (cc)
   step (q ∷ qs) p ps e = go (is_in span q) refl e (step qs p ps)
     where
@@ -64,7 +65,8 @@ module _ (span : Span) where
   none_in [] e = refl
   none_in (q ∷ qs) e = go (is_in span q) e (none_in qs)
     where
-      go : (b : Bool) → cond b (q ∷ within qs span) (within qs span) ≡ [] → (within qs span ≡ [] → qs ≡ without qs span) → q ∷ qs ≡ cond (not b) (q ∷ without qs span) (without qs span)
+      go : (b : Bool) → cond b (q ∷ within qs span) (within qs span) ≡ [] → (within qs span ≡ [] → qs ≡ without qs span)
+          → q ∷ qs ≡ cond (not b) (q ∷ without qs span) (without qs span)
       go true e rest = absurd (cc)
       go false e rest = ap (λ xs. q ∷ xs) (rest e)
 
@@ -84,25 +86,32 @@ module _ (span : Span) where
       let less : bytes - size_of p - size ps ≡ bytes - size (p ∷ ps) = omega (arith, more p ps) in
       ap (λ o. bytes_left (bytes_without bytes p.0 o) (remove m p.0) (keys_of ps)) s.0 ∙ r ∙ less
 
-  -- so the pairs of a span are found and removed, and the count is that of what is left
-  pub all_of_span_removed : (m : Map) → all_removed m (keys_of (within m span)) ≡ without m span
-  all_of_span_removed m = (removals m (within m span) refl).0
+  -- so the pairs of a span are found and removed by these keys, and the count is that of what is left
+  module _ (m : Map) (keys : List (List ℕ)) (e : keys ≡ keys_of (within m span)) where
+    pub span_removed : all_removed m keys ≡ without m span
+    span_removed = ap (all_removed m) e ∙ (removals m (within m span) refl).0
 
-  pub all_of_span_found : (m : Map) → all_found m (keys_of (within m span)) ≡ within m span
-  all_of_span_found m = (removals m (within m span) refl).1
+    pub span_found : all_found m keys ≡ within m span
+    span_found = ap (all_found m) e ∙ (removals m (within m span) refl).1
 
-  pub count_left : (bytes : ℕ) (m : Map) → bytes ≡ size m → bytes_left bytes m (keys_of (within m span)) ≡ size (without m span)
-  count_left bytes m e =
-      let both = sum_by-filter_both (is_in span) (is_out span) (λ p. refl) size_of m in
-      omega (arith, left_from bytes m (within m span) refl, both, e)
+    pub count_left : (bytes : ℕ) → bytes ≡ size m → bytes_left bytes m keys ≡ size (without m span)
+    count_left bytes f =
+        let both = sum_by-filter_both (is_in span) (is_out span) (λ p. refl) size_of m in
+        ap (bytes_left bytes m) e ∙ omega (arith, left_from bytes m (within m span) refl, both, f)
 
 -- no pair is in an empty span
 pub empty_span : (span : Span) (m : Map) → is_lt (key_cmp span.lo span.hi) ≡ false → (within m span ≡ []) × (without m span ≡ m)
 empty_span span [] e = (refl, refl)
 empty_span span (p ∷ ps) e =
     let rest = empty_span span ps e in
-    let out : is_in span p ≡ false = no_true (is_in span p) (λ t. let parts = and_parts (not (is_gt (key_cmp span.lo p.0))) (is_lt (key_cmp p.0 span.hi)) t in let full = below_along span.lo p.0 span.hi (not_true (is_gt (key_cmp span.lo p.0)) parts.0) parts.1 in cc (full, e)) in
+    let out : is_in span p ≡ false = no_true (is_in span p) none in
     rw out (rest.0, ap (λ xs. p ∷ xs) rest.1)
+  where
+    none : is_in span p ≡ true → ⊥
+    none t =
+        let parts = and_parts (not (is_gt (key_cmp span.lo p.0))) (is_lt (key_cmp p.0 span.hi)) t in
+        let full = below_along span.lo p.0 span.hi (not_true (is_gt (key_cmp span.lo p.0)) parts.0) parts.1 in
+        cc (full, e)
 
 -- leaves of fewer pairs
 pub fewer_leaves : (f : List ℕ × List ℕ → Bool) (m : Map) (ls : List Leaf) → AreLeaves m ls → AreLeaves (filter f m) ls
@@ -117,7 +126,8 @@ fewer_leaves f m (l ∷ ls) a =
     (leaf, fewer_leaves f m ls a.1)
 
 -- what is freed in a span that holds another
-freed_within : (span leaf : Span) → ((p : List ℕ × List ℕ) → is_in span p ≡ true → is_in leaf p ≡ true) → (m : Map) → size (within (without m span) leaf) + size (within m span) ≡ size (within m leaf)
+freed_within : (span leaf : Span) → ((p : List ℕ × List ℕ) → is_in span p ≡ true → is_in leaf p ≡ true) → (m : Map)
+    → size (within (without m span) leaf) + size (within m span) ≡ size (within m leaf)
 freed_within span leaf h [] = omega arith
 freed_within span leaf h (p ∷ ps) = go (is_in span p) (is_in leaf p) refl refl (freed_within span leaf h ps)
   where
@@ -145,7 +155,8 @@ pub freed_bytes : (m : Map) (span : Span) (before after : ℕ) → before ≡ si
 freed_bytes m span before after e f = omega (arith, e, f, sum_by-filter_both (is_in span) (is_out span) (λ p. refl) size_of m)
 
 -- fewer bytes are taken where so many are freed
-pub freed_leaves : (m : Map) (ls : List Leaf) (span : Span) (freed at bytes : ℕ) → AreLeaves m ls → AreFreed m ls span freed → at < length ls → IsInLeaf span ls at → bytes ≡ first_bytes (drop at ls) - freed → AreLeaves m (united ls at (at + 1) bytes)
+pub freed_leaves : (m : Map) (ls : List Leaf) (span : Span) (freed at bytes : ℕ) → AreLeaves m ls → AreFreed m ls span freed → at < length ls
+    → IsInLeaf span ls at → bytes ≡ first_bytes (drop at ls) - freed → AreLeaves m (united ls at (at + 1) bytes)
 freed_leaves m ls span freed at bytes a f h inside e =
     let leaf = leaf_there m ls at h a in
     counted_leaves m ls at bytes h a (omega (arith, f at h inside, e)) (omega (arith, leaf.fits, e))

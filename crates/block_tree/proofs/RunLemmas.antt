@@ -40,7 +40,8 @@ pairs_within : (span : Span) (m : Map) → AllByRecursion (λ p. IsIn span.lo sp
 pairs_within span [] = tt
 pairs_within span (p ∷ ps) = go (is_in span p) refl (pairs_within span ps)
   where
-    go : (b : Bool) → is_in span p ≡ b → AllByRecursion (λ p. IsIn span.lo span.hi p.key) (map as_pair (within ps span)) → AllByRecursion (λ p. IsIn span.lo span.hi p.key) (map as_pair (cond b (p ∷ within ps span) (within ps span)))
+    go : (b : Bool) → is_in span p ≡ b → AllByRecursion (λ p. IsIn span.lo span.hi p.key) (map as_pair (within ps span))
+        → AllByRecursion (λ p. IsIn span.lo span.hi p.key) (map as_pair (cond b (p ∷ within ps span) (within ps span)))
     go true e rest = (is_in_span span p e, rest)
     go false e rest = rest
 
@@ -51,7 +52,8 @@ holds_full span key e =
     less_from (key_cmp span.lo span.hi) (below_along span.lo key span.hi (not_true (is_gt (key_cmp span.lo key)) t.0) t.1)
 
 -- the pairs of a span have a block, where it isn't too large
-pub run_has_block : (span : Span) (m : Map) → key_cmp span.lo span.hi ≡ Less → IsRising m → IsBlockRun (record { span = span; pairs = map as_pair (within m span) })
+pub run_has_block : (span : Span) (m : Map) → key_cmp span.lo span.hi ≡ Less → IsRising m
+    → IsBlockRun (record { span = span; pairs = map as_pair (within m span) })
 run_has_block span m h r = record {
   span = h;
   rising = pairs_rise (within m span) (part_rises (is_in span) m r);
@@ -97,7 +99,8 @@ edge_short m (l ∷ ls) zero a = a.0.short
 edge_short m (l ∷ ls) (suc at) a = edge_short m ls at a.1
 
 -- the pairs of a leaf fit a block
-pub leaf_is_short : (m : Map) (ls : List Leaf) (at : ℕ) → at < length ls → AreLeaves m ls → 7 + length (begin_of (drop at ls)) + length (begin_of (drop (at + 1) ls)) + size (within m (span_from ls at (at + 1))) ≤ 8192
+pub leaf_is_short : (m : Map) (ls : List Leaf) (at : ℕ) → at < length ls → AreLeaves m ls
+    → 7 + length (begin_of (drop at ls)) + length (begin_of (drop (at + 1) ls)) + size (within m (span_from ls at (at + 1))) ≤ 8192
 leaf_is_short m ls at h a =
     let leaf = leaf_there m ls at h a in
     omega (arith, leaf.short, leaf.counted, leaf.fits, edge_short m ls (at + 1) a)

@@ -20,7 +20,8 @@ pub narrower : (f g : List ℕ × List ℕ → Bool) → ((p : List ℕ × List 
 narrower f g h [] = omega arith
 narrower f g h (p ∷ ps) = go (f p) (g p) refl refl (narrower f g h ps)
   where
-    go : (a b : Bool) → f p ≡ a → g p ≡ b → size (filter f ps) ≤ size (filter g ps) → size (cond a (p ∷ filter f ps) (filter f ps)) ≤ size (cond b (p ∷ filter g ps) (filter g ps))
+    go : (a b : Bool) → f p ≡ a → g p ≡ b → size (filter f ps) ≤ size (filter g ps)
+        → size (cond a (p ∷ filter f ps) (filter f ps)) ≤ size (cond b (p ∷ filter g ps) (filter g ps))
     go true true e k ih = omega (arith, ih, more p (filter f ps), more p (filter g ps))
     go true false e k ih = absurd (let t = h p e in cc)
     go false true e k ih = omega (arith, ih, more p (filter g ps))
@@ -40,7 +41,8 @@ pub fewer : (f g : List ℕ × List ℕ → Bool) (m : Map) → size (filter g (
 fewer f g [] = omega arith
 fewer f g (p ∷ ps) = go (f p) (g p) refl (fewer f g ps)
   where
-    go : (a b : Bool) → g p ≡ b → size (filter g (filter f ps)) ≤ size (filter g ps) → size (filter g (cond a (p ∷ filter f ps) (filter f ps))) ≤ size (cond b (p ∷ filter g ps) (filter g ps))
+    go : (a b : Bool) → g p ≡ b → size (filter g (filter f ps)) ≤ size (filter g ps)
+        → size (filter g (cond a (p ∷ filter f ps) (filter f ps))) ≤ size (cond b (p ∷ filter g ps) (filter g ps))
     go true true e ih = rw e (omega (arith, ih, more p (filter g (filter f ps)), more p (filter g ps)))
     go true false e ih = rw e ih
     go false true e ih = omega (arith, ih, more p (filter g ps))

@@ -2,8 +2,8 @@
 //!
 //! The pairs stand in one ordered map of std, so that `get`, `next` and `set` cost what they cost there, and the depth is the
 //! map's. The leaves are a list beside it: where each begins, and how many bytes its pairs take at most. They adjoin and
-//! cover all keys, so a leaf is cut or joined by one edge more or less and no pair moves. A count may be too high, after
-//! values were replaced or removed; it is mended before a leaf is cut.
+//! cover all keys, so a leaf is cut or joined by one edge more or less, and no pair moves. A count may be too high, where
+//! values were put in place of others; it is mended before a leaf is cut.
 //!
 //! Contracts see a `BlockTree` as the map, a list of pairs that rises by the keys. They say nothing of the leaves but what
 //! a run says: it is true of the map, covers the key and fits a block. No clause says that leaves are halved when they
