@@ -1,0 +1,11 @@
+use Rattle.std.proofs.Common.{◌≡◌, [], ◌∙◌, sym}
+use Rattle.std.proofs.lemmas.List.{append-nil}
+use Rattle.block_tree.proofs.SpanTests.{between_is_within}
+use Rattle.block_tree.proofs.copying.keys_in.Goals as goal
+
+pub returns : goal.returns
+returns c =
+    let none : c.loop-key.key-iterator ≡ [] = c.in-None.ensures.steps.0 in
+    let all = c.into_iter-key-iterator.ensures.into_iter_gives ∙ c.range-key-items.ensures.between tt ∙ between_is_within c.args.span.now.lo c.args.span.now.hi c.args.pairs.now.entries in
+    let copied = rw (none, all) at c.loop-key.invariant in
+    sym (append-nil c.loop-key.keys.items) ∙ copied

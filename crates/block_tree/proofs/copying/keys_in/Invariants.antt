@@ -1,0 +1,7 @@
+use Rattle.std.proofs.Common.{◌≡◌, ◌++◌}
+use Rattle.std.specs.Map.{keys_of}
+use Rattle.block_tree.proofs.copying.keys_in.Given as goal
+
+-- what was copied, and what is left
+abbrev pub invariant-loop-key : goal.invariant-loop-key
+invariant-loop-key l = l.keys.items ++ keys_of l.key-iterator ≡ keys_of l.initial.key-iterator

@@ -1,0 +1,3 @@
+pub mod TreeWords
+pub mod LeafWords
+pub mod Removals
