@@ -48,7 +48,7 @@ use Rattle.cluster_invariant.proofs.Deeds.{order_by}
 use Rattle.cluster_invariant.proofs.OrderMoves.{step_from}
 use Rattle.cluster_invariant.proofs.OrderRows.{StepWrote}
 use Rattle.cluster_invariant.proofs.Small.{of_some}
-use Rattle.dials_kept.proofs.BeginDials.{order_now}
+use Rattle.cluster_invariant.proofs.PastOrders.{order_now}
 use Rattle.dials_server.proofs.GoNodes.{GoInv, go_windows}
 use Rattle.dials_server.proofs.LinkWords.{is_link_true}
 use Rattle.dials_server.proofs.OverRounds.{over_but_one, over_learnt}
