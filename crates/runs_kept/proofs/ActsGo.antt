@@ -30,43 +30,51 @@ is_data (Free d session job mode key) = true
 is_data (Broke app d end time) = true
 is_data a = false
 
--- the moment, and which servers had a first order
+-- the moment, which servers had a first order, and how much is synced
 pub record Kept (p q : Plain) : Type 0 where
   pub clock : q.clock ≡ p.clock
   pub opened : (d : ℕ) → (p.server_at d).opened ≡ true → (q.server_at d).opened ≡ true
+  pub synced : (d : ℕ) → (q.server_at d).synced ≡ (p.server_at d).synced
 
-abbrev Still : Server → Server → Type 0
-Still v w = v.opened ≡ true → w.opened ≡ true
+record Still (v w : Server) : Type 0 where
+  opened : w.opened ≡ v.opened
+  synced : w.synced ≡ v.synced
+
+still : (v : Server) → Still v v
+still v = record { opened = refl; synced = refl }
+
+keeps : (p q : Plain) → q.clock ≡ p.clock → ((d : ℕ) → Still (p.server_at d) (q.server_at d)) → Kept p q
+keeps p q clock all = record { clock = clock; opened = λ d is. (all d).opened ∙ is; synced = λ d. (all d).synced }
 
 enters_still : (v : Server) (e : Entry) → Still v (entered v e)
-enters_still v (entry.Epoch number) is = is
-enters_still v (entry.Opened session app) is = is
-enters_still v (entry.Closed session) is = is
-enters_still v (entry.Update session w job txn op) is = is
-enters_still v (entry.Commit session w job txn) is = is
-enters_still v (entry.Rollback session w job txn) is = is
+enters_still v (entry.Epoch number) = record { opened = refl; synced = refl }
+enters_still v (entry.Opened session app) = record { opened = refl; synced = refl }
+enters_still v (entry.Closed session) = record { opened = refl; synced = refl }
+enters_still v (entry.Update session w job txn op) = record { opened = refl; synced = refl }
+enters_still v (entry.Commit session w job txn) = record { opened = refl; synced = refl }
+enters_still v (entry.Rollback session w job txn) = record { opened = refl; synced = refl }
 
 broke_still : (v : Server) (app : ℕ) (end : PairEnd) (time : ℕ) → Still v (broke v app end time)
-broke_still v app AppSide time is = is
-broke_still v app ServerSide time is = is
+broke_still v app AppSide time = record { opened = refl; synced = refl }
+broke_still v app ServerSide time = record { opened = refl; synced = refl }
 
 pub data_keeps : (l : Layout) (p : Plain) (a : Act) → is_data a ≡ true → Kept p (after l p a)
 data_keeps l p (Opened d entries) its = absurd (false≢true its)
-data_keeps l p (Enter d e) its = record { clock = refl; opened = at_put Still p.server_at d _ (λ v is. is) (enters_still (p.server_at d) e) }
+data_keeps l p (Enter d e) its = keeps p (after l p (Enter d e)) refl (at_put Still p.server_at d _ still (enters_still (p.server_at d) e))
 data_keeps l p (Synced d n) its = absurd (false≢true its)
-data_keeps l p (Shut d session cause) its = record { clock = refl; opened = at_put Still p.server_at d _ (λ v is. is) (λ is. is) }
-data_keeps l p (Release d session) its = record { clock = refl; opened = at_put Still p.server_at d _ (λ v is. is) (λ is. is) }
+data_keeps l p (Shut d session cause) its = keeps p (after l p (Shut d session cause)) refl (at_put Still p.server_at d _ still (record { opened = refl; synced = refl }))
+data_keeps l p (Release d session) its = keeps p (after l p (Release d session)) refl (at_put Still p.server_at d _ still (record { opened = refl; synced = refl }))
 data_keeps l p (Met app d session) its = absurd (false≢true its)
 data_keeps l p (Told app d session epoch kept) its = absurd (false≢true its)
-data_keeps l p (Back d) its = record { clock = refl; opened = at_put Still p.server_at d _ (λ v is. is) (λ is. is) }
+data_keeps l p (Back d) its = keeps p (after l p (Back d)) refl (at_put Still p.server_at d _ still (record { opened = refl; synced = refl }))
 data_keeps l p (Crash d kept) its = absurd (false≢true its)
 data_keeps l p (Issue job line d w item) its = absurd (false≢true its)
 data_keeps l p (Read job line d at via question) its = absurd (false≢true its)
-data_keeps l p (Grant d session job mode key at) its = record { clock = refl; opened = at_put Still p.server_at d _ (λ v is. is) (λ is. is) }
+data_keeps l p (Grant d session job mode key at) its = keeps p (after l p (Grant d session job mode key at)) refl (at_put Still p.server_at d _ still (record { opened = refl; synced = refl }))
 data_keeps l p (Granted job line d at) its = absurd (false≢true its)
 data_keeps l p (GiveUp job line d mode key) its = absurd (false≢true its)
 data_keeps l p (Quit job line d mode key) its = absurd (false≢true its)
-data_keeps l p (Free d session job mode key) its = record { clock = refl; opened = at_put Still p.server_at d _ (λ v is. is) (λ is. is) }
+data_keeps l p (Free d session job mode key) its = keeps p (after l p (Free d session job mode key)) refl (at_put Still p.server_at d _ still (record { opened = refl; synced = refl }))
 data_keeps l p (Counted job line d at sum) its = absurd (false≢true its)
 data_keeps l p (NotWhole job line d at) its = absurd (false≢true its)
 data_keeps l p (Range job line d at) its = absurd (false≢true its)
@@ -76,7 +84,7 @@ data_keeps l p (Reached job line d at) its = absurd (false≢true its)
 data_keeps l p (Level job line level) its = absurd (false≢true its)
 data_keeps l p (Done job line) its = absurd (false≢true its)
 data_keeps l p (Refused job line refusal) its = absurd (false≢true its)
-data_keeps l p (Broke app d end time) its = record { clock = refl; opened = at_put Still p.server_at d _ (λ v is. is) (broke_still (p.server_at d) app end time) }
+data_keeps l p (Broke app d end time) its = keeps p (after l p (Broke app d end time)) refl (at_put Still p.server_at d _ still (broke_still (p.server_at d) app end time))
 data_keeps l p (Mended app d) its = absurd (false≢true its)
 data_keeps l p (Tick time) its = absurd (false≢true its)
 data_keeps l p (Lose app d loss) its = absurd (false≢true its)
@@ -185,11 +193,11 @@ locks_now l p (a ∷ acts) all = (locks_may l p a all.0, locks_now l (after l p 
 
 -- what they make together
 pub all_keep : (l : Layout) (p : Plain) (acts : List Act) → AllByRecursion (λ a. is_data a ≡ true) acts → Kept p (after_all l p acts)
-all_keep l p [] all = record { clock = refl; opened = λ d is. is }
+all_keep l p [] all = record { clock = refl; opened = λ d is. is; synced = λ d. refl }
 all_keep l p (a ∷ acts) all = go (data_keeps l p a all.0) (all_keep l (after l p a) acts all.1)
   where
     go : Kept p (after l p a) → Kept (after l p a) (after_all l (after l p a) acts) → Kept p (after_all l p (a ∷ acts))
-    go f m = record { clock = m.clock ∙ f.clock; opened = λ d is. m.opened d (f.opened d is) }
+    go f m = record { clock = m.clock ∙ f.clock; opened = λ d is. m.opened d (f.opened d is); synced = λ d. m.synced d ∙ f.synced d }
 
 pub raised_data : (k : ℕ) (acts : List Act) → AllByRecursion (λ a. is_data a ≡ true) acts → raised k acts ≡ acts
 raised_data k [] all = refl

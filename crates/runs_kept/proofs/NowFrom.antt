@@ -1,11 +1,13 @@
 -- What of a run rests on orders and ends: the rest of each act's conditions makes it one.
-use Rattle.std.proofs.Common.{◌≡◌, true, List, [], ◌∷◌, ◌++◌}
+use Rattle.std.proofs.Common.{◌≡◌, drop, false, true, List, [], ◌∷◌, ◌++◌}
 use Rattle.std.specs.Prelude.{is_some}
+use Rattle.std.specs.List.{list_any}
 use Rattle.plain_orders.specs.declared.act.Act.{Act}
 use Rattle.plain_orders.specs.declared.act.Act.TheVariants.{Opened, Enter, Synced, Shut, Release, Met, Told, Back, Crash, Issue, Read, Grant, Granted, GiveUp, Quit, Free, Counted, NotWhole, Range, Committed, RolledBack, Reached, Level, Done, Refused, Broke, Mended, Tick, Lose, Died}
 use Rattle.plain_orders.specs.declared.entry.Entry.{Entry}
 use Rattle.plain_orders.specs.declared.entry.Entry.TheVariants as entry
 use Rattle.plain_orders.specs.declared.layout.Layout.{Layout}
+use Rattle.plain_orders.specs.Sessions.{is_close}
 use Rattle.plain_runs.specs.Plain.{Plain}
 use Rattle.plain_runs.specs.Run.{RunFrom, after_all}
 use Rattle.plain_runs.specs.Step.{MayCome, after}
@@ -29,7 +31,7 @@ MayNow l p (Shut d session cause) = MayCome l p (Shut d session cause)
 MayNow l p (Release d session) = Unit {0}
 MayNow l p (Met app d session) = MayCome l p (Met app d session)
 MayNow l p (Told app d session epoch kept) = MayCome l p (Told app d session epoch kept)
-MayNow l p (Back d) = is_some (p.server_at d).due ≡ true
+MayNow l p (Back d) = (is_some (p.server_at d).due ≡ true) × (list_any is_close (drop (p.server_at d).synced (p.server_at d).order) ≡ false)
 MayNow l p (Crash d kept) = MayCome l p (Crash d kept)
 MayNow l p (Issue job line d w item) = MayCome l p (Issue job line d w item)
 MayNow l p (Read job line d at via question) = MayCome l p (Read job line d at via question)
@@ -74,7 +76,7 @@ both_may l p (Shut d session cause) now later = now
 both_may l p (Release d session) now later = later
 both_may l p (Met app d session) now later = now
 both_may l p (Told app d session epoch kept) now later = now
-both_may l p (Back d) now later = record { recovering = now; told = later.told; counted = later.counted; closes = later.closes }
+both_may l p (Back d) now later = record { recovering = now.0; told = later.told; counted = later.counted; closes = now.1 }
 both_may l p (Crash d kept) now later = now
 both_may l p (Issue job line d w item) now later = now
 both_may l p (Read job line d at via question) now later = now

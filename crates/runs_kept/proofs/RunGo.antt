@@ -1,5 +1,5 @@
 -- What holds of the acts of a data server's step so far: orders and ends let each of them come.
-use Rattle.std.proofs.Common.{◌≡◌, ℕ, true, List, [], ◌∷◌, ◌++◌, sym, ◌∙◌, ap, subst}
+use Rattle.std.proofs.Common.{◌≡◌, ◌≤◌, ℕ, true, List, [], ◌∷◌, ◌++◌, sym, ◌∙◌, ap, subst}
 use Rattle.std.specs.List.{AllByRecursion}
 use Rattle.std.proofs.lemmas.List.{append-nil}
 use Rattle.plain_orders.specs.declared.act.Act.{Act}
@@ -15,11 +15,12 @@ use Rattle.data_pieces.proofs.QuietPieces.{Quiet}
 use Rattle.runs_kept.proofs.ActsGo.{Kept, all_keep, is_data, locks_data, locks_now, raised_data, raised_joined}
 use Rattle.runs_kept.proofs.NowFrom.{MayNow, NowFrom, now_joined}
 
--- the acts so far, what moment it is, and that the server has an order
-pub record NowGo (l : Layout) (p : Plain) (d k now : ℕ) (b : Sofar) : Type 0 where
+-- the acts so far, what moment it is, and that the server has an order, which is synced so far at least
+pub record NowGo (l : Layout) (p : Plain) (d k now saved : ℕ) (b : Sofar) : Type 0 where
   pub run : NowFrom l p (raised k b.outs.acts)
   pub clock : now ≡ (after_all l p (raised k b.outs.acts)).clock
   pub opened : (view l p d k b.outs.acts).opened ≡ true
+  pub no_less : saved ≤ (view l p d k b.outs.acts).synced
 
 -- what a small change adds
 pub record Adds (l : Layout) (p : Plain) (k : ℕ) (b c : Sofar) : Type 0 where
@@ -28,8 +29,8 @@ pub record Adds (l : Layout) (p : Plain) (k : ℕ) (b c : Sofar) : Type 0 where
   pub plain : AllByRecursion (λ a. is_data a ≡ true) more
   pub run : NowFrom l (after_all l p (raised k b.outs.acts)) more
 
-pub adds_go : (l : Layout) (p : Plain) (d k now : ℕ) (b c : Sofar) → Adds l p k b c → NowGo l p d k now b → NowGo l p d k now c
-adds_go l p d k now b c a h = go (all_keep l (after_all l p (raised k b.outs.acts)) a.more a.plain)
+pub adds_go : (l : Layout) (p : Plain) (d k now saved : ℕ) (b c : Sofar) → Adds l p k b c → NowGo l p d k now saved b → NowGo l p d k now saved c
+adds_go l p d k now saved b c a h = go (all_keep l (after_all l p (raised k b.outs.acts)) a.more a.plain)
   where
     acts : raised k c.outs.acts ≡ raised k b.outs.acts ++ a.more
     acts = ap (raised k) a.acts ∙ raised_joined k b.outs.acts a.more ∙ ap (λ (ys : List Act). raised k b.outs.acts ++ ys) (raised_data k a.more a.plain)
@@ -37,11 +38,12 @@ adds_go l p d k now b c a h = go (all_keep l (after_all l p (raised k b.outs.act
     plain : after_all l p (raised k c.outs.acts) ≡ after_all l (after_all l p (raised k b.outs.acts)) a.more
     plain = ap (after_all l p) acts ∙ after_all-append l p (raised k b.outs.acts) a.more
 
-    go : Kept (after_all l p (raised k b.outs.acts)) (after_all l (after_all l p (raised k b.outs.acts)) a.more) → NowGo l p d k now c
+    go : Kept (after_all l p (raised k b.outs.acts)) (after_all l (after_all l p (raised k b.outs.acts)) a.more) → NowGo l p d k now saved c
     go kept = record {
       run = subst (NowFrom l p) (sym acts) (now_joined l p (raised k b.outs.acts) a.more h.run a.run);
       clock = h.clock ∙ sym kept.clock ∙ sym (ap (λ (q : Plain). q.clock) plain);
       opened = ap (λ (q : Plain). (q.server_at d).opened) plain ∙ kept.opened d h.opened;
+      no_less = subst (λ (m : ℕ). saved ≤ m) (sym (ap (λ (q : Plain). (q.server_at d).synced) plain ∙ kept.synced d)) h.no_less;
     }
 
 -- no act

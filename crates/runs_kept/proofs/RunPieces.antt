@@ -1,6 +1,7 @@
 -- Each small change of a data server's step adds acts that orders and ends let come.
-use Rattle.std.proofs.Common.{◌≡◌, ℕ, ◌+◌, Bool, true, false, List, [], ◌∷◌, ◌++◌, length, Option, Some, None, is_some, option_map, refl, sym, ◌∙◌, ap, subst}
+use Rattle.std.proofs.Common.{◌≡◌, ◌≤◌, ◌&&◌, ◌||◌, not, drop, zero, suc, arith, ℕ, ◌+◌, Bool, true, false, List, [], ◌∷◌, ◌++◌, length, Option, Some, None, is_some, option_map, refl, sym, ◌∙◌, ap, subst}
 use Rattle.std.proofs.lemmas.Bool.{false≢true}
+use Rattle.std.specs.List.{list_any}
 use Rattle.plain_orders.specs.declared.act.Act.{Act}
 use Rattle.plain_orders.specs.declared.act.Act.TheVariants as act
 use Rattle.plain_orders.specs.declared.causes.PairEnd.TheVariants as ends
@@ -9,6 +10,8 @@ use Rattle.plain_orders.specs.declared.entry.Entry.TheVariants.{Opened, Update a
 use Rattle.plain_orders.specs.declared.layout.Layout.{Layout}
 use Rattle.plain_orders.specs.declared.op.Op.TheVariants as ops
 use Rattle.plain_orders.specs.Entries.{live_session}
+use Rattle.plain_orders.specs.Sessions.{is_close}
+use Rattle.recovery_round.specs.RoundWords.{is_over}
 use Rattle.plain_runs.specs.Plain.{Plain, Server}
 use Rattle.plain_runs.specs.Run.{after_all}
 use Rattle.ecp_messages.specs.declared.down.Down.TheVariants as down
@@ -52,47 +55,58 @@ cut_acts : (ending : Ending) (conn : ℕ) (b : Sofar) → (cuts_if ending conn b
 cut_acts There conn b = refl
 cut_acts Here conn b = refl
 
-some_round : (n : DataState) (o : Option Round) → is_round_over n o ≡ true → is_some (option_map due_in o) ≡ true
+some_round : (n : DataState) (o : Option Round) → is_round_over n o ≡ true → (is_some (option_map due_in o) ≡ true) × (list_any is_close (drop n.synced n.order) ≡ false)
 some_round n None over = absurd (false≢true over)
-some_round n (Some r) over = refl
+some_round n (Some r) over = (refl, and_not (is_over r) (list_any is_close (drop n.synced n.order)) over)
+  where
+    and_not : (a c : Bool) → (a && not c) ≡ true → c ≡ false
+    and_not true false is = refl
+    and_not true true is = absurd (false≢true is)
+    and_not false c is = absurd (false≢true is)
+
+-- none is among those behind a later place
+none_behind : (es : List Entry) (i j : ℕ) → i ≤ j → list_any is_close (drop i es) ≡ false → list_any is_close (drop j es) ≡ false
+none_behind [] zero zero low none = none
+none_behind [] zero (suc j) low none = refl
+none_behind [] (suc i) zero low none = refl
+none_behind [] (suc i) (suc j) low none = refl
+none_behind (e ∷ es) zero zero low none = none
+none_behind (e ∷ es) zero (suc j) low none = none_behind es 0 j (omega arith) (or_parts (is_close e) (list_any is_close es) none)
+  where
+    or_parts : (a c : Bool) → (a || c) ≡ false → c ≡ false
+    or_parts true c is = absurd (false≢true (sym is))
+    or_parts false c is = is
+none_behind (e ∷ es) (suc i) zero low none = absurd (omega (arith, low))
+none_behind (e ∷ es) (suc i) (suc j) low none = none_behind es i j (omega (arith, low)) none
 
 none_is : (o : Option Round) → is_some o ≡ false → o ≡ None
 none_is None is = refl
 none_is (Some r) is = absurd (false≢true (sym is))
 
+some_same : (x y : Entry) → Some x ≡ Some y → x ≡ y
+some_same x y same = cc
+
 -- an item rests on nothing here
 item_now : (l : Layout) (p : Plain) (s : ℕ) (m : Up) (e : Entry) (a : Act) → item_of s m ≡ Some e → EntryNow l p e a
 item_now l p s (Hello app dial) e a its = absurd cc
 item_now l p s (Recover app q epoch taken dial) e a its = absurd cc
-item_now l p s (Update w job txn op) e a its = subst (λ (x : Entry). EntryNow l p x a) (one (UpdateEntry s w job txn op) e its) tt
-  where
-    one : (x y : Entry) → Some x ≡ Some y → x ≡ y
-    one x y same = cc
-item_now l p s (Add w job key amount) e a its = subst (λ (x : Entry). EntryNow l p x a) (one (UpdateEntry s w job 0 (ops.Add key amount)) e its) tt
-  where
-    one : (x y : Entry) → Some x ≡ Some y → x ≡ y
-    one x y same = cc
+item_now l p s (Update w job txn op) e a its = subst (λ (x : Entry). EntryNow l p x a) (some_same (UpdateEntry s w job txn op) e its) tt
+item_now l p s (Add w job key amount) e a its = subst (λ (x : Entry). EntryNow l p x a) (some_same (UpdateEntry s w job 0 (ops.Add key amount)) e its) tt
 item_now l p s (Fetch key) e a its = absurd cc
 item_now l p s (Ask ticket job mode key) e a its = absurd cc
 item_now l p s (Unlock job mode key) e a its = absurd cc
 item_now l p s (Cancel ticket) e a its = absurd cc
-item_now l p s (Commit w job txn wanted) e a its = subst (λ (x : Entry). EntryNow l p x a) (one (CommitEntry s w job txn) e its) tt
-  where
-    one : (x y : Entry) → Some x ≡ Some y → x ≡ y
-    one x y same = cc
-item_now l p s (Rollback w job txn) e a its = subst (λ (x : Entry). EntryNow l p x a) (one (RollbackEntry s w job txn) e its) tt
-  where
-    one : (x y : Entry) → Some x ≡ Some y → x ≡ y
-    one x y same = cc
+item_now l p s (Commit w job txn wanted) e a its = subst (λ (x : Entry). EntryNow l p x a) (some_same (CommitEntry s w job txn) e its) tt
+item_now l p s (Rollback w job txn) e a its = subst (λ (x : Entry). EntryNow l p x a) (some_same (RollbackEntry s w job txn) e its) tt
 item_now l p s (Sync ticket) e a its = absurd cc
 item_now l p s Done e a its = absurd cc
 item_now l p s (Claim job mode number at key) e a its = absurd cc
 item_now l p s Bare e a its = absurd cc
 
 -- the ends of a round go on
-module _ (l : Layout) (p : Plain) (d k now : ℕ) (es : List Entry) where
+module _ (l : Layout) (p : Plain) (d k now saved : ℕ) (es : List Entry) where
   record BackGo (b : Sofar) : Type 0 where
-    run : NowGo l p d k now b
+    run : NowGo l p d k now saved b
     server : b.state.server ≡ d
     order : (view l p d k b.outs.acts).order ≡ es
 
@@ -100,9 +114,9 @@ module _ (l : Layout) (p : Plain) (d k now : ℕ) (es : List Entry) where
   one_back a s b has h = go (is_some (conn_for s b.state.conns))
     where
       go : (joined : Bool) → BackGo (breaks_unless joined a now (becomes (with_event a now (event.RoundOver joined)) b))
-      go true = record { run = adds_go l p d k now b (becomes (with_event a now (event.RoundOver true)) b) (same_adds l p k b (becomes (with_event a now (event.RoundOver true)) b) refl) h.run; server = h.server; order = h.order }
+      go true = record { run = adds_go l p d k now saved b (becomes (with_event a now (event.RoundOver true)) b) (same_adds l p k b (becomes (with_event a now (event.RoundOver true)) b) refl) h.run; server = h.server; order = h.order }
       go false = record {
-        run = adds_go l p d k now b c (one_adds l p k b c (act.Broke a d ends.Server now) acts refl (record { now = h.run.clock; has_live = ap is_some (ap (λ (xs : List Entry). live_session xs a) h.order ∙ has) })) h.run;
+        run = adds_go l p d k now saved b c (one_adds l p k b c (act.Broke a d ends.Server now) acts refl (record { now = h.run.clock; has_live = ap is_some (ap (λ (xs : List Entry). live_session xs a) h.order ∙ has) })) h.run;
         server = h.server;
         order = ap (λ (xs : List Act). (view l p d k xs).order) acts ∙ ap (λ (v : Server). v.order) (view_broke l p d k b.outs.acts a now) ∙ h.order;
       }
@@ -121,25 +135,25 @@ module _ (l : Layout) (p : Plain) (d k now : ℕ) (es : List Entry) where
       go None none more = more b h
       go (Some s) has more = more (end_back a s now b) (one_back a s b has h)
 
-module _ (l : Layout) (p : Plain) (d k : ℕ) (t : Coming) (W : Caller → Type 0) (hold : ConnsHold t.old) where
+module _ (l : Layout) (p : Plain) (d k saved : ℕ) (t : Coming) (W : Caller → Type 0) (hold : ConnsHold t.old) where
   abbrev Goes : Sofar → Type 0
   Goes b = EndsGo t W d (view l p d k b.outs.acts) b.state
 
   abbrev Runs : Sofar → Type 0
-  Runs b = NowGo l p d k t.now b
+  Runs b = NowGo l p d k t.now saved b
 
   abbrev at : Sofar → Plain
   at b = after_all l p (raised k b.outs.acts)
 
   same_go : (b c : Sofar) → c.outs.acts ≡ b.outs.acts → Runs b → Runs c
-  same_go b c same h = adds_go l p d k t.now b c (same_adds l p k b c same) h
+  same_go b c same h = adds_go l p d k t.now saved b c (same_adds l p k b c same) h
 
   quiet_go : (b c : Sofar) → Quiet b c → Runs b → Runs c
-  quiet_go b c q h = adds_go l p d k t.now b c (quiet_adds l p k b c q) h
+  quiet_go b c q h = adds_go l p d k t.now saved b c (quiet_adds l p k b c q) h
 
   -- an act of this server
   act_go : (b c : Sofar) (a : ℕ → Act) → b.state.server ≡ d → c.outs.acts ≡ b.outs.acts ++ a b.state.server ∷ [] → is_data (a d) ≡ true → MayNow l (after_all l p (raised k b.outs.acts)) (a d) → Runs b → Runs c
-  act_go b c a its acts plain may h = adds_go l p d k t.now b c (one_adds l p k b c (a d) (acts ∙ ap (λ (q : ℕ). b.outs.acts ++ a q ∷ []) its) plain may) h
+  act_go b c a its acts plain may h = adds_go l p d k t.now saved b c (one_adds l p k b c (a d) (acts ∙ ap (λ (q : ℕ). b.outs.acts ++ a q ∷ []) its) plain may) h
 
   breaks_go : (ending : Ending) (conn session app : ℕ) (b : Sofar) → HadConn b.state app session conn → LinksGo d (view l p d k b.outs.acts) b.state → b.state.times ≡ l.times → Runs b
       → Runs (cuts_if ending conn (end_breaks (Some app) t.now (becomes (without_conn conn) b)))
@@ -164,48 +178,56 @@ module _ (l : Layout) (p : Plain) (d k : ℕ) (t : Coming) (W : Caller → Type 
         up = sym links.due ∙ ap (option_map due_in) none;
       }) h
 
-  round_go : (b : Sofar) → is_round_over b.state b.state.round ≡ true → LinksGo d (view l p d k b.outs.acts) b.state → Runs b → Runs (makes t.now RoundEnds b)
-  round_go b over links h =
-      (all_back l p d k t.now b.state.order all_apps (back_written b) (record {
-        run = act_go b (back_written b) (λ q. act.Back q) links.server refl refl (ap is_some (sym links.due) ∙ some_round b.state b.state.round over) h;
+  round_go : (b : Sofar) → is_round_over b.state b.state.round ≡ true → LinksGo d (view l p d k b.outs.acts) b.state → b.state.synced ≡ saved → Runs b → Runs (makes t.now RoundEnds b)
+  round_go b over links synced h =
+      (all_back l p d k t.now saved b.state.order all_apps (back_written b) (record {
+        run = act_go b (back_written b) (λ q. act.Back q) links.server refl refl (recovering, closes) h;
         server = links.server;
         order = ap (λ (q : ℕ). (view l p d k (b.outs.acts ++ act.Back q ∷ [])).order) links.server ∙ ap (λ (v : Server). v.order) (view_back l p d k b.outs.acts) ∙ links.order;
       })).run
+    where
+      recovering : is_some (view l p d k b.outs.acts).due ≡ true
+      recovering = ap is_some (sym links.due) ∙ (some_round b.state b.state.round over).0
+
+      closes : list_any is_close (drop (view l p d k b.outs.acts).synced (view l p d k b.outs.acts).order) ≡ false
+      closes =
+          subst (λ (es : List Entry). list_any is_close (drop (view l p d k b.outs.acts).synced es) ≡ false) (sym links.order)
+          (none_behind b.state.order b.state.synced (view l p d k b.outs.acts).synced (subst (λ (m : ℕ). m ≤ (view l p d k b.outs.acts).synced) (sym synced) h.no_less) (some_round b.state b.state.round over).1)
 
   -- Each of them.
-  pub run_piece : (q : Piece) (b : Sofar) → MayMake t q b → Goes b → b.state.times ≡ l.times → Runs b → Runs (makes t.now q b)
-  run_piece (Accepts conn) b may e times h = same_go b (makes t.now (Accepts conn) b) refl h
-  run_piece (Forgets ending conn) b may e times h = same_go b (makes t.now (Forgets ending conn) b) (cut_acts ending conn (becomes (without_conn conn) b)) h
-  run_piece (Breaks ending conn session app) b may e times h =
+  pub run_piece : (q : Piece) (b : Sofar) → MayMake t q b → Goes b → b.state.times ≡ l.times → b.state.synced ≡ saved → Runs b → Runs (makes t.now q b)
+  run_piece (Accepts conn) b may e times synced h = same_go b (makes t.now (Accepts conn) b) refl h
+  run_piece (Forgets ending conn) b may e times synced h = same_go b (makes t.now (Forgets ending conn) b) (cut_acts ending conn (becomes (without_conn conn) b)) h
+  run_piece (Breaks ending conn session app) b may e times synced h =
       breaks_go ending conn session app b (had_conn l p d k t W hold conn session app b may.first may.bound may.opened e) e.links times h
-  run_piece (Dials app dial) b may e times h = same_go b (makes t.now (Dials app dial) b) refl h
-  run_piece (Waits app conn) b may e times h = same_go b (makes t.now (Waits app conn) b) (dropped_acts (waiting_conn b.state app) b) h
-  run_piece (Opens app conn) b may e times h = opens_go app conn b (makes t.now (Opens app conn) b) (opens_acts app conn t.now b) may.free (none_is b.state.round may.round) e.links h
-  run_piece (OpensNext app conn) b may e times h =
+  run_piece (Dials app dial) b may e times synced h = same_go b (makes t.now (Dials app dial) b) refl h
+  run_piece (Waits app conn) b may e times synced h = same_go b (makes t.now (Waits app conn) b) (dropped_acts (waiting_conn b.state app) b) h
+  run_piece (Opens app conn) b may e times synced h = opens_go app conn b (makes t.now (Opens app conn) b) (opens_acts app conn t.now b) may.free (none_is b.state.round may.round) e.links h
+  run_piece (OpensNext app conn) b may e times synced h =
       opens_go app conn b (makes t.now (OpensNext app conn) b) (opens_acts app conn t.now (becomes next_caller b)) (subst (CallersOf b.state.conns b.state.order) may.next e.callers).each.0.1 may.over e.links h
-  run_piece (Resumes app session conn) b may e times h = same_go b (makes t.now (Resumes app session conn) b) (dropped_acts (conn_of b.state session) b) h
-  run_piece (GoesOn session conn taken) b may e times h = quiet_go b (makes t.now (GoesOn session conn taken) b) (quiet_goes_on session conn taken b) h
-  run_piece (ComesAgain session conn kept) b may e times h = same_go b (makes t.now (ComesAgain session conn kept) b) refl h
-  run_piece (AwaitsReset session conn at) b may e times h = same_go b (makes t.now (AwaitsReset session conn at) b) refl h
-  run_piece (Closes session app cause) b may e times h =
+  run_piece (Resumes app session conn) b may e times synced h = same_go b (makes t.now (Resumes app session conn) b) (dropped_acts (conn_of b.state session) b) h
+  run_piece (GoesOn session conn taken) b may e times synced h = quiet_go b (makes t.now (GoesOn session conn taken) b) (quiet_goes_on session conn taken b) h
+  run_piece (ComesAgain session conn kept) b may e times synced h = same_go b (makes t.now (ComesAgain session conn kept) b) refl h
+  run_piece (AwaitsReset session conn at) b may e times synced h = same_go b (makes t.now (AwaitsReset session conn at) b) refl h
+  run_piece (Closes session app cause) b may e times synced h =
       act_go b (makes t.now (Closes session app cause) b) (λ q. act.Shut q session cause) e.links.server (shuts_acts session app cause t.now b) refl
       (shuts_may l (after_all l p (raised k b.outs.acts)) d t b session app e.links times h.clock may.has cause may.why) h
-  run_piece (Acknowledges conn session up) b may e times h = same_go b (makes t.now (Acknowledges conn session up) b) refl h
-  run_piece (Takes conn session up) b may e times h = same_go b (makes t.now (Takes conn session up) b) refl h
-  run_piece (TakesDone conn session up) b may e times h = same_go b (makes t.now (TakesDone conn session up) b) refl h
-  run_piece (Enters x) b may e times h =
+  run_piece (Acknowledges conn session up) b may e times synced h = same_go b (makes t.now (Acknowledges conn session up) b) refl h
+  run_piece (Takes conn session up) b may e times synced h = same_go b (makes t.now (Takes conn session up) b) refl h
+  run_piece (TakesDone conn session up) b may e times synced h = same_go b (makes t.now (TakesDone conn session up) b) refl h
+  run_piece (Enters x) b may e times synced h =
       act_go b (makes t.now (Enters x) b) (λ q. act.Enter q x) e.links.server (enters_acts x b) refl (item_now l (after_all l p (raised k b.outs.acts)) may.session may.its.up.message x (act.Enter d x) may.item) h
-  run_piece (Fetches session run block) b may e times h =
+  run_piece (Fetches session run block) b may e times synced h =
       same_go (puts session (down.Block (head_of b.state session) block) b) (makes t.now (Fetches session run block) b) refl
       (quiet_go b (puts session (down.Block (head_of b.state session) block) b) (quiet_windows b (puts session (down.Block (head_of b.state session) block) b) (only_puts session (down.Block (head_of b.state session) block) b)) h)
-  run_piece (PutsNormal app session) b may e times h = quiet_go b (makes t.now (PutsNormal app session) b) (quiet_windows b (makes t.now (PutsNormal app session) b) (only_puts session _ b)) h
-  run_piece (PutsAck session) b may e times h = quiet_go b (makes t.now (PutsAck session) b) (quiet_windows b (makes t.now (PutsAck session) b) (only_puts session _ b)) h
-  run_piece (Replies at says) b may e times h = same_go b (makes t.now (Replies at says) b) refl h
-  run_piece (Leaves before r behind) b may e times h =
+  run_piece (PutsNormal app session) b may e times synced h = quiet_go b (makes t.now (PutsNormal app session) b) (quiet_windows b (makes t.now (PutsNormal app session) b) (only_puts session _ b)) h
+  run_piece (PutsAck session) b may e times synced h = quiet_go b (makes t.now (PutsAck session) b) (quiet_windows b (makes t.now (PutsAck session) b) (only_puts session _ b)) h
+  run_piece (Replies at says) b may e times synced h = same_go b (makes t.now (Replies at says) b) refl h
+  run_piece (Leaves before r behind) b may e times synced h =
       quiet_go (becomes (with_replies (before ++ behind)) b) (makes t.now (Leaves before r behind) b)
       (quiet_windows (becomes (with_replies (before ++ behind)) b) (makes t.now (Leaves before r behind) b) (only_leaves r.says (becomes (with_replies (before ++ behind)) b)))
       (same_go b (becomes (with_replies (before ++ behind)) b) refl h)
-  run_piece (Bares session conn) b may e times h = same_go b (makes t.now (Bares session conn) b) refl h
-  run_piece (Locks call) b may e times h = quiet_go b (calls call b) (quiet_calls call b) h
-  run_piece RoundEnds b may e times h = round_go b may e.links h
-  run_piece (Ticks app session) b may e times h = same_go b (makes t.now (Ticks app session) b) refl h
+  run_piece (Bares session conn) b may e times synced h = same_go b (makes t.now (Bares session conn) b) refl h
+  run_piece (Locks call) b may e times synced h = quiet_go b (calls call b) (quiet_calls call b) h
+  run_piece RoundEnds b may e times synced h = round_go b may e.links synced h
+  run_piece (Ticks app session) b may e times synced h = same_go b (makes t.now (Ticks app session) b) refl h

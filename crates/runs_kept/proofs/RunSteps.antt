@@ -1,13 +1,15 @@
 -- The trail stays a run over a step of a data server.
 use Rattle.std.proofs.Common.{◌≡◌, ◌≢◌, ◌≤◌, ℕ, Bool, true, false, cond, List, [], ◌∷◌, length, Option, Some, refl, sym, ◌∙◌, ap, subst, arith}
 use Rattle.std.specs.Prelude.{nat_lt}
-use Rattle.std.proofs.lemmas.Bool.{ltb-true}
+use Rattle.std.proofs.lemmas.Bool.{ltb-false, ltb-true}
 use Rattle.plain_orders.specs.declared.act.Act.{Act}
 use Rattle.plain_orders.specs.declared.act.Act.TheVariants as act
 use Rattle.plain_orders.specs.declared.entry.Entry.{Entry}
 use Rattle.plain_orders.specs.declared.layout.Layout.{Layout}
 use Rattle.plain_orders.specs.Entries.{last_epoch, live}
 use Rattle.plain_runs.specs.Plain.{Plain, Server, start}
+use Rattle.plain_runs.specs.OrderRows.{saved as with_saved}
+use Rattle.plain_runs.specs.Step.{after}
 use Rattle.plain_runs.specs.Run.{IsRun, after_all, state_after}
 use Rattle.plain_runs.proofs.OrderLaws.{orders_kept}
 use Rattle.plain_runs.proofs.Ordered.{ordered_kept}
@@ -39,7 +41,7 @@ use Rattle.cluster_invariant.proofs.PieceDeeds.{does_piece}
 use Rattle.cluster_invariant.proofs.PieceMay.{Coming, begins}
 use Rattle.cluster_invariant.proofs.Pieces.{kept_by_pieces}
 use Rattle.cluster_invariant.proofs.PiecesOfSteps.{StepFrom, step_pieces, synced_state}
-use Rattle.cluster_invariant.proofs.Small.{of_some}
+use Rattle.cluster_invariant.proofs.Small.{of_some, put_same}
 use Rattle.data_pieces.proofs.ConnLists.{conn_for}
 use Rattle.data_pieces.proofs.EndsAlong.{ends_piece}
 use Rattle.data_pieces.proofs.EndsBegin.{NodeHas, ends_begin}
@@ -59,42 +61,45 @@ begins_times old now (data_in.Broken conn) = refl
 begins_times old now data_in.Tick = refl
 begins_times old now (data_in.Saved upto) = ap (λ (n : DataState). n.times) (synced_state upto (begun old))
 
--- a save that comes raises what is synced
-now_begins : (l : Layout) (p : Plain) (d : ℕ) (old : DataState) (now : ℕ) (input : DataIn) → NodeHas d (p.server_at d) old → now ≡ p.clock → (p.server_at d).opened ≡ true → DataMay old input
-    → NowGo l p d (p.server_at d).synced now (begins (record { old = old; now = now; input = input }))
-now_begins l p d old now (data_in.Frame conn up) has clock opened may = record { run = tt; clock = clock; opened = opened }
-now_begins l p d old now (data_in.Connected conn) has clock opened may = record { run = tt; clock = clock; opened = opened }
-now_begins l p d old now (data_in.Broken conn) has clock opened may = record { run = tt; clock = clock; opened = opened }
-now_begins l p d old now data_in.Tick has clock opened may = record { run = tt; clock = clock; opened = opened }
-now_begins l p d old now (data_in.Saved upto) has clock opened may = go (nat_lt old.synced upto)
-  where
-    acts : Bool → List Act
-    acts b = cond b (act.Synced old.server upto ∷ []) []
+-- the acts that begin a step
+record Began (l : Layout) (p : Plain) (d now upto : ℕ) (acts : List Act) : Type 0 where
+  run : NowFrom l p acts
+  clock : now ≡ (after_all l p acts).clock
+  opened : ((after_all l p acts).server_at d).opened ≡ true
+  saved : upto ≤ ((after_all l p acts).server_at d).synced
 
-    by : (b : Bool) → nat_lt (p.server_at d).synced upto ≡ b
-        → NowFrom l p (cond b (act.Synced old.server upto ∷ []) [])
-        × ((now ≡ (after_all l p (cond b (act.Synced old.server upto ∷ []) [])).clock) × (((after_all l p (cond b (act.Synced old.server upto ∷ []) [])).server_at d).opened ≡ true))
-    by false is = (tt, (clock, opened))
-    by true is = (
-      (
+-- a save that comes raises what is synced
+now_begins : (l : Layout) (p : Plain) (d : ℕ) (old : DataState) (now : ℕ) (input : DataIn) → NodeHas d (p.server_at d) old → now ≡ p.clock → (p.server_at d).opened ≡ true → old.synced ≤ (p.server_at d).synced → DataMay old input
+    → NowGo l p d (p.server_at d).synced now (begins (record { old = old; now = now; input = input })).state.synced (begins (record { old = old; now = now; input = input }))
+now_begins l p d old now (data_in.Frame conn up) has clock opened low may = record { run = tt; clock = clock; opened = opened; no_less = low }
+now_begins l p d old now (data_in.Connected conn) has clock opened low may = record { run = tt; clock = clock; opened = opened; no_less = low }
+now_begins l p d old now (data_in.Broken conn) has clock opened low may = record { run = tt; clock = clock; opened = opened; no_less = low }
+now_begins l p d old now data_in.Tick has clock opened low may = record { run = tt; clock = clock; opened = opened; no_less = low }
+now_begins l p d old now (data_in.Saved upto) has clock opened low may = go (nat_lt old.synced upto) refl
+  where
+    by : (b : Bool) → nat_lt (p.server_at d).synced upto ≡ b → Began l p d now upto (cond b (act.Synced old.server upto ∷ []) [])
+    by false is = record { run = tt; clock = clock; opened = opened; saved = ltb-false (p.server_at d).synced upto is }
+    by true is = record {
+      run = (
         record {
           opened = ap (λ (q : ℕ). (p.server_at q).opened) has.server ∙ opened;
           no_less = subst (λ (q : ℕ). (p.server_at q).synced ≤ upto) (sym has.server) (omega (arith, ltb-true (p.server_at d).synced upto is));
           within = subst (λ (q : ℕ). upto ≤ length (p.server_at q).order) (sym has.server) (subst (λ (es : List Entry). upto ≤ length es) (sym has.order) may.within);
         },
         tt,
-      ),
-      (clock, at_put (λ (v : Server) (w : Server). v.opened ≡ true → w.opened ≡ true) p.server_at old.server _ (λ v its. its) (λ its. its) d opened),
-    )
+      );
+      clock = clock;
+      opened = at_put (λ (v : Server) (w : Server). v.opened ≡ true → w.opened ≡ true) p.server_at old.server _ (λ v its. its) (λ its. its) d opened;
+      saved = subst (λ (q : ℕ). upto ≤ ((after l p (act.Synced q upto)).server_at d).synced) (sym has.server)
+          (subst (λ (v : Server). upto ≤ v.synced) (sym (put_same p.server_at d (with_saved (p.server_at d) upto))) (omega arith));
+    }
 
-    go : (rises : Bool) → NowGo l p d (p.server_at d).synced now (becomes (λ n. record n { synced = upto }) (writes_synced rises upto (begun old)))
-    go false = record { run = tt; clock = clock; opened = opened }
-    go true = from (by (nat_lt (p.server_at d).synced upto) refl)
-      where
-        from : NowFrom l p (raised (p.server_at d).synced (act.Synced old.server upto ∷ []))
-            × ((now ≡ (after_all l p (raised (p.server_at d).synced (act.Synced old.server upto ∷ []))).clock) × (((after_all l p (raised (p.server_at d).synced (act.Synced old.server upto ∷ []))).server_at d).opened ≡ true))
-            → NowGo l p d (p.server_at d).synced now (becomes (λ n. record n { synced = upto }) (writes_synced true upto (begun old)))
-        from h = record { run = h.0; clock = h.1.0; opened = h.1.1 }
+    from : Began l p d now upto (raised (p.server_at d).synced (act.Synced old.server upto ∷ [])) → NowGo l p d (p.server_at d).synced now upto (becomes (λ n. record n { synced = upto }) (writes_synced true upto (begun old)))
+    from h = record { run = h.run; clock = h.clock; opened = h.opened; no_less = h.saved }
+
+    go : (rises : Bool) → nat_lt old.synced upto ≡ rises → NowGo l p d (p.server_at d).synced now upto (becomes (λ n. record n { synced = upto }) (writes_synced rises upto (begun old)))
+    go false is = record { run = tt; clock = clock; opened = opened; no_less = omega (arith, low, ltb-false old.synced upto is) }
+    go true is = from (by (nat_lt (p.server_at d).synced upto) refl)
 
 module _ (l : Layout) (c : CoresState) (m : Machine) (server now : ℕ) (input : DataIn) (outs : MoveOuts) (written : List Act) (new : Machine)
     (h : Holds l m) (run : IsRun l m.trail) (shows : Mirrors c m) (allowed : Allowed c (ServerMove server now input)) (goes : ServerGoes m server now input outs written new) where
@@ -154,12 +159,12 @@ module _ (l : Layout) (c : CoresState) (m : Machine) (server now : ℕ) (input :
   clock = allowed.now_may.clock ∙ shows.clock ∙ sym h.clock
 
   abbrev Goes : Sofar → Type 0
-  Goes b = EndsGo t W server (view l p server v.synced b.outs.acts) b.state × ((b.state.times ≡ l.times) × NowGo l p server v.synced now b)
+  Goes b = EndsGo t W server (view l p server v.synced b.outs.acts) b.state × ((b.state.times ≡ l.times) × ((b.state.synced ≡ (begins t).state.synced) × NowGo l p server v.synced now (begins t).state.synced b))
 
   begin : Goes (begins t)
   begin = (
     ends_begin l p server v.synced W x old now input has node (all_follow (CallerIs old x) W (λ w is. tt) old.callers node.callers.each),
-    (begins_times old now input ∙ order.its_times, now_begins l p server old now input has clock order.opened may),
+    (begins_times old now input ∙ order.its_times, (refl, now_begins l p server old now input has clock order.opened (omega (arith, order.synced)) may)),
   )
 
   -- what orders and ends let come
@@ -168,9 +173,9 @@ module _ (l : Layout) (c : CoresState) (m : Machine) (server now : ℕ) (input :
       (kept_by_pieces t Goes
       (λ q b known g. (
         ends_piece l p server v.synced t W hold places_all (λ app conn e is. tt) q b known g.0,
-        ((does_piece t q b known).times ∙ g.1.0, run_piece l p server v.synced t W hold q b known g.0 g.1.0 g.1.1),
+        ((does_piece t q b known).times ∙ g.1.0, ((does_piece t q b known).synced ∙ g.1.1.0, run_piece l p server v.synced (begins t).state.synced t W hold q b known g.0 g.1.0 g.1.1.0 g.1.1.1)),
       ))
-      (begins t) (made goes.state goes.data_outs) (step_pieces old now input goes.data_outs goes.state from may goes.steps) begin).1.1.run
+      (begins t) (made goes.state goes.data_outs) (step_pieces old now input goes.data_outs goes.state from may goes.steps) begin).1.1.1.run
 
   -- With what it rests on beside them the trail stays a run.
   pub run_kept_by_server : AllLater l (state_after l m.trail) written → IsRun l new.trail

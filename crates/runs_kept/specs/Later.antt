@@ -1,21 +1,20 @@
 -- Which of a data server's acts rest on items, locks and answers: their conditions belong to another part.
-use Rattle.std.specs.Prelude.{◌≡◌, List, [], ◌∷◌, true, false, drop}
-use Rattle.std.specs.List.{list_all, list_any}
+use Rattle.std.specs.Prelude.{◌≡◌, List, [], ◌∷◌, true}
+use Rattle.std.specs.List.{list_all}
 use Rattle.plain_orders.specs.declared.act.Act.{Act}
 use Rattle.plain_orders.specs.declared.act.Act.TheVariants as act
 use Rattle.plain_orders.specs.declared.entry.Entry.{Entry}
 use Rattle.plain_orders.specs.declared.entry.Entry.TheVariants as entry
 use Rattle.plain_orders.specs.declared.layout.Layout.{Layout}
-use Rattle.plain_orders.specs.Sessions.{is_close, live_sessions}
+use Rattle.plain_orders.specs.Sessions.{live_sessions}
 use Rattle.plain_runs.specs.OrderRows.{is_counted, is_told}
 use Rattle.plain_runs.specs.Plain.{Plain, Server}
 use Rattle.plain_runs.specs.Step.{MayCome, after}
 
--- Each session that comes back was told of the order, all that was issued in it has entered, and each Close is synced.
+-- Each session that comes back was told of the order, and all that was issued in it has entered.
 pub record AllAreBack (s : Server) : Type 0 where
   pub told : list_all (is_told s) (live_sessions s.order) ≡ true
   pub counted : list_all (is_counted s) (live_sessions s.order) ≡ true
-  pub closes : list_any is_close (drop s.synced s.order) ≡ false
 
 -- what an entry rests on beside orders and ends
 abbrev pub EntryLater : Layout → Plain → Entry → Act → Type 0
