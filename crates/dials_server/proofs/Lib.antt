@@ -27,3 +27,4 @@ pub mod FrameKept
 pub mod FirstSites
 pub mod FirstNodes
 pub mod FirstTakes
+pub mod FirstDials
