@@ -1,7 +1,7 @@
 -- What a data server's node has of the connections, as it takes the first frame of one of them.
-use Rattle.std.proofs.Common.{◌≡◌, ◌⊎◌, ◌≢◌, ◌≤◌, ℕ, Bool, true, false, ◌&&◌, ◌==◌, if◌then◌else◌, Option, Some, None, is_some, option_map, refl, sym, ◌∙◌, ap, subst, arith, inl, inr}
-use Rattle.std.specs.Prelude.{IfSome, IsSomeAnd}
-use Rattle.std.proofs.lemmas.Bool.{eq-eqb, false≢true, ne_eqb}
+use Rattle.std.proofs.Common.{◌≡◌, ◌⊎◌, ◌≢◌, ◌≤◌, ℕ, Bool, true, false, ◌&&◌, ◌==◌, if◌then◌else◌, Option, Some, None, is_some, option_map, refl, sym, ◌∙◌, ap, subst, arith, inl, inr, ◌<◌, List, map, length}
+use Rattle.std.specs.Prelude.{IfSome, IsSomeAnd, get_or, set}
+use Rattle.std.proofs.lemmas.Bool.{eq-eqb, eqb-true, false≢true, ne_eqb}
 use Rattle.data_rules.specs.declared.rows.Role.{Role}
 use Rattle.data_rules.specs.declared.rows.Role.TheVariants.{New, Waiting, Bound, Closing}
 use Rattle.data_rules.specs.DataState.{DataState}
@@ -9,7 +9,20 @@ use Rattle.cluster_runs.specs.CoresState.{Linked}
 use Rattle.cluster_runs.specs.Machine.{Site}
 use Rattle.cluster_runs.specs.Sent.{Connection, FirstTaken}
 use Rattle.cluster_runs.specs.Connections.{first_else, is_link, link_in, link_of, linked_if, up_taken}
-use Rattle.cluster_invariant.specs.Dials.{BoundTo, ClosedOn, GreatestDial, IsNewest, LinkedTo, RoleIs, is_connection_in, is_taken_in}
+use Rattle.cluster_invariant.specs.Dials.{BoundTo, ClosedOn, GreatestDial, IsNewest, LinkedTo, RoleIs, is_connection_in, is_taken_in, NodeDials}
+use Rattle.std.specs.List.{find, list_any}
+use Rattle.std.proofs.lemmas.List.{length-set, get_or-set_other, get_or-set_same}
+use Rattle.plain_orders.specs.declared.entry.Entry.{Entry}
+use Rattle.plain_orders.specs.Entries.{closes, live}
+use Rattle.plain_orders.specs.Sessions.{app_in}
+use Rattle.data_rules.specs.declared.limits.TheConstants.{APP_LIMIT}
+use Rattle.data_rules.specs.declared.rows.Conn.{Conn}
+use Rattle.data_rules.specs.Callers.{dial_of}
+use Rattle.data_rules.specs.Conns.{is_conn, role_in, role_of, with_role_if}
+use Rattle.data_rules.specs.Puts.{is_bound_to, is_role_of, number_of}
+use Rattle.cluster_invariant.specs.Words.{all_differ}
+use Rattle.cluster_invariant.proofs.PiecesOfCloses.{role_given}
+use Rattle.dials_server.proofs.ClosedNodes.{numbers_kept, other_bound, other_role}
 use Rattle.dials_server.proofs.LinkWords.{is_link_true}
 use Rattle.dials_server.proofs.TakenFrames.{site_taken}
 
@@ -136,3 +149,66 @@ module _ (x : Site) (conn : ℕ) (l : Linked) (on : Connection) (there : (x.end_
       by : (number : ℕ) → (is_connection_in x.past ((x.end_at l.app).connection_at number) ≡ true) ⊎ (is_link l.app number (Some l) ≡ true) → number ≤ l.dial
       by number (inl was) = omega (arith, at.greatest number was, low)
       by number (inr now) = omega (arith, ap (λ (j : Linked). j.dial) (link_is l.app number now))
+
+  -- The node, as the connection is for something then and its dial counts.
+  pub node_first : (n k : DataState) (r : Role) → k.order ≡ n.order → k.conns ≡ map (with_role_if conn r) n.conns → k.dials ≡ set n.dials l.app l.dial
+      → dial_of n l.app ≤ l.dial → role_of n conn ≡ Some New → ((i s : ℕ) → role_of n i ≡ Some (Bound s) → is_role_of s r ≡ false) → RoleIs z k conn r → NodeDials x n
+      → NodeDials z k
+  node_first n k r order conns dials later role unlike now is = record {
+    places = ap (λ (ds : List ℕ). length ds) dials ∙ length-set n.dials l.app l.dial ∙ is.places;
+    dials = λ a low. subst (λ (ds : List ℕ). GreatestDial x.past (z.end_at a) (get_or ds a 0)) (sym dials) (dial a low (a == l.app) refl);
+    differ = ap (λ (cs : List Conn). all_differ (map number_of cs)) conns ∙ ap all_differ (numbers_kept conn r n.conns) ∙ is.differ;
+    roles = λ i. subst (λ (cs : List Conn). IfSome (option_map role_in (find (is_conn i) cs)) (RoleIs z k i)) (sym conns) (each i (i == conn) refl);
+  }
+    where
+      dial : (a : ℕ) → a < APP_LIMIT → (b : Bool) → (a == l.app) ≡ b → GreatestDial x.past (z.end_at a) (get_or (set n.dials l.app l.dial) a 0)
+      dial a low true same =
+          subst (λ (i : ℕ). GreatestDial x.past (z.end_at i) (get_or (set n.dials l.app l.dial) i 0)) (sym its)
+          (subst (λ (d : ℕ). GreatestDial x.past (z.end_at l.app) d)
+          (sym (get_or-set_same n.dials l.app l.dial 0 (omega (arith, low, is.places, its))))
+          (greatest_now (dial_of n l.app) later (is.dials l.app (omega (arith, low, its)))))
+        where
+          its : a ≡ l.app
+          its = eqb-true a l.app same
+      dial a low false other =
+          subst (λ (d : ℕ). GreatestDial x.past (z.end_at a) d) (sym (get_or-set_other n.dials l.app a l.dial 0 apart))
+          (greatest_stays a (dial_of n a) (λ same. absurd (apart (sym same))) (is.dials a low))
+        where
+          apart : a ≡ l.app → ⊥
+          apart same = false≢true (sym other ∙ eq-eqb a l.app same)
+
+      moved : (i : ℕ) (q : Role) → i ≢ conn → role_of n i ≡ Some q → RoleIs z n i q → RoleIs z k i q
+      moved i New apart was at = at
+      moved i Waiting apart was at = at
+      moved i (Bound s) apart was at = record {
+        lives = ap (λ (es : List Entry). live es s) order ∙ at.lives;
+        its = ap (λ (cs : List Conn). option_map number_of (find (is_bound_to s) cs)) conns ∙ other_bound conn r s i n.conns (unlike i s was) apart at.its;
+        app = at.app;
+        opened = ap (λ (es : List Entry). app_in es s) order ∙ at.opened;
+        linked = subst (λ (es : List Entry). LinkedTo z i at.app (BoundTo z es s)) (sym order) at.linked;
+        newest = at.newest;
+      }
+      moved i (Closing s) apart was at = record {
+        ended = ap (λ (es : List Entry). list_any (closes s) es) order ∙ at.ended;
+        app = at.app;
+        opened = ap (λ (es : List Entry). app_in es s) order ∙ at.opened;
+        linked = at.linked;
+      }
+
+      there_is : (o : Option Conn) → option_map role_in o ≡ Some New → is_some o ≡ true
+      there_is None its = absurd (cc (its))
+      there_is (Some d) its = refl
+
+      each : (i : ℕ) (b : Bool) → (i == conn) ≡ b → IfSome (option_map role_in (find (is_conn i) (map (with_role_if conn r) n.conns))) (RoleIs z k i)
+      each i true same =
+          subst (λ (j : ℕ). IfSome (option_map role_in (find (is_conn j) (map (with_role_if conn r) n.conns))) (RoleIs z k j)) (sym (eqb-true i conn same))
+          (subst (λ (o : Option Role). IfSome o (RoleIs z k conn)) (sym (role_given conn r n.conns (there_is (find (is_conn conn) n.conns) role))) now)
+      each i false other =
+          subst (λ (o : Option Role). IfSome o (RoleIs z k i)) (sym (other_role conn r i n.conns apart)) (by (role_of n i) refl (is.roles i))
+        where
+          apart : i ≢ conn
+          apart same = false≢true (sym other ∙ eq-eqb i conn same)
+
+          by : (o : Option Role) → role_of n i ≡ o → IfSome o (RoleIs x n i) → IfSome o (RoleIs z k i)
+          by None was at = tt
+          by (Some q) was at = moved i q apart was (role_other n i q apart at)

@@ -66,7 +66,8 @@ first_is (g ∷ fs) f is = (fs, ap (λ (h : UpFrame). h ∷ fs) (some_same g f i
     some_same : (a b : UpFrame) → Some a ≡ Some b → a ≡ b
     some_same a b same = cc
 
-on_dial : (x : Site) (server : ℕ) (l : Linked) (f : UpFrame) (o : Option Connection) → (x.end_at l.app).connection_at l.dial ≡ o
+-- What a connection has next.
+pub on_dial : (x : Site) (server : ℕ) (l : Linked) (f : UpFrame) (o : Option Connection) → (x.end_at l.app).connection_at l.dial ≡ o
     → next_up (option_map (dial_of l.app server l.dial) o) ≡ Some f → NextFrame x l f
 on_dial x server l f None there is = absurd cc
 on_dial x server l f (Some c) there is = go c.data_left is

@@ -26,3 +26,5 @@ pub mod FrameEnded
 pub mod FrameKept
 pub mod FirstSites
 pub mod FirstNodes
+pub mod FirstTakes
+pub mod FirstDials
