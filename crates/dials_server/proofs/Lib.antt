@@ -7,6 +7,7 @@ pub mod AcceptedDials
 pub mod EndedDials
 pub mod ClosedNodes
 pub mod TellsNodes
+pub mod ClosesNodes
 pub mod TickNodes
 pub mod TickDials
 pub mod FittingFrames
