@@ -1,15 +1,10 @@
 -- What holds of a data server's connections while a step goes on that takes the message of a session that learnt of the order.
-use Rattle.std.proofs.Common.{◌≡◌, ◌≤◌, ◌<◌, ℕ, Bool, true, ◌||◌, List, [], ◌∷◌, ◌++◌, length, map, Option, Some, None, option_map, refl, sym, ◌∙◌, ap, subst, arith}
+use Rattle.std.proofs.Common.{◌≡◌, ◌≤◌, ◌<◌, ℕ, true, List, [], ◌∷◌, ◌++◌, length, map, Option, Some, None, option_map, refl, sym, ◌∙◌, ap, subst, arith}
 use Rattle.std.specs.Prelude.{IfSome, get_or}
-use Rattle.std.specs.List.{AllByRecursion, find, list_any}
-use Rattle.std.proofs.lemmas.List.{length-append}
-use Rattle.std.proofs.lemmas.List.Folds.{list_any-append}
+use Rattle.std.specs.List.{AllByRecursion, find}
 use Rattle.plain_orders.specs.declared.act.Act.TheVariants as act
 use Rattle.plain_orders.specs.declared.entry.Entry.{Entry}
-use Rattle.plain_orders.specs.declared.entry.Entry.TheVariants.{Epoch, Opened, Closed, Update, Commit, Rollback}
-use Rattle.plain_orders.specs.Entries.{closes, live, live_session}
-use Rattle.plain_orders.specs.Sessions.{app_in}
-use Rattle.plain_orders.proofs.EntryLemmas.{app_from-push, live-push, live_session-push}
+use Rattle.plain_orders.specs.Entries.{live_session}
 use Rattle.recovery_round.specs.RoundWords.{Round, is_over}
 use Rattle.ecp_messages.specs.declared.down.Down.{Down}
 use Rattle.lock_table.specs.declared.rows.Request.{Request}
@@ -37,13 +32,13 @@ use Rattle.cluster_invariant.specs.Served.{HasLearnt}
 use Rattle.cluster_invariant.specs.Words.{all_differ}
 use Rattle.cluster_invariant.proofs.AllLists.{all_filtered, all_follow}
 use Rattle.cluster_invariant.proofs.PutLaws.{Appended, OnlyWindows, appends_state, only_puts, with_appended, with_windows}
-use Rattle.cluster_invariant.proofs.Written.{entered_place}
+use Rattle.dials_server.proofs.SameLists.{IsItem, SameLists, item_lists, lists_same}
+use Rattle.dials_server.proofs.TellsNodes.{all_one_more, tells_of}
 use Rattle.dials_server.proofs.ClosedNodes.{linked_as}
 use Rattle.dials_server.proofs.FittingFrames.{FrameFits}
 use Rattle.dials_server.proofs.OpenedNodes.{Within}
 use Rattle.dials_server.proofs.PlainFrames.{IsPlain}
-use Rattle.dials_server.proofs.SaveNodes.{ReplyFits, all_one_more, frames_same, puts_fit, says_same}
-use Rattle.dials_server.proofs.TickNodes.{tells_of}
+use Rattle.dials_server.proofs.SaveNodes.{ReplyFits, frames_same, puts_fit, says_same}
 use Rattle.dials_server.proofs.RoundNodes.{drops_fit}
 
 -- where a round is over each live session learnt of the order
@@ -63,66 +58,6 @@ pub record GoInv (x : Site) (n : DataState) (gone : List ℕ) (b : Sofar) : Type
   pub callers : AllByRecursion (CallerIs b.state x) b.state.callers
   pub apart : all_differ (map app_of_caller b.state.callers) ≡ true
   pub round : RoundFits x b.state.order b.state.round
-
--- an entry that leaves what connections need of the order
-pub record SameLists (es fs : List Entry) : Type 0 where
-  pub lives : (s : ℕ) → live fs s ≡ live es s
-  pub apps : (s : ℕ) → app_in fs s ≡ app_in es s
-  pub sessions : (app : ℕ) → live_session fs app ≡ live_session es app
-  pub ended : (s : ℕ) → list_any (closes s) es ≡ true → list_any (closes s) fs ≡ true
-  pub place : epoch_place fs ≡ epoch_place es
-  pub longer : length es ≤ length fs
-
-pub lists_same : (es fs : List Entry) → fs ≡ es → SameLists es fs
-lists_same es fs same = record {
-  lives = λ s. ap (λ (xs : List Entry). live xs s) same;
-  apps = λ s. ap (λ (xs : List Entry). app_in xs s) same;
-  sessions = λ app. ap (λ (xs : List Entry). live_session xs app) same;
-  ended = λ s is. ap (λ (xs : List Entry). list_any (closes s) xs) same ∙ is;
-  place = ap epoch_place same;
-  longer = omega (arith, ap (λ (xs : List Entry). length xs) same);
-}
-
--- an item
-abbrev pub IsItem : Entry → Type 0
-IsItem (Epoch number) = ⊥
-IsItem (Opened session app) = ⊥
-IsItem (Closed session) = ⊥
-IsItem (Update session w job txn op) = Unit {0}
-IsItem (Commit session w job txn) = Unit {0}
-IsItem (Rollback session w job txn) = Unit {0}
-
-still_any : (es : List Entry) (e : Entry) (s : ℕ) → list_any (closes s) es ≡ true → list_any (closes s) (es ++ e ∷ []) ≡ true
-still_any es e s is = list_any-append (closes s) es (e ∷ []) ∙ ap (λ (b : Bool). b || list_any (closes s) (e ∷ [])) is
-
-pub item_lists : (es : List Entry) (e : Entry) → IsItem e → SameLists es (es ++ e ∷ [])
-item_lists es (Epoch number) item = absurd item
-item_lists es (Opened session app) item = absurd item
-item_lists es (Closed session) item = absurd item
-item_lists es (Update session w job txn op) item = record {
-  lives = λ s. live-push es (Update session w job txn op) s;
-  apps = λ s. app_from-push None es (Update session w job txn op) s;
-  sessions = λ app. live_session-push es (Update session w job txn op) app;
-  ended = still_any es (Update session w job txn op);
-  place = entered_place (Update session w job txn op) tt 0 0 es;
-  longer = omega (arith, length-append es (Update session w job txn op ∷ []));
-}
-item_lists es (Commit session w job txn) item = record {
-  lives = λ s. live-push es (Commit session w job txn) s;
-  apps = λ s. app_from-push None es (Commit session w job txn) s;
-  sessions = λ app. live_session-push es (Commit session w job txn) app;
-  ended = still_any es (Commit session w job txn);
-  place = entered_place (Commit session w job txn) tt 0 0 es;
-  longer = omega (arith, length-append es (Commit session w job txn ∷ []));
-}
-item_lists es (Rollback session w job txn) item = record {
-  lives = λ s. live-push es (Rollback session w job txn) s;
-  apps = λ s. app_from-push None es (Rollback session w job txn) s;
-  sessions = λ app. live_session-push es (Rollback session w job txn) app;
-  ended = still_any es (Rollback session w job txn);
-  place = entered_place (Rollback session w job txn) tt 0 0 es;
-  longer = omega (arith, length-append es (Rollback session w job txn ∷ []));
-}
 
 came_as : (es fs : List Entry) → epoch_place fs ≡ epoch_place es → (s : ℕ) (knew : Knew) (o : Option Mark) → CameFor es s knew o → CameFor fs s knew o
 came_as es fs same s knew None is = subst (λ (i : ℕ). i < s) (sym same) is

@@ -23,10 +23,10 @@ use Rattle.cluster_invariant.specs.Words.{all_differ}
 use Rattle.cluster_invariant.proofs.AllLists.{all_filtered, all_follow}
 use Rattle.cluster_invariant.proofs.PiecesOfRounds.{ends_have}
 use Rattle.cluster_invariant.proofs.PutLaws.{with_windows}
+use Rattle.dials_server.proofs.TellsNodes.{all_one_more, tells_of}
 use Rattle.dials_server.proofs.FittingFrames.{FrameFits}
 use Rattle.dials_server.proofs.OpenedNodes.{IsFresh}
-use Rattle.dials_server.proofs.SaveNodes.{ReplyFits, all_one_more, says_same}
-use Rattle.dials_server.proofs.TickNodes.{tells_of}
+use Rattle.dials_server.proofs.SaveNodes.{ReplyFits, says_same}
 use Rattle.data_rules.specs.Frames.{bares_role, settled}
 use Rattle.data_rules.specs.Leaving.{all_leave, bare_on, bare_to, flushed, leaves, may_leave, must_wait}
 use Rattle.data_rules.specs.Puts.{window_of}

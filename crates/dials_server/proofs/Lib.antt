@@ -6,6 +6,8 @@ pub mod QuietServer
 pub mod AcceptedDials
 pub mod EndedDials
 pub mod ClosedNodes
+pub mod TellsNodes
+pub mod ClosesNodes
 pub mod TickNodes
 pub mod TickDials
 pub mod FittingFrames
@@ -15,6 +17,7 @@ pub mod SaveNodes
 pub mod OpenedNodes
 pub mod RoundNodes
 pub mod TakenFrames
+pub mod SameLists
 pub mod GoNodes
 pub mod GoRounds
 pub mod TakesNodes

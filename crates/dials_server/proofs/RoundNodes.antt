@@ -36,14 +36,14 @@ use Rattle.cluster_invariant.specs.Words.{all_differ, is_same}
 use Rattle.cluster_invariant.proofs.AllLists.{all_both, all_filtered, all_follow}
 use Rattle.cluster_invariant.proofs.PiecesOfCloses.{role_given}
 use Rattle.cluster_invariant.proofs.PutLaws.{Appended, appends_state, only_puts, with_windows}
+use Rattle.dials_server.proofs.TellsNodes.{Tells, all_one_more, puts_tells, tells_of}
 use Rattle.dials_server.proofs.ClosedNodes.{other_role, there_still}
 use Rattle.dials_server.proofs.FittingFrames.{FitsOn, FrameFits}
 use Rattle.dials_server.proofs.FittingNodes.{same_link}
 use Rattle.dials_server.proofs.NodeConns.{node_same}
 use Rattle.dials_server.proofs.OpenedNodes.{IsFresh, Within, node_opens, within_more}
-use Rattle.dials_server.proofs.SaveNodes.{ReplyFits, SaysFit, all_one_more, frames_same, puts_fit, says_same}
+use Rattle.dials_server.proofs.SaveNodes.{ReplyFits, SaysFit, frames_same, puts_fit, says_same}
 use Rattle.dials_server.proofs.PlainFrames.{IsPlain}
-use Rattle.dials_server.proofs.TickNodes.{Tells, puts_tells, tells_of}
 
 -- What holds as sessions open, with these still to open.
 pub record OpenInv (x : Site) (n : DataState) (gone : List ℕ) (cs : List Caller) (b : Sofar) : Type 0 where

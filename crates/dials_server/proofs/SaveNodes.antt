@@ -28,7 +28,7 @@ use Rattle.cluster_invariant.proofs.PutLaws.{OnlyWindows, only_leaves, only_puts
 use Rattle.dials_server.proofs.FittingFrames.{FitsOn, FrameFits}
 use Rattle.dials_server.proofs.NodeConns.{node_same}
 use Rattle.dials_server.proofs.PlainFrames.{IsPlain, TellsOn}
-use Rattle.dials_server.proofs.TickNodes.{Tells, tells_of}
+use Rattle.dials_server.proofs.TellsNodes.{Tells, all_one_more, tells_of}
 
 -- replies
 
@@ -110,10 +110,6 @@ module _ (x : Site) (n : DataState) where
       save_state b (with_windows only.windows b.state) refl refl refl refl refl refl inv.requests inv.replies c.outs.frames fits c only.state refl only.cuts inv
 
 -- frames that are put
-
-pub all_one_more : {X : Type 0} (P : X → Type 0) (xs : List X) (z : X) → AllByRecursion P xs → P z → AllByRecursion P (xs ++ z ∷ [])
-all_one_more P [] z all is = (is, tt)
-all_one_more P (y ∷ ys) z all is = (all.0, all_one_more P ys z all.1 is)
 
 pub plain_fits : (m : Down) → IsPlain m → (x : Site) (n : DataState) (conn : ℕ) → TellsOn x conn → FitsOn m x n conn
 plain_fits (Welcome session epoch kept front taken) plain x n conn tells = absurd plain

@@ -29,8 +29,10 @@ use Rattle.data_rules.specs.Puts.{Sofar, becomes, head_of, puts}
 use Rattle.cluster_runs.specs.Machine.{Site}
 use Rattle.cluster_invariant.specs.Served.{HasLearnt}
 use Rattle.cluster_invariant.proofs.AllLists.{all_filtered}
-use Rattle.dials_server.proofs.GoNodes.{GoInv, IsItem, RoundFits, go_by, go_item, go_locks, go_puts, go_reply, go_table, lists_same}
-use Rattle.dials_server.proofs.SaveNodes.{FreedAll, all_one_more, pass_all}
+use Rattle.dials_server.proofs.TellsNodes.{all_one_more}
+use Rattle.dials_server.proofs.GoNodes.{GoInv, RoundFits, go_by, go_item, go_locks, go_puts, go_reply, go_table}
+use Rattle.dials_server.proofs.SameLists.{IsItem, lists_same}
+use Rattle.dials_server.proofs.SaveNodes.{FreedAll, pass_all}
 
 -- a request that comes, by whether it waits
 abbrev asked_by : Locks → Request → ℕ → Bool → Freed

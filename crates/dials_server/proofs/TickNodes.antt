@@ -1,10 +1,9 @@
 -- What a tick makes of a data server's connections: sessions whose time is over are closed, and what that drops is put to others.
-use Rattle.std.proofs.Common.{◌≡◌, ◌⊎◌, ◌≤◌, ◌<◌, ℕ, zero, suc, ◌+◌, Bool, true, false, ◌==◌, if◌then◌else◌, List, [], ◌∷◌, ◌++◌, length, map, filter, reverse, Option, Some, None, is_some, option_map, refl, sym, ◌∙◌, ap, subst, arith, inl, inr}
-use Rattle.std.specs.Prelude.{⊤, IsSomeAnd, get_or, set, nat_le, nat_lt}
+use Rattle.std.proofs.Common.{◌≡◌, ◌⊎◌, ◌≤◌, ◌<◌, ℕ, zero, suc, ◌+◌, Bool, true, false, ◌==◌, if◌then◌else◌, List, [], ◌∷◌, ◌++◌, length, Option, Some, None, is_some, option_map, refl, sym, ◌∙◌, ap, subst, arith, inl, inr}
+use Rattle.std.specs.Prelude.{⊤, get_or, set, nat_le, nat_lt}
 use Rattle.std.specs.List.{AllByRecursion, find, range_with_len}
 use Rattle.std.proofs.lemmas.Bool.{eq-eqb, eqb-true, false≢true, ltb-false, ltb-true}
 use Rattle.std.proofs.lemmas.List.{get_or-set_other, get_or-set_same, get_or_past, length-set}
-use Rattle.plain_orders.specs.declared.act.Act.TheVariants as act
 use Rattle.plain_orders.specs.declared.causes.ShutCause.{ShutCause}
 use Rattle.plain_orders.specs.declared.causes.ShutCause.TheVariants as shuts
 use Rattle.plain_orders.specs.declared.entry.Entry.{Entry}
@@ -18,157 +17,24 @@ use Rattle.link_states.specs.declared.data_link.DataLink.{DataLink}
 use Rattle.link_states.specs.declared.data_link.DataLink.TheVariants.{Free, Normal, Trouble, Recovering}
 use Rattle.link_states.specs.declared.link_event.LinkEvent.TheVariants.{Ticked}
 use Rattle.link_states.specs.Tables.{data_next}
-use Rattle.lock_table.specs.declared.rows.Request.{Request}
-use Rattle.lock_table.specs.LockWords.{is_request_of}
-use Rattle.ecp_messages.specs.declared.down.Down.{Down}
-use Rattle.subscript_keys.specs.declared.span.Span.{Span}
-use Rattle.block_holders.specs.declared.noted.Noted.{Noted}
-use Rattle.block_holders.specs.HolderWords.{forgotten, is_noted_elsewhere, is_touched, is_untouched, touched}
-use Rattle.end_words.specs.Windows.{sent, with_sent}
-use Rattle.data_rules.specs.declared.down_frames.DownOut.{DownOut}
 use Rattle.data_rules.specs.declared.rows.Conn.{Conn}
-use Rattle.data_rules.specs.declared.rows.Role.TheVariants.{Bound, Closing}
+use Rattle.data_rules.specs.declared.rows.Role.TheVariants.{Closing}
 use Rattle.data_rules.specs.DataState.{DataState}
-use Rattle.data_rules.specs.Closing.{cancels, cancels_all, silenced, unawaited, waits_for_reset}
-use Rattle.data_rules.specs.Conns.{is_conn, link_of, role_in, role_of, with_event, with_link, with_role_if}
-use Rattle.data_rules.specs.Entering.{appends, drops, drops_one, spans_of, with_entry}
+use Rattle.data_rules.specs.Conns.{is_conn, link_of, role_in, role_of, with_event, with_link}
 use Rattle.data_rules.specs.Opening.{ends_among, with_end}
 use Rattle.data_rules.specs.Places.{epoch_place}
-use Rattle.data_rules.specs.Puts.{Sofar, becomes, conn_of, is_bound_to, number_of, puts, tells_on, window_of, with_window, writes}
+use Rattle.data_rules.specs.Puts.{Sofar, becomes, conn_of, is_bound_to, number_of}
 use Rattle.data_rules.specs.Saving.{cause_of, closes_late, hears_tick, is_free, ticks, ticks_end, ticks_one}
 use Rattle.data_rules.specs.Messages.{is_awaited}
-use Rattle.cluster_runs.specs.CoresState.{Linked}
-use Rattle.cluster_runs.specs.Sent.{Connection}
 use Rattle.cluster_runs.specs.Machine.{Site}
-use Rattle.cluster_invariant.specs.Dials.{BoundIs, BoundTo, NodeDials, RoleIs}
+use Rattle.cluster_invariant.specs.Dials.{NodeDials}
 use Rattle.cluster_invariant.specs.Served.{HasLearnt}
-use Rattle.cluster_invariant.proofs.AllLists.{all_filtered}
-use Rattle.cluster_invariant.proofs.ConnRoles.{bound_role}
-use Rattle.cluster_invariant.proofs.PutLaws.{Appended, OnlyLocks, appends_state, only_cancels, only_puts, with_appended}
-use Rattle.cluster_invariant.proofs.Small.{of_some}
 use Rattle.cluster_invariant.proofs.Written.{closed_place}
 use Rattle.dials_server.proofs.ClosedNodes.{conns_closed, node_closes, still_unbound, there_still}
 use Rattle.dials_server.proofs.NodeConns.{node_same}
-use Rattle.dials_server.proofs.PlainFrames.{IsPlain, PlainOn, TellsOn}
-
--- putting to sessions that learnt of the order
-
--- their connections carry their messages
-abbrev pub Tells : Site → DataState → Type 0
-Tells z n = (s conn : ℕ) → HasLearnt z s → conn_of n s ≡ Some conn → TellsOn z conn
-
-pub tells_of : (z : Site) (n : DataState) → NodeDials z n → Tells z n
-tells_of z n is s conn learnt its = go (of_some (RoleIs z n conn) (role_of n conn) (Bound s) (bound_role s n.conns conn is.differ its) (is.roles conn))
-  where
-    carries : (o : Option Connection) → IsSomeAnd o (BoundTo z n.order s) → IsSomeAnd o (λ c. is_some c.its ≡ true)
-    carries None at = at
-    carries (Some c) at = ap is_some (at.told learnt)
-
-    go : BoundIs z n conn s → TellsOn z conn
-    go at =
-        subst (λ (o : Option Linked). IsSomeAnd o (λ l. IsSomeAnd ((z.end_at l.app).connection_at l.dial) (λ c. is_some c.its ≡ true))) (sym at.linked.link)
-        (carries ((z.end_at at.app).connection_at at.linked.dial) at.linked.its)
-
-all_one_more : {X : Type 0} (P : X → Type 0) (xs : List X) (x : X) → AllByRecursion P xs → P x → AllByRecursion P (xs ++ x ∷ [])
-all_one_more P [] x all is = (is, tt)
-all_one_more P (y ∷ ys) x all is = (all.0, all_one_more P ys x all.1 is)
-
-pub puts_plain : (z : Site) (s : ℕ) (m : Down) (b : Sofar) → IsPlain m → HasLearnt z s → Tells z b.state → AllByRecursion (PlainOn z) b.outs.frames
-    → AllByRecursion (PlainOn z) (puts s m b).outs.frames
-puts_plain z s m b plain learnt tells all = go (conn_of b.state s) refl
-  where
-    go : (o : Option ℕ) → conn_of b.state s ≡ o
-        → AllByRecursion (PlainOn z) (tells_on s o (sent (window_of b.state s) + 1) m (becomes (λ d. with_window s (with_sent (window_of d s) m) d) b)).outs.frames
-    go None its = all
-    go (Some conn) its = all_one_more (PlainOn z) b.outs.frames _ all (record { plain = plain; tells = tells s conn learnt its })
-
--- putting leaves the connections
-pub puts_tells : (z : Site) (s : ℕ) (m : Down) (b : Sofar) → Tells z b.state → Tells z (puts s m b).state
-puts_tells z s m b tells = subst (λ (d : DataState). Tells z d) (sym (only_puts s m b).state) tells
-
-pub drops_plain : (z : Site) (before : ℕ) (xs : List Noted) (b : Sofar) → AllByRecursion (λ y. HasLearnt z y.session) xs → Tells z b.state
-    → AllByRecursion (PlainOn z) b.outs.frames → AllByRecursion (PlainOn z) (drops before xs b).outs.frames
-drops_plain z before [] b learnt tells all = all
-drops_plain z before (x ∷ xs) b learnt tells all =
-    drops_plain z before xs (drops_one before x xs b) learnt.1 (puts_tells z x.session _ b tells) (puts_plain z x.session _ b tt learnt.0 tells all)
-
--- closing
-
--- What a Close makes, where the session's connection awaits its Reset.
-record ClosedBy (z : Site) (b c : Sofar) (s : ℕ) : Type 0 where
-  order : c.state.order ≡ b.state.order ++ Closed s ∷ []
-  dials : c.state.dials ≡ b.state.dials
-  links : c.state.links ≡ b.state.links
-  conns : c.state.conns ≡ conns_closed (conn_of b.state s) s b.state.conns
-  noted : AllByRecursion (λ (y : Noted). HasLearnt z y.session) b.state.noted → AllByRecursion (λ (y : Noted). HasLearnt z y.session) c.state.noted
-  frames : AllByRecursion (λ (y : Noted). HasLearnt z y.session) b.state.noted → Tells z b.state → AllByRecursion (PlainOn z) b.outs.frames
-      → AllByRecursion (PlainOn z) c.outs.frames
-  cuts : c.outs.cuts ≡ b.outs.cuts
-
--- the connection awaits it
-resets : (z : Site) (b c : Sofar) (s at : ℕ) (o : Option ℕ) → conn_of b.state s ≡ o → c.state.order ≡ b.state.order ++ Closed s ∷ [] → c.state.dials ≡ b.state.dials
-    → c.state.links ≡ b.state.links → c.state.conns ≡ b.state.conns
-    → (AllByRecursion (λ (y : Noted). HasLearnt z y.session) b.state.noted → AllByRecursion (λ (y : Noted). HasLearnt z y.session) c.state.noted)
-    → (AllByRecursion (λ (y : Noted). HasLearnt z y.session) b.state.noted → Tells z b.state → AllByRecursion (PlainOn z) b.outs.frames
-    → AllByRecursion (PlainOn z) c.outs.frames) → c.outs.cuts ≡ b.outs.cuts → ClosedBy z b (waits_for_reset o s at c) s
-resets z b c s at None its order dials links conns noted frames cuts = record {
-  order = order;
-  dials = dials;
-  links = links;
-  conns = conns ∙ ap (λ (o : Option ℕ). conns_closed o s b.state.conns) (sym its);
-  noted = noted;
-  frames = frames;
-  cuts = cuts;
-}
-resets z b c s at (Some conn) its order dials links conns noted frames cuts = record {
-  order = order;
-  dials = dials;
-  links = links;
-  conns = ap (λ (cs : List Conn). map (with_role_if conn (Closing s)) cs) conns ∙ ap (λ (o : Option ℕ). conns_closed o s b.state.conns) (sym its);
-  noted = noted;
-  frames = frames;
-  cuts = cuts;
-}
-
-closed_by : (z : Site) (s : ℕ) (cause : ShutCause) (b : Sofar)
-    → ClosedBy z b (waits_for_reset (conn_of b.state s) s (length b.state.order + 1)
-    (cancels_all s (becomes (unawaited s) (appends (Closed s) (becomes (silenced s) (writes (act.Shut b.state.server s cause) b)))))) s
-closed_by z s cause b =
-    resets z b c s (length b.state.order + 1) (conn_of b.state s) refl (ap (λ (d : DataState). d.order) state) (ap (λ (d : DataState). d.dials) state)
-    (ap (λ (d : DataState). d.links) state) (ap (λ (d : DataState). d.conns) state)
-    (λ learnt.
-    subst (λ (xs : List Noted). AllByRecursion (λ (y : Noted). HasLearnt z y.session) xs) (sym (ap (λ (d : DataState). d.noted) state))
-    (all_filtered (λ (y : Noted). HasLearnt z y.session) (is_untouched spans) (forgotten s b.state.noted)
-    (all_filtered (λ (y : Noted). HasLearnt z y.session) (is_noted_elsewhere s) b.state.noted learnt)))
-    (λ learnt tells all.
-    subst (λ (fs : List DownOut). AllByRecursion (PlainOn z) fs) (sym cancelled.frames)
-    (drops_plain z (length b.state.order) (touched spans (forgotten s b.state.noted)) (becomes (with_entry (Closed s) spans) silent)
-    (all_filtered (λ (y : Noted). HasLearnt z y.session) (is_touched spans) (forgotten s b.state.noted)
-    (all_filtered (λ (y : Noted). HasLearnt z y.session) (is_noted_elsewhere s) b.state.noted learnt)) tells all)) (cancelled.cuts ∙ closed.cuts)
-  where
-    silent : Sofar
-    silent = becomes (silenced s) (writes (act.Shut b.state.server s cause) b)
-
-    spans : List Span
-    spans = spans_of silent.state (Closed s)
-
-    after : Sofar
-    after = becomes (unawaited s) (appends (Closed s) silent)
-
-    rs : List Request
-    rs = reverse (filter (is_request_of s) after.state.locks.requests)
-
-    c : Sofar
-    c = cancels rs after
-
-    closed : Appended (Closed s) silent (appends (Closed s) silent)
-    closed = appends_state (Closed s) silent
-
-    cancelled : OnlyLocks after c
-    cancelled = only_cancels rs after
-
-    state : c.state ≡ record (unawaited s (with_appended (Closed s) closed.windows silent.state)) { locks = cancelled.locks; replies = cancelled.replies }
-    state = cancelled.state ∙ ap (λ (d : DataState). record (unawaited s d) { locks = cancelled.locks; replies = cancelled.replies }) closed.state
+use Rattle.dials_server.proofs.PlainFrames.{PlainOn}
+use Rattle.dials_server.proofs.TellsNodes.{tells_of}
+use Rattle.dials_server.proofs.ClosesNodes.{ClosedBy, closed_by}
 
 -- ends
 
