@@ -18,7 +18,7 @@ import sys
 import time
 
 TOP = os.path.dirname(os.path.dirname(os.path.abspath(__file__)))
-EDITS_AT_MOST = (100, 150)
+EDITS_AT_MOST = (110, 150)
 CRATES_WITH_TESTS_AT_MOST = 14
 MINUTES_AT_MOST = (180, 300)
 

@@ -136,7 +136,7 @@ alone_ended key ls at p e = record {
 }
 
 -- no byte string stands between a key and the bytes behind it
-only_it : (key other : List ℕ) → is_gt (key_cmp key other) ≡ false → is_lt (key_cmp other (key ++ 0 ∷ [])) ≡ true → is_eq (key_cmp key other) ≡ true
+pub only_it : (key other : List ℕ) → is_gt (key_cmp key other) ≡ false → is_lt (key_cmp other (key ++ 0 ∷ [])) ≡ true → is_eq (key_cmp key other) ≡ true
 only_it [] [] h k = refl
 only_it [] (b ∷ bs) h k = absurd (go (cases_order b 0) k)
   where

@@ -1,10 +1,16 @@
 -- What holds holds before any move.
-use Rattle.std.proofs.Common.{◌≡◌, ℕ, zero, suc, false, refl, sym, arith, List, [], None}
-use Rattle.std.proofs.lemmas.Bool.{le-ltb, false≢true}
+use Rattle.std.proofs.Common.{◌≡◌, ℕ, zero, suc, Bool, true, false, refl, sym, ap, arith, List, [], length, None}
+use Rattle.std.specs.Prelude.{map, nat_lt}
+use Rattle.std.specs.List.{range_with_len}
+use Rattle.std.proofs.lemmas.List.{get_or_past}
+use Rattle.std.proofs.lemmas.List.FromFn.{get_or-map-range_with_len, length-map-range_with_len}
+use Rattle.std.proofs.lemmas.Bool.{le-ltb, ltb-true, ltb-false, false≢true}
 use Rattle.plain_orders.specs.declared.entry.Entry.{Entry}
 use Rattle.plain_orders.specs.declared.layout.Layout.{Layout}
 use Rattle.plain_runs.specs.Plain.{nothing_opened}
 use Rattle.app_rules.specs.AppState.{no_end}
+use Rattle.app_rules.specs.JobState.{JobState, no_job}
+use Rattle.cluster_runs.specs.CoresState.{new_job}
 use Rattle.cluster_runs.specs.Sent.{no_lane}
 use Rattle.cluster_runs.specs.Machine.{fresh_site, fresh_end, begin}
 use Rattle.cluster_invariant.specs.Orders.{OrderIs}
@@ -14,6 +20,8 @@ use Rattle.cluster_invariant.specs.Link.{LinkHolds, AppWay, LaneCounts}
 use Rattle.cluster_invariant.specs.Coherence.{CoherenceHolds, IsCoherent, IsHeader}
 use Rattle.cluster_invariant.specs.Fronts.{FrontsHold}
 use Rattle.cluster_invariant.specs.Rounds.{RoundsHold, LaneRound}
+use Rattle.cluster_invariant.specs.Asks.{AsksHold}
+use Rattle.cluster_invariant.specs.Commands.{CommandsHold}
 use Rattle.cluster_invariant.specs.Holds.{SiteHolds, Holds}
 
 order_begins : (l : Layout) (d : ℕ) → OrderIs l d nothing_opened fresh_site
@@ -68,6 +76,26 @@ no_round es session = record { once = omega arith; opened = λ here. refl; await
 rounds_begin : RoundsHold nothing_opened fresh_site (λ _. false)
 rounds_begin = record { lanes = λ session k there. no_round _ session; node = tt; apps = λ app alive. tt }
 
+-- nor was a lock asked for
+asks_begin : AsksHold fresh_site (λ _. false)
+asks_begin = record { lanes = λ session k. record { follow = tt; grants = tt }; node = tt; apps = λ app alive. tt }
+
+-- each job has its own index
+index_begins : (l : Layout) (job : ℕ) → ((begin l).job_at job).index ≡ job
+index_begins l job = go (nat_lt job (length l.job_apps)) refl
+  where
+    go : (b : Bool) → nat_lt job (length l.job_apps) ≡ b → ((begin l).job_at job).index ≡ job
+    go true there =
+        ap (λ (j : JobState). j.index)
+        (get_or-map-range_with_len (new_job l) 0 (length l.job_apps) job job (no_job job 0 0) (ltb-true job (length l.job_apps) there) (omega arith))
+    go false past =
+        ap (λ (j : JobState). j.index)
+        (get_or_past (map (new_job l) (range_with_len 0 (length l.job_apps))) job (no_job job 0 0)
+        (omega (arith, length-map-range_with_len (new_job l) 0 (length l.job_apps), ltb-false job (length l.job_apps) past)))
+
+commands_begin : (l : Layout) → CommandsHold (begin l)
+commands_begin l = record { index = index_begins l; lost = λ app d alive. record { told = tt; below = tt }; asks = λ app d alive. tt }
+
 site_begins : (l : Layout) (d : ℕ) → SiteHolds l d (λ _. false) nothing_opened fresh_site
 site_begins l d = record {
   order = order_begins l d;
@@ -77,7 +105,9 @@ site_begins l d = record {
   coherence = coherence_begins;
   fronts = fronts_begin;
   rounds = rounds_begin;
+  windows = tt;
+  asks = asks_begin;
 }
 
 pub begin_holds : (l : Layout) → Holds l (begin l)
-begin_holds l = record { layout = refl; clock = refl; died = λ app. refl; sites = site_begins l }
+begin_holds l = record { layout = refl; clock = refl; died = λ app. refl; sites = site_begins l; commands = commands_begin l }

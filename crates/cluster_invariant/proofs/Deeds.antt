@@ -12,6 +12,7 @@ use Rattle.plain_orders.specs.declared.mode.Mode.{Mode}
 use Rattle.lock_table.specs.declared.rows.Request.{Request}
 use Rattle.lock_table.specs.LockWords.{Freed}
 use Rattle.data_rules.specs.DataState.{DataState}
+use Rattle.cluster_invariant.specs.Words.{IsFront}
 use Rattle.cluster_invariant.proofs.PutLaws.{Appended, appends_state}
 use Rattle.data_rules.specs.Puts.{Sofar, becomes, writes}
 use Rattle.data_rules.specs.Entering.{enters}
@@ -70,6 +71,24 @@ order_with (Breaks app now) es = es
 abbrev pub order_by : List Deed → List Entry → List Entry
 order_by [] es = es
 order_by (x ∷ xs) es = order_by xs (order_with x es)
+
+-- an order goes on by deeds
+
+one_grows : (x : Deed) (es : List Entry) → IsFront es (order_with x es)
+one_grows (Enters e) es = (e ∷ [], refl)
+one_grows (Closes s cause) es = (Closed s ∷ [], refl)
+one_grows (Releases s) es = ([], sym (append-nil es))
+one_grows ComesBack es = ([], sym (append-nil es))
+one_grows (Grants s j m key at) es = ([], sym (append-nil es))
+one_grows (Frees s j m key) es = ([], sym (append-nil es))
+one_grows (Breaks app now) es = ([], sym (append-nil es))
+
+pub deeds_grow : (xs : List Deed) (es : List Entry) → IsFront es (order_by xs es)
+deeds_grow [] es = ([], sym (append-nil es))
+deeds_grow (x ∷ xs) es = join (one_grows x es) (deeds_grow xs (order_with x es))
+  where
+    join : IsFront es (order_with x es) → IsFront (order_with x es) (order_by xs (order_with x es)) → IsFront es (order_by xs (order_with x es))
+    join a b = (a.0 ++ b.0, b.1 ∙ ap (λ (fs : List Entry). fs ++ b.0) a.1 ∙ append_assoc es a.0 b.0)
 
 -- nothing is written and the order stays
 pub record Still (b c : Sofar) : Type 0 where

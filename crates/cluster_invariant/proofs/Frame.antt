@@ -9,6 +9,7 @@ use Rattle.plain_runs.proofs.RunLemmas.{after_all-append, after_all-more}
 use Rattle.cluster_runs.specs.declared.move_outs.MoveOuts.{MoveOuts}
 use Rattle.cluster_runs.specs.Machine.{Machine, Site, with_acts}
 use Rattle.cluster_runs.specs.Goes.{at_site, TickGoes}
+use Rattle.cluster_invariant.specs.Commands.{CommandsHold}
 use Rattle.cluster_invariant.specs.Holds.{SiteHolds, HoldsOf, Holds}
 use Rattle.cluster_invariant.proofs.Small.{at_places}
 
@@ -27,14 +28,15 @@ pub kept_at : (l : Layout) (m new : Machine) (server : ℕ) (f : Site → Site) 
     → (after_all l (state_after l m.trail) written).clock ≡ (state_after l m.trail).clock
     → ((app : ℕ) → (after_all l (state_after l m.trail) written).died_at app ≡ (state_after l m.trail).died_at app)
     → SiteHolds l server m.is_dead_at ((after_all l (state_after l m.trail) written).server_at server) (f (m.site_at server))
-    → Holds l new
-kept_at l m new server f written h after others clock died here =
+    → CommandsHold (with_acts written (at_site server f m)) → Holds l new
+kept_at l m new server f written h after others clock died here commands =
     subst (λ (n : Machine). Holds l n) (sym after)
     (subst (λ (q : Plain). HoldsOf l q (with_acts written (at_site server f m))) (sym (after_all-append l start m.trail written)) (record {
       layout = h.layout;
       clock = clock ∙ h.clock;
       died = λ app. died app ∙ h.died app;
       sites = others_left l (state_after l m.trail) (after_all l (state_after l m.trail) written) m server (f (m.site_at server)) (λ d v x. SiteHolds l d m.is_dead_at v x) h.sites others here;
+      commands = commands;
     }))
 
 -- A tick keeps all.
@@ -43,4 +45,7 @@ kept_by_tick l m new now outs written h goes =
     subst (λ (n : Machine). Holds l n) (sym goes.after)
     (subst (λ (w : List Act). Holds l (with_acts w (record m { clock = now }))) (sym goes.acts)
     (subst (λ (q : Plain). HoldsOf l q (with_acts (act.Tick now ∷ []) (record m { clock = now }))) (sym (after_all-more l start m.trail (act.Tick now)))
-    (record { layout = h.layout; clock = refl; died = h.died; sites = h.sites })))
+    (record { layout = h.layout; clock = refl; died = h.died; sites = h.sites; commands = commands })))
+  where
+    commands : CommandsHold (with_acts (act.Tick now ∷ []) (record m { clock = now }))
+    commands = record { index = h.commands.index; lost = h.commands.lost; asks = h.commands.asks }

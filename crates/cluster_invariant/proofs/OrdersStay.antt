@@ -24,10 +24,10 @@ use Rattle.cluster_invariant.proofs.OrderBeside.{SameOrders, leaves_orders, row_
 use Rattle.cluster_invariant.proofs.Written.{next_place, entered_place, closed_place}
 
 -- the order at a place, and what stays of it
-abbrev order_in : List (List Entry) → List Entry → ℕ → List Entry
+abbrev pub order_in : List (List Entry) → List Entry → ℕ → List Entry
 order_in xs o k = get_or (xs ++ o ∷ []) k []
 
-abbrev stays_in : List (List Entry) → List Entry → ℕ → ℕ → ℕ
+abbrev pub stays_in : List (List Entry) → List Entry → ℕ → ℕ → ℕ
 stays_in xs o n k = if k == length xs then n else epoch_place (order_in xs o (k + 1)) - 1
 
 plus_none : (k : ℕ) → k + 0 ≡ k
@@ -43,15 +43,15 @@ shorter : (n m : ℕ) (es : List Entry) → n ≤ m → take n (take m es) ≡ t
 shorter n m es low = take-take n m es low
 
 -- What an order and the next one have alike, and that no less stays of the next.
-record GoesOnAt (xs : List (List Entry)) (o : List Entry) (n k : ℕ) : Type 0 where
-  rises : stays_in xs o n k ≤ stays_in xs o n (k + 1)
-  within : stays_in xs o n k ≤ length (order_in xs o k)
-  front : take (stays_in xs o n k) (order_in xs o (k + 1)) ≡ take (stays_in xs o n k) (order_in xs o k)
-  next : entry_at (order_in xs o (k + 1)) (stays_in xs o n k + 1) ≡ Some (Epoch (last_epoch (take (stays_in xs o n k) (order_in xs o k)) + 1))
-  low : stays_in xs o n k ≤ length (order_in xs o (k + 1))
+pub record GoesOnAt (xs : List (List Entry)) (o : List Entry) (n k : ℕ) : Type 0 where
+  pub rises : stays_in xs o n k ≤ stays_in xs o n (k + 1)
+  pub within : stays_in xs o n k ≤ length (order_in xs o k)
+  pub front : take (stays_in xs o n k) (order_in xs o (k + 1)) ≡ take (stays_in xs o n k) (order_in xs o k)
+  pub next : entry_at (order_in xs o (k + 1)) (stays_in xs o n k + 1) ≡ Some (Epoch (last_epoch (take (stays_in xs o n k) (order_in xs o k)) + 1))
+  pub low : stays_in xs o n k ≤ length (order_in xs o (k + 1))
 
 -- all orders of a server
-abbrev GoOn : Server → Type 0
+abbrev pub GoOn : Server → Type 0
 GoOn v = (k : ℕ) → k < length v.past → GoesOnAt v.past v.order v.synced k
 
 -- the places of a list of orders
@@ -281,7 +281,7 @@ run_on l before (a ∷ acts) run more g d =
     (run_on l (before ++ a ∷ []) acts (run_more l start before a run more.0) (subst (λ (q : Plain). RunFrom l q acts) (sym (after_all-more l start before a)) more.1)
     (λ e. subst (λ (q : Plain). GoOn (q.server_at e)) (sym (after_all-more l start before a)) (row_on l (state_after l before) a more.0 e (λ shut. ((orders_kept l before e run).fresh shut).1, g e))) d)
 
-go_on : (l : Layout) (acts : List Act) (d : ℕ) → IsRun l acts → GoOn ((state_after l acts).server_at d)
+pub go_on : (l : Layout) (acts : List Act) (d : ℕ) → IsRun l acts → GoOn ((state_after l acts).server_at d)
 go_on l acts d run = run_on l [] acts tt run (λ e k low. absurd (omega (arith, low))) d
 
 -- Each order is an ordered list, and goes on from the one before it.
@@ -294,9 +294,16 @@ orders_agree l acts d run = record {
 
 -- no more stays of an order than of a later one
 
-stays_rise : (v : Server) → GoOn v → (k more : ℕ) → k + more ≤ length v.past → stays_at v k ≤ stays_at v (k + more)
+pub stays_rise : (v : Server) → GoOn v → (k more : ℕ) → k + more ≤ length v.past → stays_at v k ≤ stays_at v (k + more)
 stays_rise v g k zero low = omega (arith, ap (stays_at v) (plus_none k))
 stays_rise v g k (suc more) low = omega (arith, stays_rise v g k more (omega (arith, low)), (g (k + more) (omega (arith, low))).rises, ap (stays_at v) (plus_more k more))
+
+pub what_stays_rises : (l : Layout) (acts : List Act) (d k j : ℕ) → IsRun l acts → k ≤ j → j ≤ current ((state_after l acts).server_at d)
+    → stays_at ((state_after l acts).server_at d) k ≤ stays_at ((state_after l acts).server_at d) j
+what_stays_rises l acts d k j run later low = go ((state_after l acts).server_at d) (go_on l acts d run) low
+  where
+    go : (v : Server) → GoOn v → j ≤ length v.past → stays_at v k ≤ stays_at v j
+    go v g low = omega (arith, stays_rise v g k (j - k) (omega (arith, low, later)), ap (stays_at v) (plus_rest k j later))
 
 -- What stays of an order is synced.
 pub stays_synced : (l : Layout) (acts : List Act) (d k : ℕ) → IsRun l acts → k ≤ current ((state_after l acts).server_at d) → stays_at ((state_after l acts).server_at d) k ≤ ((state_after l acts).server_at d).synced

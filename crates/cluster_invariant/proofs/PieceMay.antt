@@ -1,5 +1,5 @@
 -- What is known where a step of a data server makes a small change.
-use Rattle.std.proofs.Common.{◌≡◌, ◌≢◌, ◌≤◌, ◌<◌, ◌⊎◌, ℕ, Bool, true, false, List, ◌∷◌, ◌++◌, length, filter, Option, Some, None, is_some}
+use Rattle.std.proofs.Common.{◌≡◌, ◌≢◌, ◌≤◌, ◌<◌, ◌⊎◌, ℕ, Bool, true, false, List, [], ◌∷◌, ◌++◌, length, filter, Option, Some, None, is_some}
 use Rattle.std.specs.Prelude.{Ok, nat_lt, pos}
 use Rattle.std.specs.List.{AllByRecursion, list_any}
 use Rattle.plain_orders.specs.declared.causes.ShutCause.{ShutCause}
@@ -37,13 +37,13 @@ use Rattle.data_rules.specs.declared.rows.Says.{Says}
 use Rattle.data_rules.specs.declared.rows.Says.TheVariants.{NewWelcome, EpochWelcome, ResetOf, GrantOf, AnswerOf}
 use Rattle.data_rules.specs.DataState.{DataState}
 use Rattle.data_rules.specs.Places.{close_place}
-use Rattle.data_rules.specs.Puts.{Sofar, becomes, replies, begun, body_of, conn_of, window_of}
+use Rattle.data_rules.specs.Puts.{Sofar, becomes, replies, begun, body_of, conn_of, is_reply_elsewhere, says_on, window_of}
 use Rattle.data_rules.specs.Leaving.{may_leave}
 use Rattle.data_rules.specs.Owing.{owes_item}
 use Rattle.data_rules.specs.Conns.{link_of, role_of}
 use Rattle.data_rules.specs.Messages.{is_awaited, is_refused}
 use Rattle.data_rules.specs.Callers.{dial_of}
-use Rattle.data_rules.specs.Frames.{kind_of}
+use Rattle.data_rules.specs.Frames.{kind_of, took}
 use Rattle.data_rules.specs.Saving.{cause_of, has_item_of, hears_tick, part_saved, writes_synced}
 use Rattle.cluster_invariant.specs.Served.{has_one_ticket}
 use Rattle.cluster_invariant.proofs.PieceKinds.{Ending, There, Here, LockCall, Asks, Unlocks, Withdraws, GivesBack, ForgetsTicket, Claims, Cancels, Releases}
@@ -154,6 +154,13 @@ pub record ResumesMay (t : Coming) (app session conn : ℕ) (b : Sofar) : Type 0
   pub is_new : role_of b.state conn ≡ Some New
   pub is_live : live b.state.order session ≡ true
   pub begun : came.epoch ≤ last_epoch b.state.order
+  -- nothing was put before
+  pub unput : b.outs.frames ≡ []
+
+-- the replies that are left where a connection, if there is one, goes
+abbrev pub left_by : Option ℕ → List Reply → List Reply
+left_by None rs = rs
+left_by (Some conn) rs = filter (is_reply_elsewhere (says_on conn)) rs
 
 -- in the epoch that its other end was told
 pub record GoesOnMay (t : Coming) (session conn taken : ℕ) (b : Sofar) : Type 0 where
@@ -163,6 +170,8 @@ pub record GoesOnMay (t : Coming) (session conn taken : ℕ) (b : Sofar) : Type 
   pub bound : role_of b.state conn ≡ Some (Bound session)
   pub is_live : live b.state.order session ≡ true
   pub its_epoch : came.epoch ≡ last_epoch b.state.order
+  pub unput : b.outs.frames ≡ []
+  pub waiting : b.state.replies ≡ left_by (conn_of t.old session) t.old.replies
 
 -- in an older one
 pub record ComesAgainMay (t : Coming) (session conn kept : ℕ) (b : Sofar) : Type 0 where
@@ -172,6 +181,9 @@ pub record ComesAgainMay (t : Coming) (session conn kept : ℕ) (b : Sofar) : Ty
   pub is_live : live b.state.order session ≡ true
   pub older : came.epoch < last_epoch b.state.order
   pub known : place_of_epoch came.epoch 0 b.state.order ≡ Some kept
+  pub unput : b.outs.frames ≡ []
+  -- of the replies that waited those stay that aren't on the session's older connection
+  pub waiting : b.state.replies ≡ left_by (conn_of t.old session) t.old.replies
 
 -- a Recover of a closed session
 pub record AwaitsResetMay (t : Coming) (session conn at : ℕ) (b : Sofar) : Type 0 where
@@ -181,6 +193,8 @@ pub record AwaitsResetMay (t : Coming) (session conn at : ℕ) (b : Sofar) : Typ
   pub is_closed : live b.state.order session ≡ false
   pub begun : came.epoch ≤ last_epoch b.state.order
   pub closed : close_place b.state.order session ≡ Some at
+  pub unput : b.outs.frames ≡ []
+  pub waiting : b.state.replies ≡ t.old.replies
 
 -- closing
 
@@ -197,6 +211,7 @@ pub record HelloCloses (t : Coming) (session app : ℕ) (b : Sofar) : Type 0 whe
   pub dial : ℕ
   pub came : Came t conn (Hello app dial)
   pub is_new : role_of b.state conn ≡ Some New
+  pub unput : b.outs.frames ≡ []
 
 -- why a session is closed
 abbrev pub ClosesBy : Coming → ℕ → ℕ → ShutCause → Sofar → Type 0
@@ -300,8 +315,9 @@ pub record PutsAckMay (t : Coming) (session : ℕ) (b : Sofar) : Type 0 where
   pub is_live : live b.state.order session ≡ true
   pub saved : has_item_of (part_saved t.old upto) session ≡ true
 
--- a session is closed at this place, and its connection awaits the Reset
-pub record ResetMay (conn session place at : ℕ) (b : Sofar) : Type 0 where
+-- a tick closed a session at this place, and its connection awaits the Reset
+pub record ResetMay (t : Coming) (conn session place at : ℕ) (b : Sofar) : Type 0 where
+  pub came : t.input ≡ data_in.Tick
   pub until : at ≡ place
   pub closing : role_of b.state conn ≡ Some (Closing session)
   pub closed : entry_at b.state.order place ≡ Some (entries.Closed session)
@@ -334,7 +350,7 @@ pub record AnswersMay (t : Coming) (session place at : ℕ) (says : Says) (b : S
 abbrev pub RepliesMay : Coming → ℕ → Says → Sofar → Type 0
 RepliesMay t at (NewWelcome conn session) b = ⊥
 RepliesMay t at (EpochWelcome conn session kept) b = ⊥
-RepliesMay t at (ResetOf conn session place) b = ResetMay conn session place at b
+RepliesMay t at (ResetOf conn session place) b = ResetMay t conn session place at b
 RepliesMay t at (GrantOf session ticket number) b = ⊥
 RepliesMay t at (AnswerOf session about job number place sum) b = AnswersMay t session place at (AnswerOf session about job number place sum) b
 
@@ -344,17 +360,20 @@ pub record LeavesMay (before : List Reply) (r : Reply) (behind : List Reply) (b 
   pub synced : may_leave b.state.synced r ≡ true
   pub others : AllByRecursion (λ q. may_leave b.state.synced q ≡ false) before
 
--- so much was taken of the session since a frame was put
-pub record BaresMay (session conn : ℕ) (b : Sofar) : Type 0 where
+-- a frame came on the connection of the session, of which so much was taken since a frame was put
+pub record BaresMay (t : Coming) (session conn : ℕ) (b : Sofar) : Type 0 where
+  pub after : Message t session b
   pub its : conn_of b.state session ≡ Some conn
   pub owed : owes_bare (window_of b.state session) ≡ true
 
 -- locks
 
--- a message of the holder's session
+-- a message of the holder's session, which was just taken
 pub record Asked (t : Coming) (session : ℕ) (m : Up) (b : Sofar) : Type 0 where
   pub its : Message t session b
   pub says : its.up.message ≡ m
+  pub first : TakesMay t its.conn session its.up (begins t)
+  pub just : b ≡ took session its.up.ack (begins t)
 
 -- a hold is given up
 pub record UnlocksMay (t : Coming) (who : Who) (mode : Mode) (key : List ℕ) (b : Sofar) : Type 0 where
@@ -389,10 +408,19 @@ pub record IsLast (r : Request) (rs : List Request) : Type 0 where
   pub others : AllByRecursion (λ q. is_other_ticket r.who.session r.ticket q ≡ true) before
   pub none : AllByRecursion (λ q. q.who.session ≢ r.who.session) (filter (is_other_ticket r.who.session r.ticket) behind)
 
--- its session was closed, and requests of that go the latest first
+-- the requests that wait are of live sessions
+abbrev pub AskersLive : DataState → Type 0
+AskersLive d = AllByRecursion (λ r. live d.order r.who.session ≡ true) d.locks.requests
+
+-- the request is of this session, or of a live one
+abbrev pub LivesUnless : ℕ → List Entry → Request → Type 0
+LivesUnless s es r = r.who.session ≢ s → live es r.who.session ≡ true
+
+-- its session was closed, and requests of that go the latest first; others are of live sessions, where all were as the step began
 pub record CancelsMay (t : Coming) (r : Request) (b : Sofar) : Type 0 where
   pub closed : live b.state.order r.who.session ≡ false
   pub last : has_one_ticket t.old.locks.requests ≡ true → IsLast r b.state.locks.requests
+  pub others : AskersLive t.old → AllByRecursion (LivesUnless r.who.session b.state.order) b.state.locks.requests
 
 -- a save covers the session's Close
 pub record ReleasesMay (t : Coming) (session : ℕ) (b : Sofar) : Type 0 where

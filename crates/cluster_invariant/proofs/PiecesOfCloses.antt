@@ -1,9 +1,9 @@
 -- A session is closed, as pieces: its Close and its end at once, then its requests go one by one, and its connection awaits the Reset.
-use Rattle.std.proofs.Common.{◌≡◌, ℕ, ◌+◌, Bool, true, false, if◌then◌else◌, cond, List, [], ◌∷◌, ◌++◌, length, map, filter, reverse, Option, Some, None, is_some, refl, sym, ◌∙◌, ap, subst}
+use Rattle.std.proofs.Common.{◌≡◌, ◌≢◌, ℕ, ◌+◌, Bool, true, false, if◌then◌else◌, cond, List, [], ◌∷◌, ◌++◌, length, map, filter, reverse, Option, Some, None, is_some, refl, sym, ◌∙◌, ap, subst}
 use Rattle.std.specs.Prelude.{◌==◌}
 use Rattle.std.specs.List.{AllByRecursion, find}
 use Rattle.std.specs.Option.{option_map}
-use Rattle.std.proofs.lemmas.Bool.{eqb-true, eq-eqb}
+use Rattle.std.proofs.lemmas.Bool.{eqb-true, eq-eqb, ne_eqb}
 use Rattle.std.proofs.lemmas.List.{reverse-append, reverse-reverse}
 use Rattle.std.proofs.lemmas.List.Elements.{filter-append}
 use Rattle.plain_orders.specs.declared.causes.ShutCause.{ShutCause}
@@ -17,6 +17,7 @@ use Rattle.plain_orders.proofs.Places.{entry_last}
 use Rattle.lock_table.specs.declared.rows.Request.{Request}
 use Rattle.lock_table.specs.LockWords.{Locks, Freed, is_request_of, without_request}
 use Rattle.data_rules.specs.DataState.{DataState}
+use Rattle.data_rules.specs.declared.data_in.DataIn.TheVariants as data_in
 use Rattle.data_rules.specs.declared.rows.Conn.{Conn}
 use Rattle.data_rules.specs.declared.rows.Reply.{Reply}
 use Rattle.data_rules.specs.declared.rows.Role.{Role}
@@ -29,12 +30,12 @@ use Rattle.data_rules.specs.Granting.{grants, grants_one, locks_become, with_loc
 use Rattle.data_rules.specs.Conns.{with_event, with_role_if, is_conn, role_in, drops_conn}
 use Rattle.data_rules.specs.Closing.{silenced, cancels_one, cancels, turns_away, waits_for_reset, closes}
 use Rattle.cluster_invariant.specs.Served.{has_one_ticket}
-use Rattle.cluster_invariant.proofs.AllLists.{all_reversed, all_passed, all_follow}
-use Rattle.cluster_invariant.proofs.Parts.{IsPart, part_same, part_then, part_left, part_front}
-use Rattle.cluster_invariant.proofs.RequestParts.{cancels_part, part_tickets, before_last, is_last, still_last}
+use Rattle.cluster_invariant.proofs.AllLists.{all_reversed, all_passed, all_follow, all_both}
+use Rattle.cluster_invariant.proofs.Parts.{IsPart, part_all, part_same, part_then, part_left, part_front}
+use Rattle.cluster_invariant.proofs.RequestParts.{cancels_part, none_of_session, part_tickets, before_last, is_last, still_last}
 use Rattle.cluster_invariant.proofs.PutLaws.{only_locks, only_cancels, appends_state}
 use Rattle.cluster_invariant.proofs.PieceKinds.{Closes, Cancels, Locks as CallsLocks, Replies, closing_on, parts_from, event_of, with_close, shuts}
-use Rattle.cluster_invariant.proofs.PieceMay.{Coming, ClosesMay}
+use Rattle.cluster_invariant.proofs.PieceMay.{AskersLive, LivesUnless, Coming, ClosesBy, ClosesMay}
 use Rattle.cluster_invariant.proofs.Pieces.{Pieced, no_piece, one_piece, one_then, and_then}
 
 -- a change that leaves the table of locks and the order, and that grants may follow or precede
@@ -97,22 +98,33 @@ parts_pass (Trouble time) o s = closing_passes o s
 parts_pass Replaced o s = drop_passes o
 parts_pass (Round time) o s = closing_passes o s
 
+-- as a request goes, those of other sessions are of live ones still
+cancelled_live : (s : ℕ) (r : Request) (b : Sofar) → AllByRecursion (LivesUnless s b.state.order) b.state.locks.requests
+    → AllByRecursion (LivesUnless s (cancels_one r b).state.order) (cancels_one r b).state.locks.requests
+cancelled_live s r b lives =
+    subst (λ (es : List Entry). AllByRecursion (LivesUnless s es) (cancels_one r b).state.locks.requests)
+    (sym (ap (λ (d : DataState). d.order) (only_locks (without_request b.state.locks r.who.session r.ticket (length b.state.order)) b).state))
+    (part_all (LivesUnless s b.state.order) (cancels_one r b).state.locks.requests b.state.locks.requests (cancels_part (r ∷ []) b) lives)
+
 -- requests of a session that was closed go
 cancel_pieces : (t : Coming) (s : ℕ) (rs : List Request) (b : Sofar) → AllByRecursion (λ r. r.who.session ≡ s) rs → live b.state.order s ≡ false
     → IsPart (filter (is_request_of s) b.state.locks.requests) (reverse rs)
     → (has_one_ticket t.old.locks.requests ≡ true → has_one_ticket (reverse rs) ≡ true)
+    → (AskersLive t.old → AllByRecursion (LivesUnless s b.state.order) b.state.locks.requests)
     → Pieced t b (cancels rs b)
-cancel_pieces t s [] b its closed part one = no_piece t b
-cancel_pieces t s (r ∷ rs) b its closed part one =
+cancel_pieces t s [] b its closed part one others = no_piece t b
+cancel_pieces t s (r ∷ rs) b its closed part one others =
     one_then t (CallsLocks (Cancels r)) b _
     (record {
       closed = subst (λ (n : ℕ). live b.state.order n ≡ false) (sym its.0) closed;
       last = λ o. is_last r (reverse rs) b.state.locks.requests (before_last (reverse rs) r (one_now o)) part_now;
+      others = λ old. subst (λ (n : ℕ). AllByRecursion (LivesUnless n b.state.order) b.state.locks.requests) (sym its.0) (others old);
     })
     (cancel_pieces t s rs (cancels_one r b) its.1
     (ap (λ (d : DataState). live d.order s) (only_locks (without_request b.state.locks r.who.session r.ticket (length b.state.order)) b).state ∙ closed)
     (subst (λ (n : ℕ). IsPart (filter (is_request_of n) (cancels_one r b).state.locks.requests) (reverse rs)) its.0 (still_last r (reverse rs) b part_now))
-    (λ o. part_tickets (reverse rs) (reverse rs ++ r ∷ []) (part_front (reverse rs) (r ∷ [])) (one_now o)))
+    (λ o. part_tickets (reverse rs) (reverse rs ++ r ∷ []) (part_front (reverse rs) (r ∷ [])) (one_now o))
+    (λ old. cancelled_live s r b (others old)))
   where
     turned : reverse (r ∷ rs) ≡ reverse rs ++ r ∷ []
     turned = reverse-append (r ∷ []) rs
@@ -219,16 +231,37 @@ closes_part s cause b =
     (subst (λ (l : Locks). IsPart (closed_at s cause b).state.locks.requests l.requests) (close_locks s cause b)
     (cancels_part (requests_at s cause b) (with_close s cause b)))
 
+-- no request of the session is left
+cancelled_all : (s : ℕ) (rs : List Request) (b : Sofar) → AllByRecursion (λ r. r.who.session ≡ s) rs
+    → IsPart (filter (is_request_of s) b.state.locks.requests) (reverse rs) → AllByRecursion (λ r. r.who.session ≢ s) (cancels rs b).state.locks.requests
+cancelled_all s [] b its part = none_of_session s b.state.locks.requests part
+cancelled_all s (r ∷ rs) b its part =
+    cancelled_all s rs (cancels_one r b) its.1
+    (subst (λ (n : ℕ). IsPart (filter (is_request_of n) (cancels_one r b).state.locks.requests) (reverse rs)) its.0
+    (still_last r (reverse rs) b
+    (subst (λ (n : ℕ). IsPart (filter (is_request_of n) b.state.locks.requests) (reverse rs ++ r ∷ [])) (sym its.0)
+    (subst (IsPart (filter (is_request_of s) b.state.locks.requests)) (reverse-append (r ∷ []) rs) part))))
+
+-- the Close leaves other sessions live
+live_beside : (es : List Entry) (s q : ℕ) → q ≢ s → live es q ≡ true → live (es ++ Closed s ∷ []) q ≡ true
+live_beside es s q apart is = live-push es (Closed s) q ∙ ap (λ (same : Bool). if same then false else live es q) (ne_eqb s q (λ same. apart (sym same))) ∙ is
+
+-- requests of live sessions are of that session or of live ones as it is closed
+closed_live : (s : ℕ) (es : List Entry) (rs : List Request) → AllByRecursion (λ r. live es r.who.session ≡ true) rs → AllByRecursion (LivesUnless s (es ++ Closed s ∷ [])) rs
+closed_live s es rs lives =
+    all_follow (λ (r : Request). live es r.who.session ≡ true) (LivesUnless s (es ++ Closed s ∷ [])) (λ r is apart. live_beside es s r.who.session apart is) rs lives
+
 module _ (t : Coming) (s app : ℕ) (b : Sofar) where
   -- the connection of the session awaits its Reset
-  reset_pieces : (cause : ShutCause) (o : Option ℕ) → conn_of b.state s ≡ o
+  reset_pieces : t.input ≡ data_in.Tick → (cause : ShutCause) (o : Option ℕ) → conn_of b.state s ≡ o
       → Pieced t (becomes (with_event app t.now (event_of cause)) (closing_on o s (closed_at s cause b)))
       (becomes (with_event app t.now (event_of cause)) (waits_for_reset o s (length b.state.order + 1) (closed_at s cause b)))
-  reset_pieces cause None its = no_piece t _
-  reset_pieces cause (Some conn) its =
+  reset_pieces came cause None its = no_piece t _
+  reset_pieces came cause (Some conn) its =
       one_piece t (Replies (length b.state.order + 1) (ResetOf conn s (length b.state.order + 1)))
       (becomes (with_event app t.now (event_of cause)) (closing_on (Some conn) s (closed_at s cause b)))
       (record {
+        came = came;
         until = refl;
         closing = role_given conn (Closing s) (closed_at s cause b).state.conns
             (ap (λ (cs : List Conn). is_some (find (is_conn conn) cs)) (closed_conns s cause b) ∙ conn_there s b.state.conns conn its);
@@ -236,17 +269,17 @@ module _ (t : Coming) (s app : ℕ) (b : Sofar) where
             ∙ entry_last b.state.order (Closed s) (length b.state.order + 1) refl;
       })
 
-  turned_pieces : (cause : ShutCause)
+  turned_pieces : (cause : ShutCause) → ClosesBy t s app cause b
       → Pieced t (becomes (with_event app t.now (event_of cause)) (parts_from cause (conn_of b.state s) s (closed_at s cause b)))
       (becomes (with_event app t.now (event_of cause)) (turns_away cause (conn_of b.state s) s (length b.state.order + 1) (closed_at s cause b)))
-  turned_pieces (Trouble time) = reset_pieces (Trouble time) (conn_of b.state s) refl
-  turned_pieces Replaced = no_piece t _
-  turned_pieces (Round time) = reset_pieces (Round time) (conn_of b.state s) refl
+  turned_pieces (Trouble time) why = reset_pieces why.came (Trouble time) (conn_of b.state s) refl
+  turned_pieces Replaced why = no_piece t _
+  turned_pieces (Round time) why = reset_pieces why.came (Round time) (conn_of b.state s) refl
 
   -- A session is closed, and its end is told.
   pub closes_pieces : (cause : ShutCause) → ClosesMay t s app cause b → IsPart b.state.locks.requests t.old.locks.requests
-      → Pieced t b (becomes (with_event app t.now (event_of cause)) (closes s cause b))
-  closes_pieces cause may from =
+      → (AskersLive t.old → AskersLive b.state) → Pieced t b (becomes (with_event app t.now (event_of cause)) (closes s cause b))
+  closes_pieces cause may from askers =
       one_then t (Closes s app cause) b _ may
       (and_then t (shuts s app cause t.now b) (cancels (requests_at s cause b) (shuts s app cause t.now b)) _
       (cancel_pieces t s (requests_at s cause b) (shuts s app cause t.now b) (requests_of s (with_close s cause b).state.locks.requests)
@@ -258,16 +291,26 @@ module _ (t : Coming) (s app : ℕ) (b : Sofar) where
       (λ one. ap has_one_ticket (reverse-reverse asked)
       ∙ part_tickets asked t.old.locks.requests
       (part_then asked (with_close s cause b).state.locks.requests t.old.locks.requests (part_left (is_request_of s) (with_close s cause b).state.locks.requests)
-      (subst (λ (l : Locks). IsPart l.requests t.old.locks.requests) (sym (close_locks s cause b)) from)) one))
+      (subst (λ (l : Locks). IsPart l.requests t.old.locks.requests) (sym (close_locks s cause b)) from)) one)
+      (λ old. others (closed_live s b.state.order b.state.locks.requests (askers old))))
       (subst (λ (x : Sofar). Pieced t x (becomes (with_event app t.now (event_of cause)) (closes s cause b)))
       (cancels_pass (λ x. becomes (with_event app t.now (event_of cause)) (parts_from cause (conn_of b.state s) s x))
       (passes_then (parts_from cause (conn_of b.state s) s) (becomes (with_event app t.now (event_of cause))) (parts_pass cause (conn_of b.state s) s)
       (event_passes app t.now cause))
       (requests_at s cause b) (with_close s cause b))
-      (turned_pieces cause)))
+      (turned_pieces cause may.why)))
     where
       asked : List Request
       asked = filter (is_request_of s) (with_close s cause b).state.locks.requests
+
+      -- the table is as it was before the Close
+      others : AllByRecursion (LivesUnless s (b.state.order ++ Closed s ∷ [])) b.state.locks.requests
+          → AllByRecursion (LivesUnless s (shuts s app cause t.now b).state.order) (shuts s app cause t.now b).state.locks.requests
+      others lives =
+          subst (λ (es : List Entry). AllByRecursion (LivesUnless s es) (shuts s app cause t.now b).state.locks.requests)
+          (sym ((parts_pass cause (conn_of b.state s) s).order (with_close s cause b) ∙ close_order s cause b))
+          (subst (λ (l : Locks). AllByRecursion (LivesUnless s (b.state.order ++ Closed s ∷ [])) l.requests)
+          (sym ((parts_pass cause (conn_of b.state s) s).locks (with_close s cause b) ∙ close_locks s cause b)) lives)
 
 pub is_some_map : {X Y : Type 0} (f : X → Y) (o : Option X) → is_some (option_map f o) ≡ is_some o
 is_some_map f None = refl
@@ -291,3 +334,23 @@ turned_order (Round time) (Some conn) s at b = refl
 -- A Close is all that enters where a session is closed.
 pub closes_order : (s : ℕ) (cause : ShutCause) (b : Sofar) → (closes s cause b).state.order ≡ b.state.order ++ Closed s ∷ []
 closes_order s cause b = turned_order cause (conn_of b.state s) s (length b.state.order + 1) (closed_at s cause b) ∙ closed_order s cause b
+
+-- Where a session is closed its requests go, and those that wait are of live sessions again.
+pub closes_askers : (s : ℕ) (cause : ShutCause) (b : Sofar) → AskersLive b.state → AskersLive (closes s cause b).state
+closes_askers s cause b lives =
+    subst (λ (es : List Entry). AllByRecursion (λ (r : Request). live es r.who.session ≡ true) (closes s cause b).state.locks.requests) (sym (closes_order s cause b))
+    (all_follow (λ (r : Request). (r.who.session ≢ s) × LivesUnless s (b.state.order ++ Closed s ∷ []) r)
+    (λ (r : Request). live (b.state.order ++ Closed s ∷ []) r.who.session ≡ true) (λ r both. both.1 both.0) (closes s cause b).state.locks.requests
+    (all_both (λ (r : Request). r.who.session ≢ s) (LivesUnless s (b.state.order ++ Closed s ∷ [])) (closes s cause b).state.locks.requests gone
+    (part_all (LivesUnless s (b.state.order ++ Closed s ∷ [])) (closes s cause b).state.locks.requests b.state.locks.requests (closes_part s cause b)
+    (closed_live s b.state.order b.state.locks.requests lives))))
+  where
+    asked : List Request
+    asked = filter (is_request_of s) (with_close s cause b).state.locks.requests
+
+    gone : AllByRecursion (λ (r : Request). r.who.session ≢ s) (closes s cause b).state.locks.requests
+    gone =
+        subst (λ (l : Locks). AllByRecursion (λ (r : Request). r.who.session ≢ s) l.requests)
+        (sym (turned_locks cause (conn_of b.state s) s (length b.state.order + 1) (closed_at s cause b)))
+        (cancelled_all s (requests_at s cause b) (with_close s cause b) (requests_of s (with_close s cause b).state.locks.requests)
+        (subst (IsPart asked) (sym (reverse-reverse asked)) (part_same asked)))

@@ -14,7 +14,8 @@ use Rattle.ecp_messages.specs.declared.up.Up.TheVariants.{Hello, Recover}
 use Rattle.data_rules.specs.declared.rows.Conn.{Conn}
 use Rattle.data_rules.specs.declared.rows.Role.TheVariants.{New, Bound}
 use Rattle.data_rules.specs.DataState.{DataState}
-use Rattle.data_rules.specs.Puts.{Sofar, becomes, conn_of, number_of}
+use Rattle.data_rules.specs.Puts.{Sofar, becomes, begun, conn_of, number_of}
+use Rattle.data_rules.specs.declared.data_in.DataIn.{DataIn}
 use Rattle.data_rules.specs.Conns.{is_conn, role_in, role_of, drops_conn}
 use Rattle.data_rules.specs.Callers.{dial_of, with_dial, replaces, is_let_in, calls, goes_on, resumes, comes_again, TakesHello, TakesRecover, TakesResume, TakesReturn, TakesGone}
 use Rattle.cluster_invariant.specs.Words.{all_differ}
@@ -22,7 +23,7 @@ use Rattle.cluster_invariant.proofs.ConnRoles.{dropped, dropped_conns, dropped_o
 use Rattle.cluster_invariant.proofs.Parts.{IsPart, part_same}
 use Rattle.cluster_invariant.proofs.PiecesOfCloses.{role_given, closed_at, closed_order, closed_conns, closed_round, closes_pieces}
 use Rattle.cluster_invariant.proofs.PieceKinds.{Dials, Waits, Opens, Resumes, GoesOn, ComesAgain, AwaitsReset}
-use Rattle.cluster_invariant.proofs.PieceMay.{Coming, begins, Came, Firstly, RecoverCame}
+use Rattle.cluster_invariant.proofs.PieceMay.{AskersLive, Coming, begins, taken_in, left_by, Came, Firstly, RecoverCame}
 use Rattle.cluster_invariant.proofs.Pieces.{Pieced, one_piece, one_then, then_one, and_then, by_after}
 
 -- a first frame comes on a new connection, and nothing was made yet
@@ -32,6 +33,11 @@ pub record FirstCame (t : Coming) (conn : ℕ) (m : Up) (b : Sofar) : Type 0 whe
   pub came : Came t conn m
   pub is_new : role_of b.state conn ≡ Some New
   pub differ : all_differ (map number_of b.state.conns) ≡ true
+
+-- nothing was put before a frame
+unput : (t : Coming) (conn : ℕ) (m : Up) (b : Sofar) → FirstCame t conn m b → b.outs.frames ≡ []
+unput t conn m b it =
+    ap (λ (c : Sofar). c.outs.frames) it.first ∙ ap (λ (i : DataIn). (taken_in i (begun t.old)).outs.frames) it.came.its
 
 -- a Hello
 
@@ -68,15 +74,15 @@ let_in t conn app s b differ new has = record {
 }
 
 replaced_pieces : (t : Coming) (conn app dial : ℕ) (b : Sofar) → Came t conn (Hello app dial) → all_differ (map number_of b.state.conns) ≡ true
-    → role_of b.state conn ≡ Some New → IsPart b.state.locks.requests t.old.locks.requests
+    → role_of b.state conn ≡ Some New → b.outs.frames ≡ [] → IsPart b.state.locks.requests t.old.locks.requests → (AskersLive t.old → AskersLive b.state)
     → Pieced t b (is_let_in (is_some b.state.round) app conn t.now (replaces (live_session b.state.order app) app t.now b))
-replaced_pieces t conn app dial b came differ new from = go (live_session b.state.order app) refl
+replaced_pieces t conn app dial b came differ new none from left = go (live_session b.state.order app) refl
   where
     go : (o : Option ℕ) → live_session b.state.order app ≡ o → Pieced t b (is_let_in (is_some b.state.round) app conn t.now (replaces o app t.now b))
     go None free = let_in_pieces t conn app dial came (is_some b.state.round) b (record { is_new = new; free = free; round = refl })
     go (Some s) has =
         and_then t b (replaces (Some s) app t.now b) _
-        (closes_pieces t s app b shuts.Replaced (record { has = has; why = record { conn = conn; dial = dial; came = came; is_new = new } }) from)
+        (closes_pieces t s app b shuts.Replaced (record { has = has; why = record { conn = conn; dial = dial; came = came; is_new = new; unput = none } }) from left)
         (let_in_pieces t conn app dial came (is_some b.state.round) (replaces (Some s) app t.now b) (let_in t conn app s b differ new has))
 
 -- A Hello whose dial is no less than those before it.
@@ -92,8 +98,9 @@ hello_pieces t conn app dial b it c takes =
       is_new = it.is_new;
       later = takes.later;
     })
-    (replaced_pieces t conn app dial (becomes (with_dial app dial) b) it.came it.differ it.is_new
-    (subst (λ (d : DataState). IsPart b.state.locks.requests d.locks.requests) it.state (part_same b.state.locks.requests))))
+    (replaced_pieces t conn app dial (becomes (with_dial app dial) b) it.came it.differ it.is_new (unput t conn (Hello app dial) b it)
+    (subst (λ (d : DataState). IsPart b.state.locks.requests d.locks.requests) it.state (part_same b.state.locks.requests))
+    (λ old. subst AskersLive (sym it.state) old)))
 
 -- a Recover
 
@@ -119,6 +126,15 @@ firstly t conn app dial m b c it later same = record {
   same = same ∙ ap (λ (d : DataState). d.order) it.state;
 }
 
+-- an older connection that goes puts nothing, and what waits for it goes
+dropped_frames : (o : Option ℕ) (b : Sofar) → (drops_conn o b).outs.frames ≡ b.outs.frames
+dropped_frames None b = refl
+dropped_frames (Some old) b = refl
+
+dropped_replies : (o : Option ℕ) (b : Sofar) → (drops_conn o b).state.replies ≡ left_by o b.state.replies
+dropped_replies None b = refl
+dropped_replies (Some old) b = refl
+
 -- the session has its connection
 resumed_pieces : (t : Coming) (conn app s epoch taken dial : ℕ) (b : Sofar) → FirstCame t conn (Recover app s epoch taken dial) b → dial_of b.state app ≤ dial
     → app_in b.state.order s ≡ Some app → live b.state.order s ≡ true → epoch ≤ last_epoch b.state.order → Pieced t b (resumes app s dial conn t.now b)
@@ -136,6 +152,7 @@ resumed_pieces t conn app s epoch taken dial b it later its is_live begun =
       is_new = it.is_new;
       is_live = is_live;
       begun = begun;
+      unput = unput t conn (Recover app s epoch taken dial) b it;
     })
 
 there : (o : Option Conn) → option_map role_in o ≡ Some New → is_some o ≡ true
@@ -162,6 +179,13 @@ module _ (t : Coming) (conn app s epoch taken dial : ℕ) (b : Sofar) (it : Firs
   bound : role_of after.state conn ≡ Some (Bound s)
   bound = resumed_role t conn app s dial b it.differ it.is_new
 
+  unput_after : after.outs.frames ≡ []
+  unput_after = dropped_frames (conn_of b.state s) (becomes (with_dial app dial) b) ∙ unput t conn (Recover app s epoch taken dial) b it
+
+  waiting_after : after.state.replies ≡ left_by (conn_of t.old s) t.old.replies
+  waiting_after =
+      dropped_replies (conn_of b.state s) (becomes (with_dial app dial) b) ∙ ap (λ (d : DataState). left_by (conn_of d s) d.replies) it.state
+
   abbrev came_after : app_in b.state.order s ≡ Some app → dial_of b.state app ≤ dial → RecoverCame t conn app s after
   came_after its later = record {
     epoch = epoch;
@@ -184,6 +208,8 @@ module _ (t : Coming) (conn app s epoch taken dial : ℕ) (b : Sofar) (it : Firs
         bound = bound;
         is_live = ap (λ (es : List Entry). live es s) same_order ∙ takes.is_live;
         its_epoch = takes.same ∙ sym (ap last_epoch same_order);
+        unput = unput_after;
+        waiting = waiting_after;
       }))
 
   return_pieces : TakesReturn b conn t.now app s epoch dial c → Pieced t b c
@@ -198,6 +224,8 @@ module _ (t : Coming) (conn app s epoch taken dial : ℕ) (b : Sofar) (it : Firs
         is_live = ap (λ (es : List Entry). live es s) same_order ∙ takes.is_live;
         older = subst (λ (es : List Entry). epoch < last_epoch es) (sym same_order) takes.older;
         known = ap (place_of_epoch epoch 0) same_order ∙ takes.known;
+        unput = unput_after;
+        waiting = waiting_after;
       }))
 
   gone_pieces : TakesGone b conn app s epoch dial c → Pieced t b c
@@ -219,6 +247,8 @@ module _ (t : Coming) (conn app s epoch taken dial : ℕ) (b : Sofar) (it : Firs
         is_closed = takes.is_closed;
         begun = takes.begun;
         closed = takes.closed;
+        unput = unput t conn (Recover app s epoch taken dial) b it;
+        waiting = ap (λ (d : DataState). d.replies) it.state;
       }))
 
   -- A Recover that is taken.

@@ -38,7 +38,7 @@ use Rattle.plain_orders.specs.declared.act.Act.TheVariants as act
 use Rattle.data_rules.specs.Puts.{writes}
 use Rattle.cluster_invariant.proofs.PutLaws.{appends_state}
 use Rattle.cluster_invariant.proofs.PieceKinds.{Asks, Unlocks, Withdraws, GivesBack, ForgetsTicket, Claims, Takes, TakesDone, Enters, Fetches, Replies, Locks}
-use Rattle.cluster_invariant.proofs.PieceMay.{Coming, OnBound, TakesMay, Message, Asked, item_of, AnswersBy}
+use Rattle.cluster_invariant.proofs.PieceMay.{Coming, begins, OnBound, TakesMay, Message, Asked, item_of, AnswersBy}
 use Rattle.cluster_invariant.proofs.Pieces.{Pieced, no_piece, one_piece, one_then, and_then, by_after}
 
 -- the place of an item is one of the order
@@ -179,37 +179,38 @@ cancel_pieces t s ticket b asked = go (waiting_with b.state.locks s ticket) refl
 -- the messages
 
 -- a Done
-abbrev is_done : Up → Bool
+abbrev pub is_done : Up → Bool
 is_done Done = true
 is_done m = false
 
 -- what a message makes that is no Done, once it is taken
-made_of : (t : Coming) (conn s : ℕ) (up : UpFrame) (b : Sofar) → OnBound t conn s up b → (m : Up) → up.message ≡ m → is_done m ≡ false
-    → (c : Sofar) → TakesMessage m s b c → Pieced t b c
-made_of t conn s up b on (Hello app dial) says no_done c takes = absurd takes
-made_of t conn s up b on (Recover app session epoch taken dial) says no_done c takes = absurd takes
-made_of t conn s up b on (Update w job txn op) says no_done c takes =
+pub made_of : (t : Coming) (conn s : ℕ) (up : UpFrame) (b : Sofar) → OnBound t conn s up b → TakesMay t conn s up (begins t)
+    → b ≡ took s up.ack (begins t) → (m : Up) → up.message ≡ m
+    → is_done m ≡ false → (c : Sofar) → TakesMessage m s b c → Pieced t b c
+made_of t conn s up b on first just (Hello app dial) says no_done c takes = absurd takes
+made_of t conn s up b on first just (Recover app session epoch taken dial) says no_done c takes = absurd takes
+made_of t conn s up b on first just (Update w job txn op) says no_done c takes =
     by_after t b c _ takes.after (item_pieces t conn s up b on w (entries.Update s w job txn op) (ap (item_of s) says) takes.fits)
-made_of t conn s up b on (Add w job key amount) says no_done c takes =
+made_of t conn s up b on first just (Add w job key amount) says no_done c takes =
     owed_pieces t conn s up b on w job (entries.Update s w job 0 (ops.Add key amount)) (ap (item_of s) says)
     (λ d at answer owes. subst (λ (m : Up). AnswersBy m s at answer d) (sym says) owes) c takes
-made_of t conn s up b on (Fetch key) says no_done c takes =
+made_of t conn s up b on first just (Fetch key) says no_done c takes =
     by_after t b c _ takes.after (one_piece t (Fetches s takes.run takes.block) b
     (record { its = message t conn s up b on; key = key; says = says; covered = takes.covered; is_true = takes.is_true; in_bytes = takes.in_bytes }))
-made_of t conn s up b on (Ask ticket job mode key) says no_done c takes =
+made_of t conn s up b on first just (Ask ticket job mode key) says no_done c takes =
     by_after t b c _ takes.after (one_piece t (Locks (Asks (record { who = who s job; ticket = ticket; name = key; mode = mode }))) b
-    (record { its = message t conn s up b on; says = says }))
-made_of t conn s up b on (Unlock job mode key) says no_done c takes =
-    by_after t b c _ takes.after (unlock_pieces t (who s job) mode key b (record { its = message t conn s up b on; says = says }))
-made_of t conn s up b on (Cancel ticket) says no_done c takes =
-    by_after t b c _ takes.after (cancel_pieces t s ticket b (record { its = message t conn s up b on; says = says }))
-made_of t conn s up b on (Commit w job txn wanted) says no_done c takes =
+    (record { its = message t conn s up b on; says = says; first = first; just = just }))
+made_of t conn s up b on first just (Unlock job mode key) says no_done c takes =
+    by_after t b c _ takes.after (unlock_pieces t (who s job) mode key b (record { its = message t conn s up b on; says = says; first = first; just = just }))
+made_of t conn s up b on first just (Cancel ticket) says no_done c takes =
+    by_after t b c _ takes.after (cancel_pieces t s ticket b (record { its = message t conn s up b on; says = says; first = first; just = just }))
+made_of t conn s up b on first just (Commit w job txn wanted) says no_done c takes =
     commit_pieces t conn s up b on w job (entries.Commit s w job txn) (ap (item_of s) says)
     (λ d at answer owes. subst (λ (m : Up). AnswersBy m s at answer d) (sym says) owes) wanted c takes
-made_of t conn s up b on (Rollback w job txn) says no_done c takes =
+made_of t conn s up b on first just (Rollback w job txn) says no_done c takes =
     owed_pieces t conn s up b on w job (entries.Rollback s w job txn) (ap (item_of s) says)
     (λ d at answer owes. subst (λ (m : Up). AnswersBy m s at answer d) (sym says) owes) c takes
-made_of t conn s up b on (Sync ticket) says no_done c takes =
+made_of t conn s up b on first just (Sync ticket) says no_done c takes =
     by_after t b c _ takes.after (one_piece t (Replies (length b.state.order) (AnswerOf s Synced 0 ticket (length b.state.order) (pos 0))) b
     (record {
       until = refl;
@@ -217,11 +218,11 @@ made_of t conn s up b on (Sync ticket) says no_done c takes =
       its = message t conn s up b on;
       why = subst (λ (m : Up). AnswersBy m s (length b.state.order) (AnswerOf s Synced 0 ticket (length b.state.order) (pos 0)) b) (sym says) (refl, refl);
     }))
-made_of t conn s up b on Done says no_done c takes = absurd (true≢false no_done)
-made_of t conn s up b on (Claim job mode number at key) says no_done c takes =
+made_of t conn s up b on first just Done says no_done c takes = absurd (true≢false no_done)
+made_of t conn s up b on first just (Claim job mode number at key) says no_done c takes =
     by_after t b c _ takes.after (one_piece t (Locks (Claims (who s job) key mode number at)) b
-    (record { asked = record { its = message t conn s up b on; says = says }; awaited = takes.awaited; alone = takes.alone }))
-made_of t conn s up b on Bare says no_done c takes = absurd takes
+    (record { asked = record { its = message t conn s up b on; says = says; first = first; just = just }; awaited = takes.awaited; alone = takes.alone }))
+made_of t conn s up b on first just Bare says no_done c takes = absurd takes
 
 -- What a numbered message makes that comes the first time.
 pub fresh_pieces : (t : Coming) (conn s : ℕ) (up : UpFrame) (b : Sofar) → TakesMay t conn s up b → (c : Sofar) → TakesMessage up.message s (took s up.ack b) c
@@ -231,7 +232,7 @@ fresh_pieces t conn s up b may c takes = go up.message refl takes
     others : (m : Up) → up.message ≡ m → is_done m ≡ false → TakesMessage m s (took s up.ack b) c → Pieced t b c
     others m says no_done made =
         one_then t (Takes conn s up) b c may
-        (made_of t conn s up (took s up.ack b) (moved t conn s up b (took s up.ack b) refl may.on) m says no_done c made)
+        (made_of t conn s up (took s up.ack b) (moved t conn s up b (took s up.ack b) refl may.on) (subst (TakesMay t conn s up) may.first may) (ap (took s up.ack) may.first) m says no_done c made)
 
     go : (m : Up) → up.message ≡ m → TakesMessage m s (took s up.ack b) c → Pieced t b c
     go (Hello app dial) says made = others (Hello app dial) says refl made

@@ -12,11 +12,14 @@ use Rattle.data_rules.specs.declared.rows.Says.TheVariants.{NewWelcome, EpochWel
 use Rattle.data_rules.specs.Puts.{Sofar, becomes, head_of, conn_of, window_of}
 use Rattle.data_rules.specs.Leaving.{may_leave, must_wait, leaves, all_leave, flushed, bare_to, bare_on, bared}
 use Rattle.data_rules.specs.Frames.{bares_role}
+use Rattle.data_rules.specs.Conns.{role_of}
+use Rattle.data_rules.specs.declared.data_in.DataIn.TheVariants as data_in
+use Rattle.ecp_messages.specs.declared.up.UpFrame.{UpFrame}
 use Rattle.cluster_invariant.proofs.AllLists.{all_joined}
 use Rattle.cluster_invariant.proofs.Aside.{IsAside, puts_aside}
 use Rattle.cluster_invariant.proofs.PutLaws.{only_leaves}
 use Rattle.cluster_invariant.proofs.PieceKinds.{Leaves, Bares, with_replies}
-use Rattle.cluster_invariant.proofs.PieceMay.{Coming}
+use Rattle.cluster_invariant.proofs.PieceMay.{Coming, Message}
 use Rattle.cluster_invariant.proofs.Pieces.{Pieced, no_piece, one_piece, one_then, by_after}
 
 -- these replies wait
@@ -89,20 +92,23 @@ flush_from t n before (r ∷ rs) b synced its waiting =
 pub flush_pieces : (t : Coming) (b : Sofar) → Pieced t b (flushed b)
 flush_pieces t b = flush_from t b.state.synced [] b.state.replies b refl refl tt
 
-pub bare_pieces : (t : Coming) (s : ℕ) (b : Sofar) → Pieced t b (bared s b)
-bare_pieces t s b = go (conn_of b.state s) refl
+pub bare_pieces : (t : Coming) (s : ℕ) (b : Sofar) → Message t s b → Pieced t b (bared s b)
+bare_pieces t s b after = go (conn_of b.state s) refl
   where
     by : (conn : ℕ) → conn_of b.state s ≡ Some conn → (owed : Bool) → owes_bare (window_of b.state s) ≡ owed → Pieced t b (bare_to owed s conn b)
-    by conn its true owed = one_piece t (Bares s conn) b (record { its = its; owed = owed })
+    by conn its true owed = one_piece t (Bares s conn) b (record { after = after; its = its; owed = owed })
     by conn its false owed = no_piece t b
 
     go : (o : Option ℕ) → conn_of b.state s ≡ o → Pieced t b (bare_on o s b)
     go None its = no_piece t b
     go (Some conn) its = by conn its (owes_bare (window_of b.state s)) refl
 
-pub bares_role_pieces : (t : Coming) (r : Option Role) (b : Sofar) → Pieced t b (bares_role r b)
-bares_role_pieces t None b = no_piece t b
-bares_role_pieces t (Some New) b = no_piece t b
-bares_role_pieces t (Some Waiting) b = no_piece t b
-bares_role_pieces t (Some (Bound s)) b = bare_pieces t s b
-bares_role_pieces t (Some (Closing s)) b = no_piece t b
+-- an acknowledgement goes out by itself only on the connection on which the frame came
+pub bares_role_pieces : (t : Coming) (conn : ℕ) (up : UpFrame) → t.input ≡ data_in.Frame conn up → (r : Option Role) (b : Sofar) → role_of b.state conn ≡ r
+    → Pieced t b (bares_role r b)
+bares_role_pieces t conn up came None b its = no_piece t b
+bares_role_pieces t conn up came (Some New) b its = no_piece t b
+bares_role_pieces t conn up came (Some Waiting) b its = no_piece t b
+bares_role_pieces t conn up came (Some (Bound s)) b its =
+    bare_pieces t s b (record { conn = conn; up = up; on = record { came = came; bound = its } })
+bares_role_pieces t conn up came (Some (Closing s)) b its = no_piece t b

@@ -144,11 +144,12 @@ module _ (t : Coming) (conn : ℕ) (f : UpFrame) (b : Sofar) (at : FrameAt t con
   role_pieces (Some (Closing s)) role takes = closing_pieces (kind_of f.message) takes
 
 -- what follows each frame
-settled_pieces : (t : Coming) (conn : ℕ) (b : Sofar) → RoundWas t b.state → Pieced t b (settled conn t.now b)
-settled_pieces t conn b before =
+settled_pieces : (t : Coming) (conn : ℕ) (f : UpFrame) → t.input ≡ data_in.Frame conn f → (b : Sofar) → RoundWas t b.state
+    → Pieced t b (settled conn t.now b)
+settled_pieces t conn f came b before =
     and_then t b (rounds t.now b) _ (rounds_pieces t b before)
     (and_then t (rounds t.now b) (flushed (rounds t.now b)) _ (flush_pieces t (rounds t.now b))
-    (bares_role_pieces t (role_of (flushed (rounds t.now b)).state conn) (flushed (rounds t.now b))))
+    (bares_role_pieces t conn f came (role_of (flushed (rounds t.now b)).state conn) (flushed (rounds t.now b)) refl))
 
 frame_pieces : (t : Coming) (conn : ℕ) (f : UpFrame) (b : Sofar) → FrameAt t conn f b → (c : Sofar) → FrameStep b t.now conn f c → Pieced t b c
 frame_pieces t conn f b at c steps =
@@ -158,7 +159,7 @@ frame_pieces t conn f b at c steps =
     go : Pieced t b steps.taken → Pieced t b (settled conn t.now steps.taken)
     go taken =
         and_then t b steps.taken _ taken
-        (settled_pieces t conn steps.taken (round_before t b steps.taken taken (subst (RoundWas t) (sym at.state) (round_same t t.old refl refl))))
+        (settled_pieces t conn f at.came steps.taken (round_before t b steps.taken taken (subst (RoundWas t) (sym at.state) (round_same t t.old refl refl))))
 
 -- saves
 
@@ -253,6 +254,20 @@ pub record StepFrom (d : DataState) : Type 0 where
   pub differ : all_differ (map number_of d.conns) ≡ true
   pub ordered : IsOrdered d.order
 
+-- What follows a frame, once it is taken.
+pub behind_pieces : (old : DataState) (now conn : ℕ) (f : UpFrame) (c : Sofar) → StepFrom old → (steps : FrameStep (begun old) now conn f c)
+    → Pieced (record { old = old; now = now; input = data_in.Frame conn f }) steps.taken c
+behind_pieces old now conn f c from steps =
+    by_after t steps.taken c (settled conn now steps.taken) steps.after
+    (settled_pieces t conn f refl steps.taken
+    (round_before t (begun old) steps.taken (role_pieces t conn f (begun old) at steps.taken (role_of old conn) refl steps.takes) (round_same t old refl refl)))
+  where
+    t : Coming
+    t = record { old = old; now = now; input = data_in.Frame conn f }
+
+    at : FrameAt t conn f (begun old)
+    at = record { first = refl; state = refl; came = refl; differ = from.differ }
+
 -- What each step makes is made by pieces.
 pub step_pieces : (old : DataState) (now : ℕ) (input : DataIn) (outs : DataOuts) (new : DataState)
     → StepFrom old → DataMay old input → DataStep old now input outs new
@@ -269,6 +284,6 @@ step_pieces old now (data_in.Broken conn) outs new from may steps =
     (gone_pieces (record { old = old; now = now; input = data_in.Broken conn }) There conn (begun old) refl refl)
 step_pieces old now data_in.Tick outs new from may steps =
     by_after (record { old = old; now = now; input = data_in.Tick }) (begun old) (made new outs) _ steps
-    (tick_pieces (record { old = old; now = now; input = data_in.Tick }) refl (begun old) from.ordered (part_same old.locks.requests))
+    (tick_pieces (record { old = old; now = now; input = data_in.Tick }) refl (begun old) from.ordered (part_same old.locks.requests) (λ askers. askers))
 step_pieces old now (data_in.Saved upto) outs new from may steps =
     by_after (record { old = old; now = now; input = data_in.Saved upto }) (synced_to upto (begun old)) (made new outs) _ steps (saved_pieces old now upto)

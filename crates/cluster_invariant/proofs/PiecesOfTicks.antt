@@ -25,10 +25,10 @@ use Rattle.data_rules.specs.Messages.{is_awaited}
 use Rattle.data_rules.specs.Saving.{cause_of, is_free, hears_tick, closes_late, ticks_end, ticks_one, ticks, ticks_all}
 use Rattle.cluster_invariant.proofs.AllLists.{all_follow, all_both}
 use Rattle.cluster_invariant.proofs.Parts.{IsPart, part_same, part_then}
-use Rattle.cluster_invariant.proofs.PiecesOfCloses.{closes_pieces, closes_order, closes_part}
+use Rattle.cluster_invariant.proofs.PiecesOfCloses.{closes_askers, closes_pieces, closes_order, closes_part}
 use Rattle.cluster_invariant.proofs.PiecesOfRounds.{ends_have}
 use Rattle.cluster_invariant.proofs.PieceKinds.{Ticks}
-use Rattle.cluster_invariant.proofs.PieceMay.{Coming}
+use Rattle.cluster_invariant.proofs.PieceMay.{AskersLive, Coming}
 use Rattle.cluster_invariant.proofs.Pieces.{Pieced, no_piece, one_piece, and_then}
 
 -- its session is the live one of the end
@@ -54,15 +54,17 @@ has_still es x y other has =
 record TickedOne (t : Coming) (x : LiveEnd) (b c : Sofar) : Type 0 where
   by : Pieced t b c
   part : IsPart c.state.locks.requests b.state.locks.requests
+  askers : AskersLive b.state → AskersLive c.state
   keeps : (y : LiveEnd) → IsOther x y → Has b.state.order y → Has c.state.order y
 
 module _ (t : Coming) (tick : t.input ≡ data_in.Tick) (x : LiveEnd) (b : Sofar) (has : Has b.state.order x)
-    (from : IsPart b.state.locks.requests t.old.locks.requests) where
+    (from : IsPart b.state.locks.requests t.old.locks.requests) (left : AskersLive t.old → AskersLive b.state) where
   -- the end outlasts it
   outlasts : data_next b.state.times t.now (link_of b.state x.app) Ticked ≡ link_of b.state x.app → TickedOne t x b (becomes (with_event x.app t.now Ticked) b)
   outlasts same = record {
     by = one_piece t (Ticks x.app x.session) b (record { came = tick; has = has; same = same });
     part = part_same b.state.locks.requests;
+    askers = λ lives. lives;
     keeps = λ y other its. its;
   }
 
@@ -79,8 +81,9 @@ module _ (t : Coming) (tick : t.input ≡ data_in.Tick) (x : LiveEnd) (b : Sofar
           free = ap (λ (l : DataLink). data_next b.state.times t.now l Ticked) its ∙ ap (λ (y : Bool). if y then Free else Trouble broke) late;
           its_cause = sym (ap (λ (l : DataLink). cause_of l t.now) its);
         };
-      }) from;
+      }) from left;
       part = closes_part x.session (shuts.Trouble t.now) b;
+      askers = closes_askers x.session (shuts.Trouble t.now) b;
       keeps = λ y other its. subst (λ (es : List Entry). Has es y) (sym (closes_order x.session (shuts.Trouble t.now) b))
           (has_still b.state.order x y other its);
     }
@@ -99,8 +102,9 @@ module _ (t : Coming) (tick : t.input ≡ data_in.Tick) (x : LiveEnd) (b : Sofar
           free = ap (λ (l : DataLink). data_next b.state.times t.now l Ticked) its ∙ ap (λ (y : Bool). if y then Free else Recovering due) late;
           its_cause = sym (ap (λ (l : DataLink). cause_of l t.now) its);
         };
-      }) from;
+      }) from left;
       part = closes_part x.session (shuts.Round t.now) b;
+      askers = closes_askers x.session (shuts.Round t.now) b;
       keeps = λ y other its. subst (λ (es : List Entry). Has es y) (sym (closes_order x.session (shuts.Round t.now) b))
           (has_still b.state.order x y other its);
     }
@@ -118,23 +122,24 @@ module _ (t : Coming) (tick : t.input ≡ data_in.Tick) (x : LiveEnd) (b : Sofar
   ticks_end_one : (hears : Bool) → hears_tick (link_of b.state x.app) (is_awaited b.state x.session) ≡ hears
       → TickedOne t x b (ticks_end hears x.app x.session t.now b)
   ticks_end_one true hears = by_link hears (link_of b.state x.app) refl
-  ticks_end_one false deaf = record { by = no_piece t b; part = part_same b.state.locks.requests; keeps = λ y other its. its }
+  ticks_end_one false deaf = record { by = no_piece t b; part = part_same b.state.locks.requests; askers = λ lives. lives; keeps = λ y other its. its }
 
 ticks_pieces : (t : Coming) → t.input ≡ data_in.Tick → (xs : List LiveEnd) (b : Sofar) → AreApart xs → AllByRecursion (Has b.state.order) xs
-    → IsPart b.state.locks.requests t.old.locks.requests → Pieced t b (ticks xs t.now b)
-ticks_pieces t tick [] b apart has from = no_piece t b
-ticks_pieces t tick (x ∷ xs) b apart has from =
-    go (ticks_one x t.now b) (ticks_end_one t tick x b has.0 from (hears_tick (link_of b.state x.app) (is_awaited b.state x.session)) refl)
+    → IsPart b.state.locks.requests t.old.locks.requests → (AskersLive t.old → AskersLive b.state) → Pieced t b (ticks xs t.now b)
+ticks_pieces t tick [] b apart has from left = no_piece t b
+ticks_pieces t tick (x ∷ xs) b apart has from left =
+    go (ticks_one x t.now b) (ticks_end_one t tick x b has.0 from left (hears_tick (link_of b.state x.app) (is_awaited b.state x.session)) refl)
     (ticks_pieces t tick xs (ticks_one x t.now b))
   where
     go : (c : Sofar) → TickedOne t x b c
-        → (AreApart xs → AllByRecursion (Has c.state.order) xs → IsPart c.state.locks.requests t.old.locks.requests → Pieced t c (ticks xs t.now c))
+        → (AreApart xs → AllByRecursion (Has c.state.order) xs → IsPart c.state.locks.requests t.old.locks.requests → (AskersLive t.old → AskersLive c.state)
+        → Pieced t c (ticks xs t.now c))
         → Pieced t b (ticks xs t.now c)
     go c first more =
         and_then t b c (ticks xs t.now c) first.by
         (more apart.1 (all_follow (λ y. IsOther x y × Has b.state.order y) (Has c.state.order) (λ y both. first.keeps y both.0 both.1) xs
         (all_both (IsOther x) (Has b.state.order) xs apart.0 has.1))
-        (part_then c.state.locks.requests b.state.locks.requests t.old.locks.requests first.part from))
+        (part_then c.state.locks.requests b.state.locks.requests t.old.locks.requests first.part from) (λ old. first.askers (left old)))
 
 -- the ends are told apart by their application servers
 high_ends : (es : List Entry) (apps : List ℕ) (n : ℕ) → AllByRecursion (λ a. n ≤ a) apps → AllByRecursion (λ (x : LiveEnd). n ≤ x.app) (ends_among apps es)
@@ -175,7 +180,7 @@ ends_apart es ordered a (suc n) = go (live_session es a) refl (ends_apart es ord
 
 -- A tick at all that have a live session.
 pub tick_pieces : (t : Coming) → t.input ≡ data_in.Tick → (b : Sofar) → IsOrdered b.state.order → IsPart b.state.locks.requests t.old.locks.requests
-    → Pieced t b (ticks_all t.now b)
-tick_pieces t tick b ordered from =
+    → (AskersLive t.old → AskersLive b.state) → Pieced t b (ticks_all t.now b)
+tick_pieces t tick b ordered from left =
     ticks_pieces t tick (live_ends b.state.order) b (ends_apart b.state.order ordered 0 APP_LIMIT) (ends_have (range_with_len 0 APP_LIMIT) b.state.order)
-    from
+    from left

@@ -17,7 +17,7 @@ use Rattle.cluster_invariant.proofs.PieceMay.{IsLast}
 
 -- what is left
 
-pass_part : (l : Locks) (left given rs : List Request) (at : ℕ) → IsPart (pass l left given rs at).locks.requests (left ++ rs)
+pub pass_part : (l : Locks) (left given rs : List Request) (at : ℕ) → IsPart (pass l left given rs at).locks.requests (left ++ rs)
 pass_part l left given [] at = subst (IsPart left) (sym (append-nil left)) (part_same left)
 pass_part l left given (r ∷ rs) at =
     go (waits l.holds left r)
@@ -57,11 +57,11 @@ cancels_part (r ∷ rs) b =
 
 -- tickets
 
-both_parts : (a b : Bool) → (not a && b) ≡ true → (a ≡ false) × (b ≡ true)
+pub both_parts : (a b : Bool) → (not a && b) ≡ true → (a ≡ false) × (b ≡ true)
 both_parts true b is = absurd (false≢true is)
 both_parts false b is = (refl, is)
 
-both_of : (a b : Bool) → a ≡ false → b ≡ true → (not a && b) ≡ true
+pub both_of : (a b : Bool) → a ≡ false → b ≡ true → (not a && b) ≡ true
 both_of a b none is = ap (λ (x : Bool). not x && b) none ∙ is
 
 none_parts : (a b : Bool) → (a || b) ≡ false → (a ≡ false) × (b ≡ false)
@@ -71,7 +71,7 @@ none_parts false b is = (refl, is)
 none_of : (a b : Bool) → a ≡ false → b ≡ false → (a || b) ≡ false
 none_of a b none is = ap (λ (x : Bool). x || b) none ∙ is
 
-part_none : (p : Request → Bool) (xs ys : List Request) → IsPart xs ys → list_any p ys ≡ false → list_any p xs ≡ false
+pub part_none : (p : Request → Bool) (xs ys : List Request) → IsPart xs ys → list_any p ys ≡ false → list_any p xs ≡ false
 part_none p [] ys is none = refl
 part_none p (x ∷ xs) [] is none = absurd is
 part_none p (x ∷ xs) (y ∷ ys) (inl is) none =
@@ -133,7 +133,7 @@ goes_with r q none = go (q.who.session == r.who.session) none
     go true is = refl
     go false is = absurd (true≢false is)
 
-none_of_session : (s : ℕ) (qs : List Request) → IsPart (filter (is_request_of s) qs) [] → AllByRecursion (λ q. q.who.session ≢ s) qs
+pub none_of_session : (s : ℕ) (qs : List Request) → IsPart (filter (is_request_of s) qs) [] → AllByRecursion (λ q. q.who.session ≢ s) qs
 none_of_session s [] is = tt
 none_of_session s (q ∷ qs) is = go (q.who.session == s) refl is (none_of_session s qs)
   where

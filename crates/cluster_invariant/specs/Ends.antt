@@ -103,6 +103,8 @@ pub record ToldPlace (v : Server) (app : ℕ) (s : Session) (told : Option Place
   -- its epoch is that order's last, which stays
   pub epoch : s.epoch ≡ last_epoch (order_at v order)
   pub stays : epoch_place (order_at v order) ≤ stays_at v order
+  -- as does its Open
+  pub within : s.number ≤ stays_at v order
 
 -- What an application end was told.
 pub record AppTold (v : Server) (app : ℕ) (e : End) : Type 0 where

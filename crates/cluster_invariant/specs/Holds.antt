@@ -11,6 +11,9 @@ use Rattle.cluster_invariant.specs.Link.{LinkHolds}
 use Rattle.cluster_invariant.specs.Coherence.{CoherenceHolds}
 use Rattle.cluster_invariant.specs.Fronts.{FrontsHold}
 use Rattle.cluster_invariant.specs.Rounds.{RoundsHold}
+use Rattle.cluster_invariant.specs.Asks.{AsksHold}
+use Rattle.cluster_invariant.specs.Windows.{WindowsAre}
+use Rattle.cluster_invariant.specs.Commands.{CommandsHold}
 
 -- one data server with its pairs, against the plain one
 pub record SiteHolds (l : Layout) (d : ℕ) (is_dead : ℕ → Bool) (v : Server) (x : Site) : Type 0 where
@@ -21,6 +24,8 @@ pub record SiteHolds (l : Layout) (d : ℕ) (is_dead : ℕ → Bool) (v : Server
   pub coherence : CoherenceHolds v x
   pub fronts : FrontsHold v x is_dead
   pub rounds : RoundsHold v x is_dead
+  pub windows : WindowsAre x
+  pub asks : AsksHold x is_dead
 
 -- all data servers, against a plain state
 pub record HoldsOf (l : Layout) (p : Plain) (m : Machine) : Type 0 where
@@ -28,6 +33,7 @@ pub record HoldsOf (l : Layout) (p : Plain) (m : Machine) : Type 0 where
   pub clock : p.clock ≡ m.clock
   pub died : (app : ℕ) → p.died_at app ≡ m.is_dead_at app
   pub sites : (d : ℕ) → SiteHolds l d m.is_dead_at (p.server_at d) (m.site_at d)
+  pub commands : CommandsHold m
 
 -- What holds, against the plain state that the trail leads to.
 abbrev pub Holds : Layout → Machine → Type 0

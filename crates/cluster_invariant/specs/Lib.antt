@@ -8,5 +8,8 @@ pub mod Link
 pub mod Coherence
 pub mod Fronts
 pub mod Rounds
+pub mod Asks
+pub mod Windows
+pub mod Commands
 pub mod Holds
 pub mod Stays

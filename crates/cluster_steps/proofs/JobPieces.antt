@@ -1,7 +1,7 @@
 -- What a step of a job makes of its application server's ends: small changes, each of one end or an act.
 use Rattle.std.proofs.Common.{None, Some, option_map, ◌≡◌, ◌⊎◌, ℕ, Bool, true, false, List, [], ◌∷◌, ◌++◌, refl, sym, ◌∙◌, ap, subst, Option}
-use Rattle.std.specs.Prelude.{IfSome, is_some}
-use Rattle.std.specs.List.{AllByRecursion}
+use Rattle.std.specs.Prelude.{IfSome, IsSomeAnd, ◌&&◌, ◌==◌, is_some}
+use Rattle.std.specs.List.{AllByRecursion, list_any}
 use Rattle.subscript_keys.specs.declared.run.Run.{Run}
 use Rattle.plain_orders.specs.declared.act.Act.{Act}
 use Rattle.plain_orders.specs.declared.act.Act.TheVariants as act
@@ -10,6 +10,7 @@ use Rattle.plain_orders.specs.declared.op.Op.{Op}
 use Rattle.ecp_messages.specs.declared.up.Up.{Up}
 use Rattle.ecp_messages.specs.declared.up.Up.TheVariants as up
 use Rattle.link_states.specs.declared.app_link.AppLink.{AppLink}
+use Rattle.app_rules.specs.declared.session_parts.Asked.{Asked}
 use Rattle.app_rules.specs.AppState.{AppState, AppEnd, Session}
 use Rattle.app_rules.specs.Works.{Sofar, writes, tries, tries_if, tells_if, sets, becomes, puts, end_at, with_end, with_session, with_window, is_normal, is_joined, is_apart}
 use Rattle.end_words.specs.Windows.{with_sent}
@@ -83,11 +84,28 @@ NoteMay (Lowers job mode key) s = Unit {0}
 NoteMay (Uses runs) s = AllByRecursion (λ r. IsAmong r s.cache) runs
 NoteMay (Leaves job) s = Unit {0}
 
--- a job asks for a lock while the link is Normal
+-- an item
+abbrev pub IsItem : Up → Type 0
+IsItem (up.Hello app dial) = ⊥
+IsItem (up.Recover app session epoch taken dial) = ⊥
+IsItem (up.Update w job txn op) = Unit {0}
+IsItem (up.Add w job key amount) = Unit {0}
+IsItem (up.Fetch key) = ⊥
+IsItem (up.Ask ticket job mode key) = ⊥
+IsItem (up.Unlock job mode key) = ⊥
+IsItem (up.Cancel ticket) = ⊥
+IsItem (up.Commit w job txn wanted) = Unit {0}
+IsItem (up.Rollback w job txn) = Unit {0}
+IsItem (up.Sync ticket) = ⊥
+IsItem up.Done = ⊥
+IsItem (up.Claim job mode number at key) = ⊥
+IsItem up.Bare = ⊥
+
+-- a job asks for a lock while the link is Normal, and what is queued is an item
 abbrev pub NoteOn : Note → AppLink → Type 0
-NoteOn (Queues w m job) link = Unit {0}
-NoteOn (QueuesLate w m job op) link = Unit {0}
-NoteOn (QueuesOwed w m job) link = Unit {0}
+NoteOn (Queues w m job) link = IsItem m
+NoteOn (QueuesLate w m job op) link = IsItem m
+NoteOn (QueuesOwed w m job) link = IsItem m
 NoteOn (Fetches job key) link = Unit {0}
 NoteOn (Asks ticket job mode key) link = is_normal link ≡ true
 NoteOn (Syncs ticket job) link = Unit {0}
@@ -150,13 +168,67 @@ IsPutByJob up.Bare = ⊥
 abbrev pub HasSession : AppEnd → Type 0
 HasSession e = (is_normal e.link ≡ true) ⊎ (is_some e.session ≡ true)
 
+-- an Ask of this ticket that was put in this epoch
+abbrev pub is_put_with : ℕ → Asked → Bool
+is_put_with ticket a = a.put && a.ticket == ticket
+
+-- a message is put while the link is Normal, but for what gives up a request whose Ask was put
+abbrev pub PutOn : Up → AppEnd → Type 0
+PutOn (up.Hello app dial) e = is_normal e.link ≡ true
+PutOn (up.Recover app session epoch taken dial) e = is_normal e.link ≡ true
+PutOn (up.Update w job txn op) e = is_normal e.link ≡ true
+PutOn (up.Add w job key amount) e = is_normal e.link ≡ true
+PutOn (up.Fetch key) e = is_normal e.link ≡ true
+PutOn (up.Ask ticket job mode key) e = is_normal e.link ≡ true
+PutOn (up.Unlock job mode key) e = is_normal e.link ≡ true
+PutOn (up.Cancel ticket) e = IsSomeAnd e.session (λ s. list_any (is_put_with ticket) s.asks ≡ true)
+PutOn (up.Commit w job txn wanted) e = is_normal e.link ≡ true
+PutOn (up.Rollback w job txn) e = is_normal e.link ≡ true
+PutOn (up.Sync ticket) e = is_normal e.link ≡ true
+PutOn up.Done e = is_normal e.link ≡ true
+PutOn (up.Claim job mode number at key) e = is_normal e.link ≡ true
+PutOn up.Bare e = is_normal e.link ≡ true
+
+-- it gives up no request
+abbrev pub IsNoCancel : Up → Type 0
+IsNoCancel (up.Hello app dial) = Unit {0}
+IsNoCancel (up.Recover app session epoch taken dial) = Unit {0}
+IsNoCancel (up.Update w job txn op) = Unit {0}
+IsNoCancel (up.Add w job key amount) = Unit {0}
+IsNoCancel (up.Fetch key) = Unit {0}
+IsNoCancel (up.Ask ticket job mode key) = Unit {0}
+IsNoCancel (up.Unlock job mode key) = Unit {0}
+IsNoCancel (up.Cancel ticket) = ⊥
+IsNoCancel (up.Commit w job txn wanted) = Unit {0}
+IsNoCancel (up.Rollback w job txn) = Unit {0}
+IsNoCancel (up.Sync ticket) = Unit {0}
+IsNoCancel up.Done = Unit {0}
+IsNoCancel (up.Claim job mode number at key) = Unit {0}
+IsNoCancel up.Bare = Unit {0}
+
+pub put_on : (m : Up) (e : AppEnd) → IsNoCancel m → is_normal e.link ≡ true → PutOn m e
+put_on (up.Hello app dial) e keeps up = up
+put_on (up.Recover app session epoch taken dial) e keeps up = up
+put_on (up.Update w job txn op) e keeps up = up
+put_on (up.Add w job key amount) e keeps up = up
+put_on (up.Fetch key) e keeps up = up
+put_on (up.Ask ticket job mode key) e keeps up = up
+put_on (up.Unlock job mode key) e keeps up = up
+put_on (up.Cancel ticket) e keeps up = absurd keeps
+put_on (up.Commit w job txn wanted) e keeps up = up
+put_on (up.Rollback w job txn) e keeps up = up
+put_on (up.Sync ticket) e keeps up = up
+put_on up.Done e keeps up = up
+put_on (up.Claim job mode number at key) e keeps up = up
+put_on up.Bare e keeps up = up
+
 -- What is known where it is made: a connection is tried for a pair without a session.
 abbrev pub MayMake : JobPiece → Sofar → Type 0
 MayMake (Writes a) b = IsOfJob a
 MayMake (Tries d) b = is_free (end_at b.state d).link ≡ true
 MayMake (Notes d n) b = IfSome (end_at b.state d).session (NoteMay n) × NoteOn n (end_at b.state d).link
 MayMake (Tickets d) b = Unit {0}
-MayMake (Puts d m) b = IsPutByJob m × HasSession (end_at b.state d)
+MayMake (Puts d m) b = IsPutByJob m × HasSession (end_at b.state d) × PutOn m (end_at b.state d)
 
 -- several, one after the other
 abbrev pub all_made : List JobPiece → Sofar → Sofar
@@ -214,7 +286,7 @@ link_tries : (t : Bool) (d k : ℕ) (b : Sofar) → (end_at (tries_if t d b).sta
 link_tries true d k b = link_of_end d k _ b.state refl
 link_tries false d k b = refl
 
-link_by : (p : JobPiece) (b : Sofar) (k : ℕ) → (end_at (made_by p b).state k).link ≡ (end_at b.state k).link
+pub link_by : (p : JobPiece) (b : Sofar) (k : ℕ) → (end_at (made_by p b).state k).link ≡ (end_at b.state k).link
 link_by (Writes a) b k = refl
 link_by (Tries d) b k = link_tries (is_apart (end_at b.state d).line) d k b
 link_by (Notes d n) b k = link_of_end d k _ b.state refl

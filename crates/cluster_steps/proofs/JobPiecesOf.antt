@@ -1,6 +1,7 @@
 -- Each command's step, as the pieces that it makes.
 use Rattle.std.proofs.Common.{◌≡◌, ◌==◌, ℕ, Bool, true, false, List, [], ◌∷◌, refl, sym, subst, ap, Option, Some, None, is_some, if◌then◌else◌, length, ℤ, map, inl, inr, ◌∙◌, ◌+◌, suc, ◌-◌, IfSome, unwrap_or}
-use Rattle.std.proofs.lemmas.Bool.{false≢true, and_parts}
+use Rattle.std.specs.Prelude.{IsSomeAnd, ◌&&◌, ◌||◌}
+use Rattle.std.proofs.lemmas.Bool.{false≢true, and_parts, eq-eqb}
 use Rattle.std.specs.List.{AllByRecursion, find, list_any, list_all, range_with_len}
 use Rattle.subscript_keys.specs.declared.run.Run.{Run}
 use Rattle.subscript_keys.specs.declared.sub.Sub.{Sub}
@@ -42,7 +43,7 @@ use Rattle.app_rules.specs.Reading.Walked.{Needs, Finds, Ends}
 use Rattle.app_rules.specs.Locking.{with_ticket, asks, by_grant, waits_grant, is_due, locks_by, locks_now, ask_of_job, gives_up_if, holds_it, holds_back_if, unlocks_held, with_ask, with_held, without_held, is_lane}
 use Rattle.app_rules.specs.Ending.{HowEnded, end_item, end_message, end_notes, puts_end, puts_ends, unlocks_back, ends_txn, living, living_backs, levels, awaits_put, after_put, ends_when, are_up, has_room, ends_by, awaits_ends, hears_ends, answers_ends, writes_ends, is_up_at, is_up_back, is_up_end, is_told_end, commit_at, is_inner, syncs, by_sync, by_synced, sync_of_job, begins_ends, with_txn, with_sync}
 use Rattle.app_rules.specs.JobStep.{NextsFree, NextsUp, Does, Turns, JobStep, ended, kept, left_at, left_by, is_waiting, work_of}
-use Rattle.cluster_steps.proofs.JobPieces.{Note, NoteMay, NoteOn, GoesOn, IsAmong, IsPutByJob, IsOfJob, noted_by, goes_same, goes_by, goes_then, stays_up, session_stays}
+use Rattle.cluster_steps.proofs.JobPieces.{Note, NoteMay, NoteOn, GoesOn, IsAmong, IsItem, IsNoCancel, IsPutByJob, IsOfJob, PutOn, is_put_with, put_on, noted_by, goes_same, goes_by, goes_then, stays_up, session_stays}
 use Rattle.cluster_steps.proofs.UsedRuns.{used_all, walked_all, all_among}
 use Rattle.cluster_steps.proofs.JobPieces.Note.{Queues, QueuesLate, QueuesOwed, Fetches, Asks, Syncs, Holds, Lowers, Uses, Leaves}
 use Rattle.cluster_steps.proofs.JobPieces.JobPiece.{Writes, Tries, Notes, Tickets, Puts}
@@ -58,8 +59,8 @@ write_goes a b may = goes_by (Writes a) b may
 note_goes : (d : ℕ) (n : Note) (b : Sofar) → ((s : Session) → NoteMay n s) → NoteOn n (end_at b.state d).link → GoesOn b (sets d (noted_by n) b)
 note_goes d n b may on = goes_by (Notes d n) b (any_note (NoteMay n) may (end_at b.state d).session, on)
 
-put_goes : (d : ℕ) (m : Up) (b : Sofar) → IsPutByJob m → is_normal (end_at b.state d).link ≡ true → GoesOn b (puts d m b)
-put_goes d m b may up = goes_by (Puts d m) b (may, inl up)
+put_goes : (d : ℕ) (m : Up) (b : Sofar) → IsPutByJob m → IsNoCancel m → is_normal (end_at b.state d).link ≡ true → GoesOn b (puts d m b)
+put_goes d m b may keeps up = goes_by (Puts d m) b (may, inl up, put_on m (end_at b.state d) keeps up)
 
 -- waiting for a connection
 
@@ -101,22 +102,22 @@ own_goes false f w goes = goes
 
 -- items
 
-issue_goes : (d : ℕ) (a : Act) (m : Up) (n : Note) (b : Sofar) → IsOfJob a → ((s : Session) → NoteMay n s) → NoteOn n (end_at b.state d).link → IsPutByJob m
+issue_goes : (d : ℕ) (a : Act) (m : Up) (n : Note) (b : Sofar) → IsOfJob a → ((s : Session) → NoteMay n s) → NoteOn n (end_at b.state d).link → IsPutByJob m → IsNoCancel m
     → is_normal (end_at b.state d).link ≡ true → GoesOn b (puts d m (sets d (noted_by n) (writes a b)))
-issue_goes d a m n b of_job noted on put up = go (goes_then (write_goes a b of_job) (note_goes d n (writes a b) noted on))
+issue_goes d a m n b of_job noted on put keeps up = go (goes_then (write_goes a b of_job) (note_goes d n (writes a b) noted on))
   where
     go : GoesOn b (sets d (noted_by n) (writes a b)) → GoesOn b (puts d m (sets d (noted_by n) (writes a b)))
-    go g = goes_then g (put_goes d m (sets d (noted_by n) (writes a b)) put (stays_up g d up))
+    go g = goes_then g (put_goes d m (sets d (noted_by n) (writes a b)) put keeps (stays_up g d up))
 
 queue_goes : (d : ℕ) (op : Op) (w : Work) → is_up w d ≡ true → GoesOn w.ends (queues d op w).work.ends
 queue_goes d op w up =
     issue_goes d (act.Issue w.job.index w.at.line d (next_w w d) (items.Op op)) (ups.Update (next_w w d) w.job.index (txn_now w.job) op)
-    (QueuesLate (next_w w d) (ups.Update (next_w w d) w.job.index (txn_now w.job) op) w.job.index op) w.ends tt (λ s. tt) tt tt up
+    (QueuesLate (next_w w d) (ups.Update (next_w w d) w.job.index (txn_now w.job) op) w.job.index op) w.ends tt (λ s. tt) tt tt tt up
 
 add_goes : (d : ℕ) (key : List ℕ) (amount : ℤ) (w : Work) → is_up w d ≡ true → GoesOn w.ends (adds d key amount w).ends
 add_goes d key amount w up =
     issue_goes d (act.Issue w.job.index w.at.line d (next_w w d) (items.Op (ops.Add key amount))) (ups.Add (next_w w d) w.job.index key amount)
-    (QueuesOwed (next_w w d) (ups.Add (next_w w d) w.job.index key amount) w.job.index) w.ends tt (λ s. tt) tt tt up
+    (QueuesOwed (next_w w d) (ups.Add (next_w w d) w.job.index key amount) w.job.index) w.ends tt (λ s. tt) tt tt tt up
 
 sum_goes : (m : About) (d at : ℕ) (sum : ℤ) (w : Work) → GoesOn w.ends (says_sum m d at sum w).work.ends
 sum_goes Counted d at sum w = write_goes _ w.ends tt
@@ -141,7 +142,7 @@ fetch_goes true d key w up = goes_same w.ends
 fetch_goes false d key w up = go (note_goes d (Fetches w.job.index key) w.ends (λ s. tt) tt)
   where
     go : GoesOn w.ends (sets d (with_fetch w.job.index key) w.ends) → GoesOn w.ends (fetches_unless false d key w).ends
-    go g = goes_then g (put_goes d (ups.Fetch key) (sets d (with_fetch w.job.index key) w.ends) tt (stays_up g d up))
+    go g = goes_then g (put_goes d (ups.Fetch key) (sets d (with_fetch w.job.index key) w.ends) tt tt (stays_up g d up))
 
 waits_goes : (d : ℕ) (key : List ℕ) (w : Work) → is_up w d ≡ true → GoesOn w.ends (waits_fetch d key w).work.ends
 waits_goes d key w up = fetch_goes (is_fetching w d key) d key w up
@@ -218,7 +219,7 @@ ask_goes d mode key w up =
     v = sets d (with_ask ((end_at w.ends.state d).ticket + 1) w.job.index mode key) (becomes d with_ticket w.ends)
 
     go : GoesOn w.ends v → GoesOn w.ends (asks d mode key w).ends
-    go g = goes_then g (put_goes d (ups.Ask ((end_at w.ends.state d).ticket + 1) w.job.index mode key) v tt (stays_up g d up))
+    go g = goes_then g (put_goes d (ups.Ask ((end_at w.ends.state d).ticket + 1) w.job.index mode key) v tt tt (stays_up g d up))
 
 -- a session in which something was found is there
 found_there : {X : Type 0} (of : Session → List X) (test : X → Bool) (e : AppEnd) → of no_session ≡ [] → is_some (find test (of (session_of e))) ≡ true → is_some e.session ≡ true
@@ -228,16 +229,47 @@ found_there of test e empty found = go e.session found
     go None has = absurd (false≢true (ap (λ xs. is_some (find test xs)) (sym empty) ∙ has))
     go (Some s) has = refl
 
-quits_goes : (o : Option Asked) (d : ℕ) (mode : Mode) (key : List ℕ) (w : Work) → (is_some o ≡ true → is_some (end_at w.ends.state d).session ≡ true) → GoesOn w.ends (quits_if o d mode key w).ends
-quits_goes None d mode key w there = goes_same w.ends
-quits_goes (Some a) d mode key w there =
+quits_goes : (o : Option Asked) (d : ℕ) (mode : Mode) (key : List ℕ) (w : Work) → (is_some o ≡ true → is_some (end_at w.ends.state d).session ≡ true)
+    → IfSome o (λ a. PutOn (ups.Cancel a.ticket) (end_at w.ends.state d)) → GoesOn w.ends (quits_if o d mode key w).ends
+quits_goes None d mode key w there put = goes_same w.ends
+quits_goes (Some a) d mode key w there put =
     goes_then (write_goes (act.Quit w.job.index w.at.line d mode key) w.ends tt)
-    (goes_by (Puts d (ups.Cancel a.ticket)) (writes (act.Quit w.job.index w.at.line d mode key) w.ends) (tt, inr (there refl)))
+    (goes_by (Puts d (ups.Cancel a.ticket)) (writes (act.Quit w.job.index w.at.line d mode key) w.ends) (tt, inr (there refl), put))
+
+-- the Ask that is given up was put
+find_put : (job : ℕ) (xs : List Asked) → IfSome (find (is_ask_put_of job) xs) (λ a. list_any (is_put_with a.ticket) xs ≡ true)
+find_put job [] = tt
+find_put job (x ∷ xs) = go (is_ask_put_of job x) refl (find_put job xs)
+  where
+    here : is_ask_put_of job x ≡ true → list_any (is_put_with x.ticket) (x ∷ xs) ≡ true
+    here is =
+        ap (λ (b : Bool). b && x.ticket == x.ticket || list_any (is_put_with x.ticket) xs) (and_parts (x.job == job) x.put is).1
+        ∙ ap (λ (b : Bool). b || list_any (is_put_with x.ticket) xs) (eq-eqb x.ticket x.ticket refl)
+
+    more : (o : Option Asked) → IfSome o (λ a. list_any (is_put_with a.ticket) xs ≡ true) → IfSome o (λ a. list_any (is_put_with a.ticket) (x ∷ xs) ≡ true)
+    more None is = tt
+    more (Some a) is = or_right (is_put_with a.ticket x) (list_any (is_put_with a.ticket) xs) is
+      where
+        or_right : (a b : Bool) → b ≡ true → (a || b) ≡ true
+        or_right true b is = refl
+        or_right false b is = is
+
+    go : (b : Bool) → is_ask_put_of job x ≡ b → IfSome (find (is_ask_put_of job) xs) (λ a. list_any (is_put_with a.ticket) xs ≡ true)
+        → IfSome (if b then Some x else find (is_ask_put_of job) xs) (λ a. list_any (is_put_with a.ticket) (x ∷ xs) ≡ true)
+    go true is rest = here is
+    go false is rest = more (find (is_ask_put_of job) xs) rest
+
+quits_put : (job : ℕ) (e : AppEnd) → IfSome (find (is_ask_put_of job) (session_of e).asks) (λ a. PutOn (ups.Cancel a.ticket) e)
+quits_put job e = go e.session
+  where
+    go : (o : Option Session) → IfSome (find (is_ask_put_of job) (unwrap_or o no_session).asks) (λ a. IsSomeAnd o (λ s. list_any (is_put_with a.ticket) s.asks ≡ true))
+    go None = tt
+    go (Some s) = find_put job s.asks
 
 quit_goes : (d : ℕ) (mode : Mode) (key : List ℕ) (w : Work) → GoesOn w.ends (quits d mode key w).ends
 quit_goes d mode key w =
     quits_goes (find (is_ask_put_of w.job.index) (session_at w.ends.state d).asks) d mode key w
-    (found_there (λ s. s.asks) (is_ask_put_of w.job.index) (end_at w.ends.state d) refl)
+    (found_there (λ s. s.asks) (is_ask_put_of w.job.index) (end_at w.ends.state d) refl) (quits_put w.job.index (end_at w.ends.state d))
 
 due_goes : (b : Bool) (d : ℕ) (mode : Mode) (key : List ℕ) (w : Work) → GoesOn w.ends (waits_grant b d mode key w).work.ends
 due_goes true d mode key w = goes_then (quit_goes d mode key w) (write_goes _ (quits d mode key w).ends tt)
@@ -260,24 +292,24 @@ any_there of test e empty found = go e.session found
     go (Some s) has = refl
 
 -- what is given up was held, so there is a session
-gives_goes : (b : Bool) (d : ℕ) (mode : Mode) (key : List ℕ) (w : Work) → holds_it w d mode key ≡ b → GoesOn w.ends (gives_up_if b d mode key w).ends
-gives_goes true d mode key w held =
+gives_goes : (b : Bool) (d : ℕ) (mode : Mode) (key : List ℕ) (w : Work) → is_up w d ≡ true → holds_it w d mode key ≡ b → GoesOn w.ends (gives_up_if b d mode key w).ends
+gives_goes true d mode key w up held =
     goes_then (goes_then (note_goes d (Lowers w.job.index mode key) w.ends (λ s. tt) tt) (write_goes (act.GiveUp w.job.index w.at.line d mode key) (sets d (without_held w.job.index mode key) w.ends) tt))
-    (goes_by (Puts d (ups.Unlock w.job.index mode key)) (writes (act.GiveUp w.job.index w.at.line d mode key) (sets d (without_held w.job.index mode key) w.ends)) (tt, inr there))
+    (goes_by (Puts d (ups.Unlock w.job.index mode key)) (writes (act.GiveUp w.job.index w.at.line d mode key) (sets d (without_held w.job.index mode key) w.ends)) (tt, inr there, stays_up (note_goes d (Lowers w.job.index mode key) w.ends (λ s. tt) tt) d up))
   where
     there : is_some (end_at (sets d (without_held w.job.index mode key) w.ends).state d).session ≡ true
     there =
         session_stays d (without_held w.job.index mode key) w.ends
         (any_there (λ s. s.held) (is_lane w.job.index mode key) (end_at w.ends.state d) refl held)
-gives_goes false d mode key w held = goes_same w.ends
+gives_goes false d mode key w up held = goes_same w.ends
 
 back_goes : (b : Bool) (d : ℕ) (mode : Mode) (key : List ℕ) (w : Work) → GoesOn w.ends (holds_back_if b d mode key w).ends
 back_goes true d mode key w = goes_same w.ends
 back_goes false d mode key w = goes_same w.ends
 
-held_goes : (b : Bool) (d : ℕ) (mode : Mode) (key : List ℕ) (w : Work) → GoesOn w.ends (unlocks_held b d mode key w).ends
-held_goes true d mode key w = gives_goes (holds_it w d mode key) d mode key w refl
-held_goes false d mode key w = back_goes (holds_it w d mode key) d mode key w
+held_goes : (b : Bool) (d : ℕ) (mode : Mode) (key : List ℕ) (w : Work) → is_up w d ≡ true → GoesOn w.ends (unlocks_held b d mode key w).ends
+held_goes true d mode key w up = gives_goes (holds_it w d mode key) d mode key w up refl
+held_goes false d mode key w up = back_goes (holds_it w d mode key) d mode key w
 
 -- transactions
 
@@ -285,11 +317,23 @@ put_by_end : (commits : Bool) (n job txn : ℕ) (wanted : Bool) → IsPutByJob (
 put_by_end true n job txn wanted = tt
 put_by_end false n job txn wanted = tt
 
+no_cancel_by_end : (commits : Bool) (n job txn : ℕ) (wanted : Bool) → IsNoCancel (if commits then ups.Commit n job txn wanted else ups.Rollback n job txn)
+no_cancel_by_end true n job txn wanted = tt
+no_cancel_by_end false n job txn wanted = tt
+
+item_by_end : (commits : Bool) (n job txn : ℕ) (wanted : Bool) → IsItem (if commits then ups.Commit n job txn wanted else ups.Rollback n job txn)
+item_by_end true n job txn wanted = tt
+item_by_end false n job txn wanted = tt
+
+-- the data server of an unlock that was held back
+abbrev server_back : HeldBack → ℕ
+server_back h = h.server
+
 -- the note of an end, by whether its answer is wanted
-end_goes : (wanted : Bool) (d n job : ℕ) (a : Act) (m : Up) (b : Sofar) → IsOfJob a → IsPutByJob m → is_normal (end_at b.state d).link ≡ true
+end_goes : (wanted : Bool) (d n job : ℕ) (a : Act) (m : Up) (b : Sofar) → IsOfJob a → IsItem m → IsPutByJob m → IsNoCancel m → is_normal (end_at b.state d).link ≡ true
     → GoesOn b (puts d m (sets d (λ s. end_notes wanted n m job (with_item n m job s)) (writes a b)))
-end_goes true d n job a m b of_job put up = issue_goes d a m (QueuesOwed n m job) b of_job (λ s. tt) tt put up
-end_goes false d n job a m b of_job put up = issue_goes d a m (Queues n m job) b of_job (λ s. tt) tt put up
+end_goes true d n job a m b of_job item put keeps up = issue_goes d a m (QueuesOwed n m job) b of_job (λ s. tt) item put keeps up
+end_goes false d n job a m b of_job item put keeps up = issue_goes d a m (Queues n m job) b of_job (λ s. tt) item put keeps up
 
 -- all these connections are Normal
 abbrev AreUp : List ℕ → Sofar → Type 0
@@ -302,7 +346,8 @@ stay_up g (d ∷ ds) up = (stays_up g d up.0, stay_up g ds up.1)
 one_end_goes : (how : HowEnded) (d : ℕ) (w : Work) → is_up w d ≡ true → GoesOn w.ends (puts_end how d w).ends
 one_end_goes how d w up =
     end_goes how.wanted d (next_w w d) w.job.index (act.Issue w.job.index w.at.line d (next_w w d) (end_item how w.job.txn)) (end_message how (next_w w d) w.job.index w.job.txn) w.ends tt
-    (put_by_end how.commits (next_w w d) w.job.index w.job.txn how.wanted) up
+    (item_by_end how.commits (next_w w d) w.job.index w.job.txn how.wanted) (put_by_end how.commits (next_w w d) w.job.index w.job.txn how.wanted)
+    (no_cancel_by_end how.commits (next_w w d) w.job.index w.job.txn how.wanted) up
 
 ends_go : (how : HowEnded) (ds : List ℕ) (w : Work) → AreUp ds w.ends → GoesOn w.ends (puts_ends how ds w).ends
 ends_go how [] w up = goes_same w.ends
@@ -311,20 +356,37 @@ ends_go how (d ∷ ds) w up = go (one_end_goes how d w up.0) (ends_go how ds (pu
     go : GoesOn w.ends (puts_end how d w).ends → (AreUp ds (puts_end how d w).ends → GoesOn (puts_end how d w).ends (puts_ends how (d ∷ ds) w).ends) → GoesOn w.ends (puts_ends how (d ∷ ds) w).ends
     go g rest = goes_then g (rest (stay_up g ds up.1))
 
-backs_go : (hs : List HeldBack) (w : Work) → GoesOn w.ends (unlocks_back hs w).ends
-backs_go [] w = goes_same w.ends
-backs_go (h ∷ hs) w =
-    goes_then (gives_goes (holds_it w h.server h.mode h.key) h.server h.mode h.key w refl)
+backs_go : (hs : List HeldBack) (w : Work) → AreUp (map server_back hs) w.ends → GoesOn w.ends (unlocks_back hs w).ends
+backs_go [] w up = goes_same w.ends
+backs_go (h ∷ hs) w up =
+    go (gives_goes (holds_it w h.server h.mode h.key) h.server h.mode h.key w up.0 refl)
     (backs_go hs (gives_up_if (holds_it w h.server h.mode h.key) h.server h.mode h.key w))
+  where
+    go : GoesOn w.ends (gives_up_if (holds_it w h.server h.mode h.key) h.server h.mode h.key w).ends
+        → (AreUp (map server_back hs) (gives_up_if (holds_it w h.server h.mode h.key) h.server h.mode h.key w).ends
+        → GoesOn (gives_up_if (holds_it w h.server h.mode h.key) h.server h.mode h.key w).ends (unlocks_back (h ∷ hs) w).ends)
+        → GoesOn w.ends (unlocks_back (h ∷ hs) w).ends
+    go g rest = goes_then g (rest (stay_up g (map server_back hs) up.1))
 
 are_up_all : (us : List Updated) (w : Work) → list_all (is_up_at w) us ≡ true → AreUp (map server_in us) w.ends
 are_up_all [] w up = tt
 are_up_all (u ∷ us) w up = ((and_parts (is_up_at w u) (list_all (is_up_at w) us) up).0, are_up_all us w (and_parts (is_up_at w u) (list_all (is_up_at w) us) up).1)
 
-txn_goes : (how : HowEnded) (alive : List Updated) (backs : List HeldBack) (w : Work) → AreUp (map server_in alive) w.ends → GoesOn w.ends (ends_txn how alive backs w).ends
-txn_goes how alive backs w up =
-    goes_then (goes_then (ends_go how (map server_in alive) (in_progress (begins_ends w.job.updates) w) up) (backs_go backs (puts_ends how (map server_in alive) (in_progress (begins_ends w.job.updates) w))))
+are_up_back : (hs : List HeldBack) (w : Work) → list_all (is_up_back w) hs ≡ true → AreUp (map server_back hs) w.ends
+are_up_back [] w up = tt
+are_up_back (h ∷ hs) w up = ((and_parts (is_up_back w h) (list_all (is_up_back w) hs) up).0, are_up_back hs w (and_parts (is_up_back w h) (list_all (is_up_back w) hs) up).1)
+
+txn_goes : (how : HowEnded) (alive : List Updated) (backs : List HeldBack) (w : Work) → AreUp (map server_in alive) w.ends → AreUp (map server_back backs) w.ends
+    → GoesOn w.ends (ends_txn how alive backs w).ends
+txn_goes how alive backs w up back =
+    goes_then (both (ends_go how (map server_in alive) (in_progress (begins_ends w.job.updates) w) up))
     (write_goes _ (unlocks_back backs (puts_ends how (map server_in alive) (in_progress (begins_ends w.job.updates) w))).ends tt)
+  where
+    v : Work
+    v = puts_ends how (map server_in alive) (in_progress (begins_ends w.job.updates) w)
+
+    both : GoesOn w.ends v.ends → GoesOn w.ends (unlocks_back backs v).ends
+    both g = goes_then g (backs_go backs v (stay_up g (map server_back backs) back))
 
 awaits_goes : (b : Bool) (w : Work) → GoesOn w.ends (awaits_put b w).work.ends
 awaits_goes true w = goes_same w.ends
@@ -338,7 +400,8 @@ when_goes : (are room : Bool) (how : HowEnded) (w : Work) → are_up w ≡ are �
 when_goes false room how w up = goes_same w.ends
 when_goes true false how w up = goes_same w.ends
 when_goes true true how w up =
-    goes_then (txn_goes how (living w) (living_backs w) w (are_up_all (living w) w (and_parts (list_all (is_up_at w) (living w)) (list_all (is_up_back w) (living_backs w)) up).0))
+    goes_then (txn_goes how (living w) (living_backs w) w (are_up_all (living w) w (and_parts (list_all (is_up_at w) (living w)) (list_all (is_up_back w) (living_backs w)) up).0)
+    (are_up_back (living_backs w) w (and_parts (list_all (is_up_at w) (living w)) (list_all (is_up_back w) (living_backs w)) up).1))
     (after_goes (living w) how (ends_txn how (living w) (living_backs w) w))
 
 end_act_is : (commits : Bool) (job line d at : ℕ) → IsOfJob (if commits then act.Committed job line d at else act.RolledBack job line d at)
@@ -378,7 +441,7 @@ syncs_go d w up =
     v = sets d (with_sync ((end_at w.ends.state d).ticket + 1) w.job.index) (becomes d with_ticket w.ends)
 
     go : GoesOn w.ends v → GoesOn w.ends (syncs d w).ends
-    go g = goes_then g (put_goes d (ups.Sync ((end_at w.ends.state d).ticket + 1)) v tt (stays_up g d up))
+    go g = goes_then g (put_goes d (ups.Sync ((end_at w.ends.state d).ticket + 1)) v tt tt (stays_up g d up))
 
 synced_goes : (o : Option ℕ) (d : ℕ) (w : Work) → GoesOn w.ends (by_synced o d w).work.ends
 synced_goes None d w = goes_same w.ends
@@ -439,7 +502,7 @@ does_go (Lock at mode wait) now w t h =
 does_go (Unlock at mode at_once) now w t h =
     by_work t _ w.ends h
     (up_goes (is_up w at.server) at.server _ w refl
-    (λ v up. goes_then (held_goes (if at_once then true else v.job.level == 0) at.server mode at.key v) (write_goes _ (unlocks_held (if at_once then true else v.job.level == 0) at.server mode at.key v).ends tt)))
+    (λ v up. goes_then (held_goes (if at_once then true else v.job.level == 0) at.server mode at.key v up) (write_goes _ (unlocks_held (if at_once then true else v.job.level == 0) at.server mode at.key v).ends tt)))
 does_go Start now w t h = by_work t _ w.ends h (goes_then (write_goes _ w.ends tt) (write_goes _ (levels (w.job.level + 1) (in_job with_txn w)).ends tt))
 does_go (Commit sync) now w t h = by_work t _ w.ends h (commit_goes (is_inner w) sync w)
 does_go Rollback now w t h = by_work t _ w.ends h (by_ends_goes w.at.ends _ w)

@@ -4,30 +4,15 @@ use Rattle.std.specs.List.{AllByRecursion}
 use Rattle.std.proofs.lemmas.Bool.{eqb-true, eq-eqb, false≢true}
 use Rattle.std.proofs.lemmas.List.{get_or_append_left}
 use Rattle.plain_orders.specs.declared.entry.Entry.{Entry}
-use Rattle.plain_orders.specs.declared.entry.Entry.TheVariants.{Closed}
 use Rattle.plain_runs.specs.Plain.{Server, current, order_at}
 use Rattle.data_rules.specs.Places.{epoch_place}
 use Rattle.cluster_invariant.specs.Orders.{OrdersAgree}
 use Rattle.cluster_invariant.specs.Words.{IsFront, stays_at}
-use Rattle.cluster_invariant.proofs.Deeds.{Deed, DeedIs, Enters, Closes, Releases, ComesBack, Grants, Frees, Breaks, order_by, order_with}
+use Rattle.cluster_invariant.proofs.Deeds.{Deed, DeedIs, deeds_grow, order_by}
 use Rattle.cluster_invariant.proofs.Written.{place_kept}
-use Rattle.link_kept.proofs.Later.{front_same, front_then}
+use Rattle.link_kept.proofs.Later.{front_same}
 use Rattle.cluster_invariant.proofs.PastOrders.{now_stays, order_now, past_stays, stays_within}
 use Rattle.coherence_kept.proofs.Grows.{OrdersOn}
-
-deed_grows : (x : Deed) (es : List Entry) → IsFront es (order_with x es)
-deed_grows (Enters e) es = (e ∷ [], refl)
-deed_grows (Closes s cause) es = (Closed s ∷ [], refl)
-deed_grows (Releases s) es = front_same es
-deed_grows ComesBack es = front_same es
-deed_grows (Grants s j m key at) es = front_same es
-deed_grows (Frees s j m key) es = front_same es
-deed_grows (Breaks app now) es = front_same es
-
--- an order goes on by deeds
-pub deeds_grow : (xs : List Deed) (es : List Entry) → IsFront es (order_by xs es)
-deeds_grow [] es = front_same es
-deeds_grow (x ∷ xs) es = front_then es (order_with x es) (order_by xs (order_with x es)) (deed_grows x es) (deeds_grow xs (order_with x es))
 
 -- The orders of a plain server go on by the deeds of its data server.
 pub deeds_on : (v w : Server) (ds : List Deed) → OrdersAgree v → AllByRecursion DeedIs ds → w.past ≡ v.past → w.order ≡ order_by ds v.order → v.synced ≤ w.synced

@@ -42,7 +42,7 @@ use Rattle.cluster_invariant.specs.Holds.{Holds, SiteHolds}
 use Rattle.cluster_invariant.specs.Link.{LaneCounts, NodeLink, NodeWindows, WindowIs, is_window_of}
 use Rattle.cluster_invariant.specs.Orders.{NodeOrder, OrdersAgree}
 use Rattle.cluster_invariant.specs.Words.{IsFront, stays_at}
-use Rattle.cluster_invariant.proofs.Deeds.{Does, order_by}
+use Rattle.cluster_invariant.proofs.Deeds.{Does, deeds_grow, order_by}
 use Rattle.cluster_invariant.proofs.OrderKept.{step_site}
 use Rattle.cluster_invariant.proofs.OrderMoves.{server_wrote, step_from}
 use Rattle.cluster_invariant.proofs.OrderRows.{StepWrote}
@@ -67,7 +67,7 @@ use Rattle.link_kept.proofs.WindowsGo.{AllServed, same_or}
 use Rattle.link_kept.proofs.WindowsServer.{LanesGrow, server_lanes}
 use Rattle.coherence_kept.proofs.ShortMoves.{PutsCoherent}
 use Rattle.coherence_kept.proofs.CoherenceLater.{LaneCoherent}
-use Rattle.coherence_kept.proofs.DeedsOn.{deeds_grow, deeds_on}
+use Rattle.coherence_kept.proofs.DeedsOn.{deeds_on}
 use Rattle.coherence_kept.proofs.Grows.{OrdersOn, coherent_later}
 use Rattle.coherence_kept.proofs.EntryDrops.{HeldBy}
 use Rattle.coherence_kept.proofs.Joined.{Held, held_coherent}
@@ -244,14 +244,19 @@ module _ (l : Layout) (c : CoresState) (m : Machine) (server now : ℕ) (input :
 
   -- while it goes on
 
-  abbrev G : Sofar → Type 0
-  G b = IsFront b.state.order next.order → HeldGo lane_of w.synced b.state
+  -- what was put is coherent as far as the step has come, where its order is a front of the one that comes of it
+  abbrev pub HeldSo : Sofar → Type 0
+  HeldSo b = IsFront b.state.order next.order → HeldGo lane_of w.synced b.state
 
-  piece_held : (p : Piece) (b : Sofar) → MayMake t p b → PutsWell lane_of p b → G b → G (makes now p b)
-  piece_held p b made well g front =
+  -- each small change keeps it
+  pub held_so : (p : Piece) (b : Sofar) → MayMake t p b → PutsWell lane_of p b → HeldSo b → HeldSo (makes now p b)
+  held_so p b made well g front =
       held_piece lane_of w.synced counts t p b made well
       (ordered-front (makes now p b).state.order front.0 (subst IsOrdered front.1 ordered))
       (g (front_then b.state.order (makes now p b).state.order next.order (order_grows now p b) front))
+
+  pub held_begin : HeldSo (begins t)
+  held_begin front = begins_held
 
   -- and where it ends
   module _ (ended : HeldGo lane_of w.synced next) (windows : NodeWindows (server_site old now input goes.data_outs next x) next) (noted : AllServed lane_of next.order next.noted) where
@@ -363,16 +368,18 @@ module _ (l : Layout) (c : CoresState) (m : Machine) (server now : ℕ) (input :
         lanes s k there (inr other) =
             past_coherent v w old next goes.data_outs x y on grow s k (omega (arith, there, same_now)) other (its.coherence.lanes s k (omega (arith, there, same_now)))
 
-  -- Each step of a data server keeps what was put coherent, where what it puts to and takes from its sessions fits.
-  pub coherence_kept_by_server : (E : Sofar → Type 0) → ((b : Sofar) → E b → ConnsKnow lane_of t b) → LeftToOthers lane_of t E
-      → ((p : Piece) (b : Sofar) → MayMake t p b → E b → E (makes now p b)) → E (begins t) → PutsCoherent l new
-  coherence_kept_by_server E know left keeps first = go (serves_kept_by_server l c m server now input outs written new h run shows allowed goes E know left keeps first G piece_held (λ front. begins_held))
+  -- Each step of a data server keeps what was put coherent, where it serves its sessions.
+  pub coherence_kept_by_serving : ServesAfter old next x (new.site_at server) (may_close input) × HeldSo (made next goes.data_outs) → PutsCoherent l new
+  coherence_kept_by_serving both =
+      kept_at_one (λ dead d u z. CoherenceHolds u z) l m new server (server_site old now input goes.data_outs next) written (λ d. (h.sites d).coherence) goes.after wrote.others
+      (coherent_here (both.1 (front_same next.order)) (subst (λ (z : Site). NodeWindows z next) site both.0.windows.windows) both.0.goes.noted
+      (server_lanes old now input goes.data_outs next x))
     where
       site : new.site_at server ≡ server_site old now input goes.data_outs next x
       site = ap (λ (n : Machine). n.site_at server) goes.after ∙ put_same m.site_at server (server_site old now input goes.data_outs next x)
 
-      go : ServesAfter old next x (new.site_at server) (may_close input) × G (made next goes.data_outs) → PutsCoherent l new
-      go both =
-          kept_at_one (λ dead d u z. CoherenceHolds u z) l m new server (server_site old now input goes.data_outs next) written (λ d. (h.sites d).coherence) goes.after wrote.others
-          (coherent_here (both.1 (front_same next.order)) (subst (λ (z : Site). NodeWindows z next) site both.0.windows.windows) both.0.goes.noted
-          (server_lanes old now input goes.data_outs next x))
+  -- So it does where what it puts to and takes from its sessions fits.
+  pub coherence_kept_by_server : (E : Sofar → Type 0) → ((b : Sofar) → E b → ConnsKnow lane_of t b) → LeftToOthers lane_of t E
+      → ((p : Piece) (b : Sofar) → MayMake t p b → E b → E (makes now p b)) → E (begins t) → PutsCoherent l new
+  coherence_kept_by_server E know left keeps first =
+      coherence_kept_by_serving (serves_kept_by_server l c m server now input outs written new h run shows allowed goes E know left keeps first HeldSo held_so held_begin)

@@ -79,49 +79,49 @@ same_dials a b is = ap (λ (k : Linked). k.dial) (one a b is)
 
 module _ (l : Layout) (c : CoresState) (m : Machine) (server now : ℕ) (input : DataIn) (outs : MoveOuts) (written : List Act) (new : Machine)
     (h : Holds l m) (run : IsRun l m.trail) (shows : Mirrors c m) (allowed : Allowed c (ServerMove server now input)) (goes : ServerGoes m server now input outs written new) where
-  abbrev p : Plain
+  abbrev pub p : Plain
   p = state_after l m.trail
 
-  abbrev v : Server
+  abbrev pub v : Server
   v = (state_after l m.trail).server_at server
 
-  abbrev x : Site
+  abbrev pub x : Site
   x = m.site_at server
 
-  abbrev old : DataState
+  abbrev pub old : DataState
   old = goes.node
 
   abbrev y : Site
   y = server_site goes.node now input goes.data_outs goes.state (m.site_at server)
 
-  abbrev lane_of : ℕ → Lane
+  abbrev pub lane_of : ℕ → Lane
   lane_of s = (m.site_at server).lane_at s (m.site_at server).past
 
-  abbrev t : Coming
+  abbrev pub t : Coming
   t = record { old = goes.node; now = now; input = input }
 
-  its : SiteHolds l server m.is_dead_at ((state_after l m.trail).server_at server) (m.site_at server)
+  pub its : SiteHolds l server m.is_dead_at ((state_after l m.trail).server_at server) (m.site_at server)
   its = h.sites server
 
-  node : NodeEnds v x old
+  pub node : NodeEnds v x old
   node = of_some (NodeEnds v x) x.node old goes.runs its.ends.node
 
-  order : NodeOrder l server x.past v old
+  pub order : NodeOrder l server x.past v old
   order = of_some (NodeOrder l server x.past v) x.node old goes.runs its.order.node
 
-  dials : NodeDials x old
+  pub dials : NodeDials x old
   dials = of_some (NodeDials x) x.node old goes.runs its.dials.node
 
-  link : NodeLink v x m.is_dead_at old
+  pub link : NodeLink v x m.is_dead_at old
   link = of_some (NodeLink v x m.is_dead_at) x.node old goes.runs its.link.node
 
-  from : StepFrom old
+  pub from : StepFrom old
   from = step_from l m server old h run goes.runs
 
-  may : DataMay old input
+  pub may : DataMay old input
   may = subst (λ (o : Option DataState). NodeMay o input) (shows.nodes server ∙ goes.runs) allowed.may
 
-  has : NodeHas server v old
+  pub has : NodeHas server v old
   has = record {
     server = order.its_server;
     ordered = from.ordered;
@@ -131,23 +131,23 @@ module _ (l : Layout) (c : CoresState) (m : Machine) (server now : ℕ) (input :
     within = subst (λ (es : List Entry). old.synced ≤ length es) (sym order.order) (omega (arith, order.synced, (orders_kept l m.trail server run).within));
   }
 
-  hold : ConnsHold old
+  pub hold : ConnsHold old
   hold = record { bound = λ conn s role. by conn s role (of_some (RoleIs x old conn) (role_of old conn) (Bound s) role (dials.roles conn)) }
     where
       by : (conn s : ℕ) → role_of old conn ≡ Some (Bound s) → BoundIs x old conn s → (live old.order s ≡ true) × (conn_for s old.conns ≡ Some conn)
       by conn s role b = (b.lives, b.its)
 
   -- the first frames that may come
-  allowed_frame : (conn : ℕ) (f : UpFrame) → input ≡ data_in.Frame conn f → Allowed c (ServerMove server now (data_in.Frame conn f))
+  pub allowed_frame : (conn : ℕ) (f : UpFrame) → input ≡ data_in.Frame conn f → Allowed c (ServerMove server now (data_in.Frame conn f))
   allowed_frame conn f came = subst (λ (i : DataIn). Allowed c (ServerMove server now i)) came allowed
 
-  first : FirstFrames v x m.is_dead_at its.dials input
+  pub first : FirstFrames v x m.is_dead_at its.dials input
   first conn f k came none named = first_came c m server now conn f k shows (allowed_frame conn f came) none named
 
-  unlinked : (conn : ℕ) (f : UpFrame) → input ≡ data_in.Frame conn f → kind_of f.message ≡ Opening → link_of x conn ≡ None
+  pub unlinked : (conn : ℕ) (f : UpFrame) → input ≡ data_in.Frame conn f → kind_of f.message ≡ Opening → link_of x conn ≡ None
   unlinked conn f came kind = opening_unlinked v x m.is_dead_at its.dials conn f kind (λ k linked. frame_next c m server now conn f k shows (allowed_frame conn f came) linked)
 
-  at_frame : FrameAt x m.is_dead_at old input
+  pub at_frame : FrameAt x m.is_dead_at old input
   at_frame = record {
     dials = dials;
     windows = link.windows;
@@ -155,16 +155,16 @@ module _ (l : Layout) (c : CoresState) (m : Machine) (server now : ℕ) (input :
     next = λ conn f k came linked. frame_next c m server now conn f k shows (allowed_frame conn f came) linked;
   }
 
-  low_app : (f : UpFrame) (app session epoch taken dial : ℕ) → IsUpFrame f → f.message ≡ up.Recover app session epoch taken dial → app < APP_LIMIT
+  pub low_app : (f : UpFrame) (app session epoch taken dial : ℕ) → IsUpFrame f → f.message ≡ up.Recover app session epoch taken dial → app < APP_LIMIT
   low_app f app session epoch taken dial is says = fields.0
     where
       fields : AllByRecursion IsField (up_row (up.Recover app session epoch taken dial)).fields
       fields = subst (λ (u : Up). AllByRecursion IsField (up_row u).fields) says is.fields
 
-  frame_may : (conn : ℕ) (f : UpFrame) → input ≡ data_in.Frame conn f → IsUpFrame f
+  pub frame_may : (conn : ℕ) (f : UpFrame) → input ≡ data_in.Frame conn f → IsUpFrame f
   frame_may conn f came = subst (DataMay old) came may
 
-  known : InputKnown lane_of old now input
+  pub known : InputKnown lane_of old now input
   known = record {
     next = λ conn session f b takes. taken_next x m.is_dead_at t at_frame conn session f b takes;
     unlearnt = λ conn app session epoch taken dial f came says later opened older.
@@ -174,19 +174,19 @@ module _ (l : Layout) (c : CoresState) (m : Machine) (server now : ℕ) (input :
   }
 
   -- where the Hellos come from
-  abbrev W : Caller → Type 0
+  abbrev pub W : Caller → Type 0
   W w = (LinkedTo x w.conn w.app HelloAlone × (role_at w.conn old.conns ≡ Some Waiting)) ⊎ Greets old input w
 
-  greets : (app conn : ℕ) (b : Sofar) → HelloMay t app conn true b → W (record { conn = conn; app = app })
+  pub greets : (app conn : ℕ) (b : Sofar) → HelloMay t app conn true b → W (record { conn = conn; app = app })
   greets app conn b hello = inr (record { dial = hello.dial; frame = hello.came.up; its = hello.came.its; says = hello.came.says })
 
-  begun_along : Along l p server v.synced t W (begins t)
+  pub begun_along : Along l p server v.synced t W (begins t)
   begun_along = record {
     ends = ends_begin l p server v.synced W x old now input has node (all_follow (CallerIs old x) W (λ w is. inl (is.linked, is.waits)) old.callers node.callers.each);
     speaks = speaks_begin old now input (all_follow (ReplyWaits v x old) (ReplyOn old.conns) (λ r is. waits_spoken v x old r is) old.replies link.replies);
   }
 
-  along : Along l p server v.synced t W (made goes.state goes.data_outs)
+  pub along : Along l p server v.synced t W (made goes.state goes.data_outs)
   along = along_after l p server v.synced W lane_of old now goes.data_outs goes.state from input may goes.steps hold places_all greets begun_along
 
   awaits : AwaitsOn lane_of (made goes.state goes.data_outs)
@@ -216,7 +216,7 @@ module _ (l : Layout) (c : CoresState) (m : Machine) (server now : ℕ) (input :
       by : LinkedTo (leaves_conns goes.data_outs.cuts (hears_downs goes.data_outs.frames z)) conn app HelloAlone → LinkedTo y conn app HelloAlone
       by g = record { dial = g.dial; link = g.link; first = g.first; its = g.its }
 
-  accepted : (conn : ℕ) (f : UpFrame) → input ≡ data_in.Frame conn f → is_some (x.connection_at conn) ≡ true
+  pub accepted : (conn : ℕ) (f : UpFrame) → input ≡ data_in.Frame conn f → is_some (x.connection_at conn) ≡ true
   accepted conn f came = go (x.connection_at conn) (subst (λ (o : Option Accepted). TakenMay o c server f) (shows.accepted server conn) (allowed_frame conn f came).takes)
     where
       go : (o : Option DataConnection) → TakenMay (option_map (accepted_of server conn) o) c server f → is_some o ≡ true

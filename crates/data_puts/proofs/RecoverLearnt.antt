@@ -89,7 +89,7 @@ pub record SaysMark (v : Server) (k : Knew) (session epoch : ℕ) : Type 0 where
   pub session_is : k.session ≡ session
   pub epoch_is : epoch ≡ last_epoch (order_at v mark.order)
 
-says_mark : (v : Server) (app dial : ℕ) (k : Knew) (session epoch taken to : ℕ) → (first_frame v app dial k).message ≡ Recover app session epoch taken to → SaysMark v k session epoch
+pub says_mark : (v : Server) (app dial : ℕ) (k : Knew) (session epoch taken to : ℕ) → (first_frame v app dial k).message ≡ Recover app session epoch taken to → SaysMark v k session epoch
 says_mark v app dial k session epoch taken to says = go k.mark refl says
   where
     go : (o : Option Mark) → k.mark ≡ o → first_message v app dial k.session o ≡ Recover app session epoch taken to → SaysMark v k session epoch

@@ -54,7 +54,7 @@ module _ (l : Layout) (p : Plain) (d k : ℕ) (t : Coming) (W : Caller → Type 
       speaks_as (puts session m b) b.state.conns b.state.replies (ap (λ (d : DataState). d.conns) (only_puts session m b).state) (ap (λ (d : DataState). d.replies) (only_puts session m b).state)
       (puts_on_conn b.state.conns differ session m b refl h.frames) h.replies
 
-  waiting_new : (app conn : ℕ) (b : Sofar) (o : Option ℕ) → waiting_conn b.state app ≡ o → CallersOf b.state.conns b.state.order b.state.callers → role_at conn b.state.conns ≡ Some New → role_at conn (dropped o b.state.conns) ≡ Some New
+  pub waiting_new : (app conn : ℕ) (b : Sofar) (o : Option ℕ) → waiting_conn b.state app ≡ o → CallersOf b.state.conns b.state.order b.state.callers → role_at conn b.state.conns ≡ Some New → role_at conn (dropped o b.state.conns) ≡ Some New
   waiting_new app conn b None its callers new = new
   waiting_new app conn b (Some w) its callers new = ap (λ (x : Option Conn). option_map role_in x) (other_stays b.state.conns w conn apart) ∙ new
     where

@@ -1,5 +1,5 @@
 -- What a round awaits stays as it is to be over each step of a data server.
-use Rattle.std.proofs.Common.{◌≡◌, ◌<◌, ◌≤◌, inl, inr, ℕ, List, ◌∷◌, drop, Option, Some, None, refl, sym, ◌∙◌, ap, subst, arith}
+use Rattle.std.proofs.Common.{◌≡◌, ◌<◌, ◌≤◌, inl, inr, ℕ, Bool, true, false, List, ◌∷◌, drop, Option, Some, None, refl, sym, ◌∙◌, ap, subst, arith}
 use Rattle.std.specs.Prelude.{Ok, Err, Result}
 use Rattle.plain_orders.specs.Sessions.{app_in}
 use Rattle.link_window.specs.declared.window.Taken.{Taken}
@@ -8,7 +8,7 @@ use Rattle.link_window.specs.declared.window.WindowError.{WindowError}
 use Rattle.ecp_messages.specs.declared.up.Up.{Up}
 use Rattle.ecp_messages.specs.declared.up.Up.TheVariants as up
 use Rattle.ecp_messages.specs.declared.up.UpFrame.{UpFrame}
-use Rattle.end_words.specs.Windows.{answers, with_ack, with_taken}
+use Rattle.end_words.specs.Windows.{answers, owes_bare, with_ack, with_taken}
 use Rattle.data_rules.specs.DataState.{DataState}
 use Rattle.data_rules.specs.declared.data_in.DataIn.TheVariants as data_in
 use Rattle.data_rules.specs.declared.rows.Kind.{Kind}
@@ -16,33 +16,59 @@ use Rattle.data_rules.specs.declared.rows.Role.{Role}
 use Rattle.data_rules.specs.declared.rows.Role.TheVariants.{Bound, Closing, New, Waiting}
 use Rattle.data_rules.specs.Callers.{TakesRecover, dial_of}
 use Rattle.data_rules.specs.Conns.{end_breaks, loses_conn, role_of, without_conn}
-use Rattle.data_rules.specs.Frames.{Ends, TakesBound, TakesClosing, TakesFirst, TakesFrame, TakesNumbered, acknowledged, kind_of, settled, took}
-use Rattle.data_rules.specs.Leaving.{flushed}
+use Rattle.data_rules.specs.Frames.{Ends, TakesBound, TakesClosing, TakesFirst, TakesFrame, TakesNumbered, acknowledged, bares_role, kind_of, settled, took}
+use Rattle.data_rules.specs.Leaving.{bare_on, bare_to, flushed}
 use Rattle.data_rules.specs.Messages.{Takes}
 use Rattle.data_rules.specs.Opening.{rounds}
-use Rattle.data_rules.specs.Puts.{Sofar, becomes, begun, body_of, window_in, window_of}
+use Rattle.data_rules.specs.Puts.{Sofar, becomes, begun, body_of, conn_of, window_in, window_of}
 use Rattle.cluster_runs.specs.Sent.{Lane}
 use Rattle.cluster_invariant.proofs.PieceMay.{Coming, RoundWas, TakesMay}
 use Rattle.cluster_invariant.proofs.Pieces.{Pieced, and_then, kept_by_pieces}
-use Rattle.cluster_invariant.proofs.PiecesOfReplies.{bares_role_pieces, flush_pieces}
+use Rattle.cluster_invariant.proofs.PiecesOfReplies.{flush_pieces}
 use Rattle.cluster_invariant.proofs.PiecesOfRounds.{rounds_pieces}
 use Rattle.cluster_invariant.proofs.RoundBefore.{round_same}
 use Rattle.data_puts.proofs.AwaitsGo.{awaits_done}
 use Rattle.data_puts.proofs.AwaitsPieces.{AwaitsOn, TakesKnown, awaits_breaks, awaits_piece, awaits_same}
-use Rattle.data_puts.proofs.TakenSame.{set_taken}
+use Rattle.data_puts.proofs.TakenSame.{SameTaken, set_taken, taken_bare}
 
 -- what follows each frame, as if it followed a tick
 abbrev pub tick_of : DataState → ℕ → Coming
 tick_of old now = record { old = old; now = now; input = data_in.Tick }
 
-pub settled_pieces : (t : Coming) (conn : ℕ) (b : Sofar) → RoundWas t b.state → Pieced t b (settled conn t.now b)
-settled_pieces t conn b was =
-    and_then t b (rounds t.now b) (settled conn t.now b) (rounds_pieces t b was)
-    (and_then t (rounds t.now b) (flushed (rounds t.now b)) (settled conn t.now b) (flush_pieces t (rounds t.now b)) (bares_role_pieces t (role_of (flushed (rounds t.now b)).state conn) (flushed (rounds t.now b))))
+pub settled_pieces : (t : Coming) (b : Sofar) → RoundWas t b.state → Pieced t b (flushed (rounds t.now b))
+settled_pieces t b was = and_then t b (rounds t.now b) (flushed (rounds t.now b)) (rounds_pieces t b was) (flush_pieces t (rounds t.now b))
 
 -- as if nothing had been taken before it
-pub settled_anew : (conn now : ℕ) (b : Sofar) → Pieced (tick_of b.state now) b (settled conn now b)
-settled_anew conn now b = settled_pieces (tick_of b.state now) conn b (round_same (tick_of b.state now) b.state refl refl)
+pub settled_anew : (now : ℕ) (b : Sofar) → Pieced (tick_of b.state now) b (flushed (rounds now b))
+settled_anew now b = settled_pieces (tick_of b.state now) b (round_same (tick_of b.state now) b.state refl refl)
+
+-- an acknowledgement that goes out by itself leaves all but the count of a window
+pub record BaredOnly (b c : Sofar) : Type 0 where
+  pub round : c.state.round ≡ b.state.round
+  pub order : c.state.order ≡ b.state.order
+  pub callers : c.state.callers ≡ b.state.callers
+  pub taken : SameTaken b c
+
+pub bared_only : (r : Option Role) (b : Sofar) → BaredOnly b (bares_role r b)
+bared_only r b = go r
+  where
+    none : BaredOnly b b
+    none = record { round = refl; order = refl; callers = refl; taken = λ s. refl }
+
+    by : (s conn : ℕ) (owed : Bool) → BaredOnly b (bare_to owed s conn b)
+    by s conn true = record { round = refl; order = refl; callers = refl; taken = taken_bare s conn b }
+    by s conn false = none
+
+    on : (s : ℕ) (o : Option ℕ) → BaredOnly b (bare_on o s b)
+    on s None = none
+    on s (Some conn) = by s conn (owes_bare (window_of b.state s))
+
+    go : (q : Option Role) → BaredOnly b (bares_role q b)
+    go None = none
+    go (Some New) = none
+    go (Some Waiting) = none
+    go (Some (Bound s)) = on s (conn_of b.state s)
+    go (Some (Closing s)) = none
 
 module _ (lane_of : ℕ → Lane) (old : DataState) (now : ℕ) where
   none_known : (d : DataState) → TakesKnown lane_of (tick_of d now) (λ b. Unit {0})
@@ -56,9 +82,15 @@ module _ (lane_of : ℕ → Lane) (old : DataState) (now : ℕ) where
       tick_no conn f is = cc
 
   pub settled_awaits : (conn : ℕ) (b : Sofar) → AwaitsOn lane_of b → AwaitsOn lane_of (settled conn now b)
-  settled_awaits conn b h =
-      kept_by_pieces (tick_of b.state now) (AwaitsOn lane_of) (λ q c may is. awaits_piece lane_of (tick_of b.state now) (λ e. Unit {0}) (none_known b.state) q c may tt is) b (settled conn now b)
-      (settled_anew conn now b) h
+  settled_awaits conn b h = bares (bared_only (role_of (flushed (rounds now b)).state conn) (flushed (rounds now b)))
+    where
+      flushed_awaits : AwaitsOn lane_of (flushed (rounds now b))
+      flushed_awaits =
+          kept_by_pieces (tick_of b.state now) (AwaitsOn lane_of) (λ q c may is. awaits_piece lane_of (tick_of b.state now) (λ e. Unit {0}) (none_known b.state) q c may tt is) b
+          (flushed (rounds now b)) (settled_anew now b) h
+
+      bares : BaredOnly (flushed (rounds now b)) (settled conn now b) → AwaitsOn lane_of (settled conn now b)
+      bares only = awaits_same lane_of (flushed (rounds now b)) (settled conn now b) only.round only.order only.taken flushed_awaits
 
   ends_awaits : (conn : ℕ) (b c : Sofar) → Ends b conn now c → AwaitsOn lane_of b → AwaitsOn lane_of c
   ends_awaits conn b c ends h = subst (AwaitsOn lane_of) (sym ends.after) (go (role_of b.state conn))

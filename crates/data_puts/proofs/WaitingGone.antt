@@ -17,7 +17,8 @@ use Rattle.data_rules.specs.declared.rows.Role.{Role}
 use Rattle.data_rules.specs.declared.rows.Role.TheVariants.{Bound, Closing, New, Waiting}
 use Rattle.data_rules.specs.Conns.{is_other_caller, loses_conn, role_of, without_conn}
 use Rattle.data_rules.specs.Frames.{Ends, TakesFrame, kind_of, settled}
-use Rattle.data_rules.specs.Opening.{all_apps}
+use Rattle.data_rules.specs.Leaving.{flushed}
+use Rattle.data_rules.specs.Opening.{all_apps, rounds}
 use Rattle.data_rules.specs.Puts.{Sofar, becomes, begun, cuts}
 use Rattle.data_rules.specs.Step.{DataStep, FrameStep, made}
 use Rattle.cluster_runs.specs.CoresState.{Linked}
@@ -39,7 +40,7 @@ use Rattle.data_pieces.proofs.EndsBegin.{NodeHas, ends_begin}
 use Rattle.data_pieces.proofs.EndsGo.{EndsGo}
 use Rattle.data_pieces.proofs.EndsPieces.{ConnsHold, forgets_go}
 use Rattle.data_pieces.proofs.PlainView.{view}
-use Rattle.data_puts.proofs.StepAwaits.{settled_pieces, tick_of}
+use Rattle.data_puts.proofs.StepAwaits.{BaredOnly, bared_only, settled_pieces, tick_of}
 
 -- a frame behind the first is no first one
 
@@ -132,13 +133,17 @@ module _ (l : Layout) (p : Plain) (d k : ℕ) (x : Site) (old : DataState) (now 
       → AllByRecursion (Elsewhere conn) new.callers
   waiting_gone all f outs new steps =
       subst (λ (y : Sofar). AllByRecursion (Elsewhere conn) y.state.callers) (sym steps.after)
-      (kept_by_pieces (tick_of old now) (Goes (Elsewhere conn))
-      (λ q b may h. ends_piece l p d k (tick_of old now) (Elsewhere conn) hold all (λ app c e m. absurd (tick_no c m.came.up m.came.its)) q b may h) steps.taken (settled conn now steps.taken)
-      (settled_pieces (tick_of old now) conn steps.taken (round_was steps.taken ended))
-      (after_end steps.taken ended)).whence
+      (bares (bared_only (role_of (flushed (rounds now steps.taken)).state conn) (flushed (rounds now steps.taken))))
     where
       ended : Ends (begun old) conn now steps.taken
       ended = subst (λ (r : Option Role). TakesFrame r (begun old) conn now f steps.taken) waits steps.takes
+
+      bares : BaredOnly (flushed (rounds now steps.taken)) (settled conn now steps.taken) → AllByRecursion (Elsewhere conn) (settled conn now steps.taken).state.callers
+      bares only =
+          subst (AllByRecursion (Elsewhere conn)) (sym only.callers)
+          (kept_by_pieces (tick_of old now) (Goes (Elsewhere conn))
+          (λ q b may h. ends_piece l p d k (tick_of old now) (Elsewhere conn) hold all (λ app c e m. absurd (tick_no c m.came.up m.came.its)) q b may h) steps.taken
+          (flushed (rounds now steps.taken)) (settled_pieces (tick_of old now) steps.taken (round_was steps.taken ended)) (after_end steps.taken ended)).whence
 
 -- what holds of any
 any_of : (P : Caller → Type 0) → ((w : Caller) → P w) → (ws : List Caller) → AllByRecursion P ws

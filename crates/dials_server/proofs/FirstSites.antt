@@ -46,7 +46,7 @@ module _ (v : Server) (x : Site) (dead : ℕ → Bool) (conn : ℕ) (l : Linked)
         go true = by (x.connection_at k)
         go false = refl
 
-    link_now : link_of z conn ≡ Some l
+    pub link_now : link_of z conn ≡ Some l
     link_now =
         ap (λ (b : Bool). link_in (if b then option_map (linked_if (Some l)) (x.connection_at conn) else x.connection_at conn)) (eq-eqb conn conn refl)
         ∙ by (x.connection_at conn) here unlinked

@@ -93,7 +93,7 @@ next_frame c m server now conn f l shows allowed linked =
     taken (Some d) its may = linked_may (subst (λ (o : Option Linked). LinkedMay o c server f) its may.1)
 
 -- it says what it said of a session
-says_moved : (x z : Site) (n : DataState) → z.lane_at ≡ x.lane_at → z.past ≡ x.past → (says : Says) → SaysFit says x n → SaysFit says z n
+pub says_moved : (x z : Site) (n : DataState) → z.lane_at ≡ x.lane_at → z.past ≡ x.past → (says : Says) → SaysFit says x n → SaysFit says z n
 says_moved x z n lanes past (NewWelcome conn session) fits = fits
 says_moved x z n lanes past (EpochWelcome conn session kept) fits = fits
 says_moved x z n lanes past (ResetOf conn session at) fits = fits

@@ -95,7 +95,7 @@ module _ (x : Site) (n : DataState) (gone : List ℕ) (fresh_at : (s : ℕ) → 
       waiting = becomes (λ d. record d { replies = filter (must_wait d.synced) d.replies }) b
 
   -- an acknowledgement by itself, to a session that learnt of the order
-  bares_go : (o : Option Role) (b : Sofar) → ((s : ℕ) → o ≡ Some (Bound s) → HasLearnt x s) → OpenInv x n gone [] b → OpenInv x n gone [] (bares_role o b)
+  pub bares_go : (o : Option Role) (b : Sofar) → ((s : ℕ) → o ≡ Some (Bound s) → HasLearnt x s) → OpenInv x n gone [] b → OpenInv x n gone [] (bares_role o b)
   bares_go None b learnt inv = inv
   bares_go (Some New) b learnt inv = inv
   bares_go (Some Waiting) b learnt inv = inv

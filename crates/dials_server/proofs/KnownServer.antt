@@ -28,7 +28,7 @@ use Rattle.cluster_runs.specs.Moves.{Allowed}
 use Rattle.cluster_runs.specs.Goes.{ServerGoes, server_site}
 use Rattle.cluster_invariant.specs.Dials.{DialsAre, WasTold}
 use Rattle.cluster_invariant.specs.Holds.{Holds}
-use Rattle.cluster_invariant.proofs.Deeds.{Deed, Enters, Closes, Releases, ComesBack, Grants, Frees, Breaks, order_by, order_with}
+use Rattle.cluster_invariant.proofs.Deeds.{deeds_grow, order_by}
 use Rattle.cluster_invariant.proofs.OrderMoves.{server_wrote}
 use Rattle.cluster_invariant.proofs.OrderRows.{StepWrote}
 use Rattle.cluster_invariant.proofs.Written.{place_kept}
@@ -75,24 +75,6 @@ opened_stays es fs ordered s a is = go (ordered_parts [] es fs ordered)
   where
     go : OrderedFrom [] es × OrderedFrom ([] ++ es) fs → app_in (es ++ fs) s ≡ Some a
     go parts = opened_from es fs parts.0 parts.1 s a is
-
--- what deeds make of an order is the order with more
-one_grows : (x : Deed) (es : List Entry) → (more : List Entry) × (order_with x es ≡ es ++ more)
-one_grows (Enters e) es = (e ∷ [], refl)
-one_grows (Closes s cause) es = (Closed s ∷ [], refl)
-one_grows (Releases s) es = ([], sym (append-nil es))
-one_grows ComesBack es = ([], sym (append-nil es))
-one_grows (Grants s j m key at) es = ([], sym (append-nil es))
-one_grows (Frees s j m key) es = ([], sym (append-nil es))
-one_grows (Breaks app now) es = ([], sym (append-nil es))
-
-pub deeds_grow : (ds : List Deed) (es : List Entry) → (more : List Entry) × (order_by ds es ≡ es ++ more)
-deeds_grow [] es = ([], sym (append-nil es))
-deeds_grow (x ∷ xs) es = join (one_grows x es) (deeds_grow xs (order_with x es))
-  where
-    join : (a : List Entry) × (order_with x es ≡ es ++ a) → (b : List Entry) × (order_by xs (order_with x es) ≡ order_with x es ++ b)
-        → (more : List Entry) × (order_by (x ∷ xs) es ≡ es ++ more)
-    join a b = (a.0 ++ b.0, b.1 ∙ ap (λ (ys : List Entry). ys ++ b.0) a.1 ∙ append_assoc es a.0 b.0)
 
 -- the last order and those before it
 orders_go_on : (P : List Entry → List Entry → Type 0) (xs : List (List Entry)) (o q : List Entry) → ((es : List Entry) → P es es) → P o q → (k : ℕ)

@@ -39,7 +39,7 @@ or_other : (a b : Bool) → (a ≡ false → b ≡ true) → (a || b) ≡ true
 or_other true b is = refl
 or_other false b is = is refl
 
-live_opened : (b : Bool) (es : List Entry) (s : ℕ) → live_from b es s ≡ true → b ≡ false → list_any (is_same s) (opened_sessions es) ≡ true
+pub live_opened : (b : Bool) (es : List Entry) (s : ℕ) → live_from b es s ≡ true → b ≡ false → list_any (is_same s) (opened_sessions es) ≡ true
 live_opened b [] s lives none = absurd (false≢true (sym none ∙ lives))
 live_opened b (Epoch number ∷ es) s lives none = live_opened b es s lives none
 live_opened b (Opened session app ∷ es) s lives none =
@@ -56,7 +56,7 @@ live_opened b (Update session w job txn op ∷ es) s lives none = live_opened b 
 live_opened b (Commit session w job txn ∷ es) s lives none = live_opened b es s lives none
 live_opened b (Rollback session w job txn ∷ es) s lives none = live_opened b es s lives none
 
-among_filtered : (p : ℕ → Bool) (xs : List ℕ) (s : ℕ) → p s ≡ true → list_any (is_same s) xs ≡ true → list_any (is_same s) (filter p xs) ≡ true
+pub among_filtered : (p : ℕ → Bool) (xs : List ℕ) (s : ℕ) → p s ≡ true → list_any (is_same s) xs ≡ true → list_any (is_same s) (filter p xs) ≡ true
 among_filtered p [] s is there = absurd (false≢true there)
 among_filtered p (k ∷ ks) s is there = go (p k) refl (s == k) refl there (among_filtered p ks s is)
   where

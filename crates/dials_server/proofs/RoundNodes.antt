@@ -116,7 +116,7 @@ drops_fit x d before (y ∷ xs) b learnt tells all =
     drops_fit x d before xs (drops_one before y xs b) learnt.1 (puts_tells x y.session _ b tells) (puts_fit x d y.session _ b tt learnt.0 tells all)
 
 module _ (x : Site) (d m : DataState) (conn s : ℕ) (conns : m.conns ≡ map (with_role_if conn (Bound s)) d.conns) (waits : role_of d conn ≡ Some Waiting) where
-  role_kept : (k : ℕ) → k ≢ conn → role_of m k ≡ role_of d k
+  pub role_kept : (k : ℕ) → k ≢ conn → role_of m k ≡ role_of d k
   role_kept k apart = ap (λ (cs : List Conn). option_map role_in (find (is_conn k) cs)) conns ∙ other_role conn (Bound s) k d.conns apart
 
   bound_apart : (k q : ℕ) → role_of d k ≡ Some (Bound q) → k ≢ conn
@@ -136,7 +136,7 @@ module _ (x : Site) (d m : DataState) (conn s : ℕ) (conns : m.conns ≡ map (w
   on_opened (Normal front) k fits = fits
   on_opened Bare k fits = fits
 
-  says_opened : (says : Says) → SaysFit says x d → SaysFit says x m
+  pub says_opened : (says : Says) → SaysFit says x d → SaysFit says x m
   says_opened (NewWelcome k session) fits = role_kept k (bound_apart k session fits) ∙ fits
   says_opened (EpochWelcome k session kept) fits = role_kept k (bound_apart k session fits) ∙ fits
   says_opened (ResetOf k session at) fits = role_kept k (closing_apart k session fits) ∙ fits

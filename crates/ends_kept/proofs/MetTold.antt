@@ -100,7 +100,7 @@ pair_of : (pair : Pair) (e : AppEnd) (s : Session) → AppTables pair e → e.se
 pair_of pair e s t there = t.session ∙ ap (λ (o : Option Session). option_map number_of o) there
 
 -- its plain session
-told_in : (v : Server) (app : ℕ) (s : Session) (k : ℕ) → IsSomeAnd (v.session_at s.number) (λ t. (t.app ≡ app) × (t.told ≡ k)) → (session_in v s.number).told ≡ k
+pub told_in : (v : Server) (app : ℕ) (s : Session) (k : ℕ) → IsSomeAnd (v.session_at s.number) (λ t. (t.app ≡ app) × (t.told ≡ k)) → (session_in v s.number).told ≡ k
 told_in v app s k met = go (v.session_at s.number) met
   where
     go : (o : Option PlainSession) → IsSomeAnd o (λ t. (t.app ≡ app) × (t.told ≡ k)) → (unwrap_or o (record { app = 0; issued = []; told = 0 })).told ≡ k

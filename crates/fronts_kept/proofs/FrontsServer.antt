@@ -53,7 +53,7 @@ takes_ends (data_in.Broken conn) x = go (leaves_ends (conn ∷ []) x)
 takes_ends data_in.Tick x = record { state = λ a. refl; told = λ a. refl; shown = λ a. refl }
 takes_ends (data_in.Saved upto) x = record { state = λ a. refl; told = λ a. refl; shown = λ a. refl }
 
-server_ends : (old : DataState) (now : ℕ) (input : DataIn) (outs : DataOuts) (new : DataState) (x : Site) → SameEnds x (server_site old now input outs new x)
+pub server_ends : (old : DataState) (now : ℕ) (input : DataIn) (outs : DataOuts) (new : DataState) (x : Site) → SameEnds x (server_site old now input outs new x)
 server_ends old now input outs new x = go (takes_ends input x) (leaves_ends outs.cuts (hears_downs outs.frames (with_node now new (server_takes input x))))
   where
     go : SameEnds x (server_takes input x)

@@ -151,9 +151,9 @@ links_kept_by_job l c m job now line command outs written new h run shows allowe
     each : (d : ℕ) → LinkHolds ((after_all l p goes.app_outs.acts).server_at d) (site d) m.is_dead_at
     each d =
         link_kept_by_puts v w x (site d) m.is_dead_at app t e.shown (grew d).put alive
-        (later_same x v w (orders_agree l m.trail d run) orders
-        (none_met v w (rows_met l p goes.app_outs.acts (subst (λ (ws : List Act). AllByRecursion (λ z. leaves_told z ≡ true) ws) (sym wrote.acts) (all_told wrote.written wrote.of_job)) d)))
+        (later_same x v w (orders_agree l m.trail d run) orders)
         (λ a. entered_stays l p goes.app_outs.acts a d
+        (none_met v w (rows_met l p goes.app_outs.acts (subst (λ (ws : List Act). AllByRecursion (λ z. leaves_told z ≡ true) ws) (sym wrote.acts) (all_told wrote.written wrote.of_job)) d))
         (subst (λ (ws : List Act). AllByRecursion (λ z. keeps_entered a d z ≡ true) ws) (sym wrote.acts) (all_enter a d wrote.written wrote.of_job)))
         (ap (λ (xs : List (List Entry)). length xs) orders.past) (h.sites d).order.past (h.sites d).link (h.sites d).ends (h.sites d).dials puts
       where

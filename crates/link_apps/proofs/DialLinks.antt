@@ -103,7 +103,7 @@ module _ (l : Layout) (c : CoresState) (m : Machine) (app now d : ℕ) (outs : M
   elsewhere : (k : ℕ) → k ≢ d
       → LinkHolds ((after_all l (state_after l m.trail) goes.app_outs.acts).server_at k) (input_site app (app_in.Connected d) goes.app_outs goes.state goes.shown k (m.site_at k)) m.is_dead_at
   elsewhere k other =
-      rest_at l c m app now (app_in.Connected d) outs written new h run shows allowed goes k false (after.later k tells) (ne_eqb d k (λ same. other (sym same)))
+      rest_at l c m app now (app_in.Connected d) outs written new h run shows allowed goes k false (after.none k tells) (ne_eqb d k (λ same. other (sym same)))
       (ap (λ (z : Sofar). ups_to k z.outs.frames) goes.steps ∙ frames_elsewhere (end_at a d).link d k now (becomes d with_dial (begun a)) (λ same. other (sym same)))
       (ap (list_any (is_index k)) cuts)
       (subst (λ (t : AppEnd). EndRests (end_at a k) t)
@@ -113,7 +113,7 @@ module _ (l : Layout) (c : CoresState) (m : Machine) (app now d : ℕ) (outs : M
   -- at its data server the end has the connection
   here : LinkHolds ((after_all l (state_after l m.trail) goes.app_outs.acts).server_at d) (input_site app (app_in.Connected d) goes.app_outs goes.state goes.shown d (m.site_at d)) m.is_dead_at
   here =
-      link_kept_by_end v w x y m.is_dead_at app f alive (after.later d tells) (λ b other. after.others d b other) (after.now d) (h.sites d).order.past (h.sites d).link
+      link_kept_by_end v w x y m.is_dead_at app f alive (after.later d) (λ b other. after.others d (after.none d tells) b other) (after.now d) (h.sites d).order.past (h.sites d).link
       (h.sites d).ends (h.sites d).dials
       (step_dialled v w x y m.is_dead_at app t (goes.shown d) us (h.sites d).link (h.sites d).ends (h.sites d).dials alive dialled beside ends lanes others)
       (own_dialled v w x y m.is_dead_at app t (goes.shown d) us (h.sites d).link (h.sites d).ends (h.sites d).dials alive dialled beside ends lanes others)

@@ -50,9 +50,35 @@ pub record OwnKept (v w : Server) (x y : Site) (dead : ℕ → Bool) (app : ℕ)
   pub way : AppWay w y app f
 
 -- two ends that have the same session are one
-one_app : (o : Option PlainSession) (a b j k : ℕ) → IsSomeAnd o (λ t. (t.app ≡ a) × (t.told ≡ j)) → IsSomeAnd o (λ t. (t.app ≡ b) × (t.told ≡ k)) → a ≡ b
+pub one_app : (o : Option PlainSession) (a b j k : ℕ) → IsSomeAnd o (λ t. (t.app ≡ a) × (t.told ≡ j)) → IsSomeAnd o (λ t. (t.app ≡ b) × (t.told ≡ k)) → a ≡ b
 one_app None a b j k x y = absurd x
 one_app (Some t) a b j k x y = sym x.0 ∙ y.0
+
+-- a connection of a node's live session carries no other session
+pub carries_own : (x : Site) (n : DataState) → NodeDials x n → (s conn : ℕ) (l : Linked) → role_of n conn ≡ Some (Bound s) → link_of x conn ≡ Some l
+    → IfSome ((x.end_at l.app).connection_at l.dial) (CarriesNoOther s x.past)
+carries_own x n d s conn l role its = go (of_some (RoleIs x n conn) (role_of n conn) (Bound s) role (d.roles conn))
+  where
+    by : (o : Option Connection) → IsSomeAnd o (BoundTo x n.order s) → IfSome o (CarriesNoOther s x.past)
+    by None at = tt
+    by (Some c) at = at.carries
+
+    same_link : (a b : Linked) → ◌≡◌ {A = Option Linked} (Some a) (Some b) → a ≡ b
+    same_link a b is = cc
+
+    go : BoundIs x n conn s → IfSome ((x.end_at l.app).connection_at l.dial) (CarriesNoOther s x.past)
+    go b =
+        subst (λ (k : Linked). IfSome ((x.end_at k.app).connection_at k.dial) (CarriesNoOther s x.past))
+        (same_link (record { app = b.app; dial = b.linked.dial }) l (sym b.linked.link ∙ its)) (by ((x.end_at b.app).connection_at b.linked.dial) b.linked.its)
+
+-- it is there
+pub linked_there : (v : Server) (x : Site) (dead : ℕ → Bool) → DialsAre v x dead → (conn : ℕ) (l : Linked) → link_of x conn ≡ Some l → (c : Connection) × ((x.end_at l.app).connection_at l.dial ≡ Some c)
+linked_there v x dead dials conn l its = go ((x.end_at l.app).connection_at l.dial) refl (of_some (IsLinkedBy x conn) (link_of x conn) l its (dials.links conn))
+  where
+    go : (o : Option Connection) → (x.end_at l.app).connection_at l.dial ≡ o → IsSomeAnd o (λ c. IsSomeAnd c.first (λ z. z.conn ≡ conn))
+        → (c : Connection) × ((x.end_at l.app).connection_at l.dial ≡ Some c)
+    go None none is = absurd is
+    go (Some c) some is = (c, some)
 
 module _ (v w : Server) (x y : Site) (dead : ℕ → Bool) (app : ℕ) (f : End) (alive : dead app ≡ false) (later : Later x v w)
     (still : (a : ℕ) → a ≢ app → EnteredStays a v w) (now : current w ≡ current v) (past : x.past ≡ current v) (link : LinkHolds v x dead)
@@ -124,32 +150,6 @@ module _ (v w : Server) (x y : Site) (dead : ℕ → Bool) (app : ℕ) (f : End)
           go false lives (Some q) its number =
               subst (λ (n : ℕ). y.lane_at n x.past ≡ x.lane_at n x.past) (eqb-true q.number s number) (other_lane l.app other lives q its x.past)
 
-  -- a connection of a node's live session carries no other session
-  carries_own : (n : DataState) → NodeDials x n → (s conn : ℕ) (l : Linked) → role_of n conn ≡ Some (Bound s) → link_of x conn ≡ Some l
-      → IfSome ((x.end_at l.app).connection_at l.dial) (CarriesNoOther s x.past)
-  carries_own n d s conn l role its = go (of_some (RoleIs x n conn) (role_of n conn) (Bound s) role (d.roles conn))
-    where
-      by : (o : Option Connection) → IsSomeAnd o (BoundTo x n.order s) → IfSome o (CarriesNoOther s x.past)
-      by None at = tt
-      by (Some c) at = at.carries
-
-      same_link : (a b : Linked) → ◌≡◌ {A = Option Linked} (Some a) (Some b) → a ≡ b
-      same_link a b is = cc
-
-      go : BoundIs x n conn s → IfSome ((x.end_at l.app).connection_at l.dial) (CarriesNoOther s x.past)
-      go b =
-          subst (λ (k : Linked). IfSome ((x.end_at k.app).connection_at k.dial) (CarriesNoOther s x.past))
-          (same_link (record { app = b.app; dial = b.linked.dial }) l (sym b.linked.link ∙ its)) (by ((x.end_at b.app).connection_at b.linked.dial) b.linked.its)
-
-  -- it is there
-  linked_there : (conn : ℕ) (l : Linked) → link_of x conn ≡ Some l → (c : Connection) × ((x.end_at l.app).connection_at l.dial ≡ Some c)
-  linked_there conn l its = go ((x.end_at l.app).connection_at l.dial) refl (of_some (IsLinkedBy x conn) (link_of x conn) l its (dials.links conn))
-    where
-      go : (o : Option Connection) → (x.end_at l.app).connection_at l.dial ≡ o → IsSomeAnd o (λ c. IsSomeAnd c.first (λ z. z.conn ≡ conn))
-          → (c : Connection) × ((x.end_at l.app).connection_at l.dial ≡ Some c)
-      go None none is = absurd is
-      go (Some c) some is = (c, some)
-
   ups_kept : OwnKept v w x y dead app f → (n : DataState) → NodeDials x n → (s conn : ℕ) (l : Linked) → role_of n conn ≡ Some (Bound s) → link_of x conn ≡ Some l
       → UpWayBy x dead s l → UpWayBy y dead s l
   ups_kept own n d s conn l role its is = go (l.app == app) refl
@@ -164,11 +164,11 @@ module _ (v w : Server) (x y : Site) (dead : ℕ → Bool) (app : ℕ) (f : End)
 
       go : (b : Bool) → (l.app == app) ≡ b → UpWayBy y dead s l
       go true same =
-          let there : (c : Connection) × ((x.end_at l.app).connection_at l.dial ≡ Some c) = linked_there conn l its in
+          let there : (c : Connection) × ((x.end_at l.app).connection_at l.dial ≡ Some c) = linked_there v x dead dials conn l its in
           subst (λ (a : ℕ). UpWayBy y dead s (record { app = a; dial = l.dial })) (sym (eqb-true l.app app same))
           (here there.0 (subst (λ (a : ℕ). (x.end_at a).connection_at l.dial ≡ Some there.0) (eqb-true l.app app same) there.1)
           (subst (λ (a : ℕ). UpWayBy x dead s (record { app = a; dial = l.dial })) (eqb-true l.app app same) is)
-          (subst (λ (a : ℕ). IfSome ((x.end_at a).connection_at l.dial) (CarriesNoOther s x.past)) (eqb-true l.app app same) (carries_own n d s conn l role its)))
+          (subst (λ (a : ℕ). IfSome ((x.end_at a).connection_at l.dial) (CarriesNoOther s x.past)) (eqb-true l.app app same) (carries_own x n d s conn l role its)))
       go false other = other_ups s l (λ same. false≢true (sym other ∙ eq-eqb l.app app same)) is
 
   -- ends that greet
@@ -190,7 +190,7 @@ module _ (v w : Server) (x y : Site) (dead : ℕ → Bool) (app : ℕ) (f : End)
     where
       go : (b : Bool) → (l.app == app) ≡ b → GreetsOn w y s l.app (y.end_at l.app) l.dial (y.end_at l.app).state.line
       go true same =
-          let there : (c : Connection) × ((x.end_at l.app).connection_at l.dial ≡ Some c) = linked_there conn l its in
+          let there : (c : Connection) × ((x.end_at l.app).connection_at l.dial ≡ Some c) = linked_there v x dead dials conn l its in
           subst (λ (a : ℕ). GreetsOn w y s a (y.end_at a) l.dial (y.end_at a).state.line) (sym (eqb-true l.app app same))
           (subst (λ (z : End). GreetsOn w y s app z l.dial z.state.line) (sym here_end)
           (own.greets s l.dial there.0 (subst (λ (a : ℕ). (x.end_at a).connection_at l.dial ≡ Some there.0) (eqb-true l.app app same) there.1)
@@ -209,7 +209,7 @@ module _ (v w : Server) (x y : Site) (dead : ℕ → Bool) (app : ℕ) (f : End)
 
   others_kept : (a : ℕ) → a ≢ app → dead a ≡ false → AppWay w y a (x.end_at a)
   others_kept a other lives =
-      way_relaned w y x.lane_at unlearnt_lane a (x.end_at a) (mine (x.end_at a).state.session refl)
+      way_relaned w y x.lane_at a (λ told s k u. unlearnt_lane s k u.unlearnt) (x.end_at a) (mine (x.end_at a).state.session refl)
       (other_way v w x (with_lanes_at x.lane_at y) later
       (record { node = step.beside.node; order = step.beside.order; past = step.beside.past; connections = step.beside.connections; hellos = step.beside.hellos })
       (λ s k. record { began = refl; up_taken = refl; down = refl; down_taken = refl }) link.lanes a (x.end_at a) (still a other)

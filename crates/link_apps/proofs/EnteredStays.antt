@@ -151,15 +151,16 @@ row_keeps l p (Tick time) app d keeps = keeps_same app (p.server_at d)
 row_keeps l p (Lose a e loss) app d keeps = lost_keeps l p a e loss app d keeps
 row_keeps l p (Died a) app d keeps = keeps_same app (p.server_at d)
 
-rows_keep : (l : Layout) (p : Plain) (acts : List Act) (app d : ℕ) → AllByRecursion (λ a. keeps_entered app d a ≡ true) acts
+-- several such acts keep what was entered
+pub rows_keep : (l : Layout) (p : Plain) (acts : List Act) (app d : ℕ) → AllByRecursion (λ a. keeps_entered app d a ≡ true) acts
     → KeepsFor app (p.server_at d) ((after_all l p acts).server_at d)
 rows_keep l p [] app d keeps = keeps_same app (p.server_at d)
 rows_keep l p (a ∷ acts) app d keeps = λ s j is. rows_keep l (after l p a) acts app d keeps.1 s j (row_keeps l p a app d keeps.0 s j is)
 
 -- Several such acts.
-pub entered_stays : (l : Layout) (p : Plain) (acts : List Act) (app d : ℕ) → AllByRecursion (λ a. keeps_entered app d a ≡ true) acts
-    → EnteredStays app (p.server_at d) ((after_all l p acts).server_at d)
-entered_stays l p acts app d keeps = record { known = λ s k j low why is. rows_keep l p acts app d keeps s j is }
+pub entered_stays : (l : Layout) (p : Plain) (acts : List Act) (app d : ℕ) → NoneMet (p.server_at d) ((after_all l p acts).server_at d)
+    → AllByRecursion (λ a. keeps_entered app d a ≡ true) acts → EnteredStays app (p.server_at d) ((after_all l p acts).server_at d)
+entered_stays l p acts app d none keeps = record { known = λ s k j low why is. rows_keep l p acts app d keeps s j is; met = λ s j known unmet. none s unmet }
 
 -- acts that tell no session anything meet none
 pub none_met : (v w : Server) → SameMets v w → NoneMet v w
@@ -180,9 +181,9 @@ stays_kept v w s k =
     ∙ ap (λ (n : ℕ). if k == current v then n else epoch_place (order_at w (k + 1)) - 1) s.synced
     ∙ ap (λ (es : List Entry). if k == current v then v.synced else epoch_place es - 1) (order_kept v w s (k + 1))
 
--- A plain server whose orders are the same, where no session was met.
-pub later_same : (x : Site) (v w : Server) → OrdersAgree v → SameOrders v w → NoneMet v w → Later x v w
-later_same x v w agree s none = record {
+-- A plain server whose orders are the same.
+pub later_same : (x : Site) (v w : Server) → OrdersAgree v → SameOrders v w → Later x v w
+later_same x v w agree s = record {
   there = omega (arith, now);
   goes_on = λ k low. subst (λ (es : List Entry). IsFront (order_at v k) es) (sym (order_kept v w s k)) (front_same (order_at v k));
   within = stays_within v agree;
@@ -190,7 +191,6 @@ later_same x v w agree s none = record {
   left = λ k low. stays_kept v w s k;
   last = λ k low. ap last_epoch (order_kept v w s k);
   place = λ k low. ap epoch_place (order_kept v w s k);
-  met = none;
   newer = λ i j low past there stays. absurd (omega (arith, past, there, now));
   counts = λ n k low unlearnt. ap (λ (es : List Entry). count es n) (order_kept v w s k);
 }

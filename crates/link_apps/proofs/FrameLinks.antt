@@ -188,7 +188,7 @@ module _ (l : Layout) (c : CoresState) (m : Machine) (app now d : ℕ) (frame : 
   elsewhere : (k : ℕ) → k ≢ d
       → LinkHolds ((after_all l (state_after l m.trail) goes.app_outs.acts).server_at k) (input_site app (app_in.Frame d frame) goes.app_outs goes.state goes.shown k (m.site_at k)) m.is_dead_at
   elsewhere k other =
-      rest_at l c m app now (app_in.Frame d frame) outs written new h run shows allowed goes k false (after.later k tells) (ne_eqb d k apart_from)
+      rest_at l c m app now (app_in.Frame d frame) outs written new h run shows allowed goes k false (after.none k tells) (ne_eqb d k apart_from)
       (taken_silent k d apart_from (begun a) now frame z goes.steps)
       (apart.none_cut k apart_from)
       (subst (λ (t : AppEnd). EndRests (end_at a k) t)
@@ -207,7 +207,7 @@ module _ (l : Layout) (c : CoresState) (m : Machine) (app now d : ℕ) (frame : 
   unwired : (cut : Bool) → has_wire (end_at goes.state d).line ≡ false → ups_to d goes.app_outs.frames ≡ [] → list_any (is_index d) goes.app_outs.cuts ≡ cut
       → EndRests (end_at a d) (end_at goes.state d) → Here_
   unwired cut none frames cuts rests =
-      rest_by l c m app now (app_in.Frame d frame) outs written new h run shows allowed goes d cut (after.later d tells)
+      rest_by l c m app now (app_in.Frame d frame) outs written new h run shows allowed goes d cut (after.none d tells)
       (subst (λ (b : Bool). TakesNone b e (app_takes d (app_in.Frame d frame) e.state.dial e)) (sym none)
       (subst (λ (b : Bool). TakesNone false e (if b then at_number e.state.dial down_taken e else e)) (sym (eq-eqb d d refl))
       (rests_as_taken false e.state.dial down_taken e taken_rests)))
@@ -232,7 +232,7 @@ module _ (l : Layout) (c : CoresState) (m : Machine) (app now d : ℕ) (frame : 
           link_kept_by_joined ((state_after l m.trail).server_at d) ((after_all l (state_after l m.trail) goes.app_outs.acts).server_at d) (m.site_at d)
           (input_site app (app_in.Frame d frame) goes.app_outs goes.state goes.shown d (m.site_at d)) m.is_dead_at app
           (end_took ((state_after l m.trail).server_at d) (m.site_at d) m.is_dead_at app d frame a goes.app_outs goes.state goes.shown alive (h.sites d).link (h.sites d).ends
-          taken.connection taken.its taken.behind taken.left x) alive (after.later d tells) (λ b other. after.others d b other) (after.now d) (h.sites d).order.past (h.sites d).link
+          taken.connection taken.its taken.behind taken.left x) alive (after.later d) (λ b other. after.others d (after.none d tells) b other) (after.now d) (h.sites d).order.past (h.sites d).link
           (h.sites d).ends (h.sites d).dials taken.connection taken.behind x.us
           (site_took ((state_after l m.trail).server_at d) (m.site_at d) m.is_dead_at app d frame a goes.app_outs goes.state goes.shown alive (h.sites d).link (h.sites d).ends
           taken.connection taken.its taken.behind taken.left x)
@@ -240,8 +240,8 @@ module _ (l : Layout) (c : CoresState) (m : Machine) (app now d : ℕ) (frame : 
           link_kept_by_joined ((state_after l m.trail).server_at d) ((after_all l (state_after l m.trail) goes.app_outs.acts).server_at d) (m.site_at d)
           (input_site app (app_in.Frame d frame) goes.app_outs goes.state goes.shown d (m.site_at d)) m.is_dead_at app
           (end_went ((state_after l m.trail).server_at d) (m.site_at d) m.is_dead_at app d now frame a goes.app_outs goes.state goes.shown alive (h.sites d).link (h.sites d).ends
-          (h.sites d).dials taken.connection taken.its taken.behind taken.left x.session x.epoch x.kept x.front x.taken x.message x.went) alive (after.later d tells)
-          (λ b other. after.others d b other) (after.now d) (h.sites d).order.past (h.sites d).link (h.sites d).ends (h.sites d).dials taken.connection taken.behind
+          (h.sites d).dials taken.connection taken.its taken.behind taken.left x.session x.epoch x.kept x.front x.taken x.message x.went) alive (after.later d)
+          (λ b other. after.others d (after.none d tells) b other) (after.now d) (h.sites d).order.past (h.sites d).link (h.sites d).ends (h.sites d).dials taken.connection taken.behind
           (map (up_frame x.went.session.window.taken) (resent x.went.session.window x.taken) ++ bare_frames x.went.bare x.went.session.window.taken)
           (site_went ((state_after l m.trail).server_at d) (m.site_at d) m.is_dead_at app d now frame a goes.app_outs goes.state goes.shown alive (h.sites d).link (h.sites d).ends
           (h.sites d).dials taken.connection taken.its taken.behind taken.left x.session x.epoch x.kept x.front x.taken x.message x.went)

@@ -32,7 +32,7 @@ use Rattle.ends_kept.proofs.TablesMoves.{app_may, tables_begin}
 use Rattle.told_kept.proofs.SameSessions.{rows_met}
 use Rattle.told_kept.proofs.ToldActs.{TellNothing}
 use Rattle.link_kept.proofs.Later.{EnteredStays, Later}
-use Rattle.link_apps.proofs.EnteredStays.{keeps_entered, entered_stays, none_met, later_same}
+use Rattle.link_apps.proofs.EnteredStays.{KeepsFor, NoneMet, keeps_entered, entered_stays, rows_keep, none_met, later_same}
 
 lost_other : (app a b d e : ℕ) (loss : Loss) → b ≡ app → a ≢ app → keeps_entered a d (Lose b e loss) ≡ true
 lost_other app a b d e (ByReset at) its other = ap (λ (t : Bool). not (t && e == d)) (ne_eqb b a (λ same. other (sym same ∙ its)))
@@ -83,8 +83,13 @@ pub record AfterInput (l : Layout) (m : Machine) (app : ℕ) (acts : List Act) :
   pub leaves : AllByRecursion (λ z. leaves_orders z ≡ true) acts
   pub orders : (d : ℕ) → SameOrders ((state_after l m.trail).server_at d) ((after_all l (state_after l m.trail) acts).server_at d)
   pub now : (d : ℕ) → current ((after_all l (state_after l m.trail) acts).server_at d) ≡ current ((state_after l m.trail).server_at d)
-  pub others : (d a : ℕ) → a ≢ app → EnteredStays a ((state_after l m.trail).server_at d) ((after_all l (state_after l m.trail) acts).server_at d)
-  pub later : (d : ℕ) → TellNothing acts → Later (m.site_at d) ((state_after l m.trail).server_at d) ((after_all l (state_after l m.trail) acts).server_at d)
+  pub later : (d : ℕ) → Later (m.site_at d) ((state_after l m.trail).server_at d) ((after_all l (state_after l m.trail) acts).server_at d)
+  pub none : (d : ℕ) → TellNothing acts → NoneMet ((state_after l m.trail).server_at d) ((after_all l (state_after l m.trail) acts).server_at d)
+  -- where no session is met, what was entered for the others stays
+  pub others : (d : ℕ) → NoneMet ((state_after l m.trail).server_at d) ((after_all l (state_after l m.trail) acts).server_at d) → (a : ℕ) → a ≢ app
+      → EnteredStays a ((state_after l m.trail).server_at d) ((after_all l (state_after l m.trail) acts).server_at d)
+  -- and else those that were entered are known
+  pub known : (d a : ℕ) → a ≢ app → KeepsFor a ((state_after l m.trail).server_at d) ((after_all l (state_after l m.trail) acts).server_at d)
 
 pub after_input : (l : Layout) (c : CoresState) (m : Machine) (app now : ℕ) (input : AppIn) (outs : MoveOuts) (written : List Act) (new : Machine)
     → Holds l m → IsRun l m.trail → Mirrors c m → Allowed c (App app now input) → (goes : AppGoes m app now input outs written new) → AfterInput l m app goes.app_outs.acts
@@ -92,12 +97,14 @@ after_input l c m app now input outs written new h run shows allowed goes = reco
   leaves = orders;
   orders = same;
   now = λ d. ap (λ (xs : List (List Entry)). length xs) (same d).past;
-  others = λ d a other. entered_stays l (state_after l m.trail) goes.app_outs.acts a d (acts_keep app a d goes.app_outs.acts other orders own);
-  later = λ d tells.
+  later = λ d.
       later_same (m.site_at d) ((state_after l m.trail).server_at d) ((after_all l (state_after l m.trail) goes.app_outs.acts).server_at d) (orders_agree l m.trail d run)
-      (same d)
-      (none_met ((state_after l m.trail).server_at d) ((after_all l (state_after l m.trail) goes.app_outs.acts).server_at d)
-      (rows_met l (state_after l m.trail) goes.app_outs.acts tells d));
+      (same d);
+  none = λ d tells.
+      none_met ((state_after l m.trail).server_at d) ((after_all l (state_after l m.trail) goes.app_outs.acts).server_at d)
+      (rows_met l (state_after l m.trail) goes.app_outs.acts tells d);
+  others = λ d none a other. entered_stays l (state_after l m.trail) goes.app_outs.acts a d none (acts_keep app a d goes.app_outs.acts other orders own);
+  known = λ d a other. rows_keep l (state_after l m.trail) goes.app_outs.acts a d (acts_keep app a d goes.app_outs.acts other orders own);
 }
   where
     orders : AllByRecursion (λ z. leaves_orders z ≡ true) goes.app_outs.acts

@@ -1,11 +1,11 @@
 -- What is on its way to an end that learns of an order, by the Welcome of a new session or of a new epoch.
-use Rattle.std.proofs.Common.{◌≡◌, ◌≤◌, ℕ, ◌-◌, Bool, true, if◌then◌else◌, List, [], ◌∷◌, length, drop, Option, Some, None, option_map, is_some, refl, sym, ◌∙◌, ap, subst, arith}
+use Rattle.std.proofs.Common.{false, ◌≡◌, ◌≤◌, ℕ, ◌-◌, Bool, true, if◌then◌else◌, List, [], ◌∷◌, length, drop, Option, Some, None, option_map, is_some, refl, sym, ◌∙◌, ap, subst, arith, ◌≢◌, ◌⊎◌, ◌<◌}
 use Rattle.std.specs.Prelude.{IfSome, IsSomeAnd}
-use Rattle.std.specs.List.{list_all, list_any}
-use Rattle.std.proofs.lemmas.Bool.{eq-eqb, false≢true}
+use Rattle.std.specs.List.{list_all, list_any, AllByRecursion}
+use Rattle.std.proofs.lemmas.Bool.{eq-eqb, false≢true, ne_eqb}
 use Rattle.std.proofs.lemmas.List.{drop-drop}
 use Rattle.plain_orders.specs.declared.entry.Entry.{Entry}
-use Rattle.plain_runs.specs.Plain.{Server, order_at, put}
+use Rattle.plain_runs.specs.Plain.{Server, order_at, put, current}
 use Rattle.ecp_messages.specs.declared.up.Up.{Up}
 use Rattle.ecp_messages.specs.declared.up.UpFrame.{UpFrame}
 use Rattle.ecp_messages.specs.declared.down.Down.{Down}
@@ -25,13 +25,15 @@ use Rattle.cluster_runs.specs.Lanes.{given_since, is_told_new, its_of, sent_befo
 use Rattle.cluster_runs.specs.Machine.{Site, End}
 use Rattle.cluster_runs.specs.Sent.{Lane, Place, Connection, FirstTaken}
 use Rattle.cluster_invariant.specs.Link.{AppWay, LaneCounts, is_numbered_down, is_numbered_up, DownBy, DownWay, DownWhole, JoinedWay, LinkHolds, WholeIf, WindowIs, WithSession, is_in_recovery}
-use Rattle.cluster_invariant.specs.Words.{downs_left, stays_at}
+use Rattle.cluster_invariant.specs.Words.{downs_left, stays_at, numbered_ups}
 use Rattle.cluster_invariant.proofs.OrderBeside.{SameOrders}
 use Rattle.cluster_invariant.proofs.Small.{some_kept}
 use Rattle.cluster_steps.proofs.AppSites.{SameBeside, site_beside, site_ends}
 use Rattle.link_apps.proofs.EnteredStays.{order_kept, stays_kept}
 use Rattle.link_apps.proofs.LanesApps.{own_lane, told_lane}
 use Rattle.link_apps.proofs.TookDown.{way_taken, whole_taken}
+use Rattle.data_rules.specs.Places.{epoch_place}
+use Rattle.end_words.specs.Windows.{numbered_from}
 
 -- An end that learns of an order of its session, of which it knew nothing, by the first frame on its connection.
 pub record Learns (v : Server) (x : Site) (app d : ℕ) (outs : AppOuts) (state : AppState) (c : Connection) (rest : List DownFrame) : Type 0 where
@@ -49,6 +51,25 @@ pub record Learns (v : Server) (x : Site) (app d : ℕ) (outs : AppOuts) (state 
   pub numbered : list_all is_numbered_up session.window.waiting ≡ true
   pub way : DownWay (order_at v order) (stays_at v order) session.number (x.lane_at session.number order) (is_in_recovery (end_at state d).link) rest
   pub whole : WholeIf x session.number order (x.lane_at session.number order) c rest
+  -- it puts all that its window has
+  pub frames : numbered_ups (ups_to d outs.frames) ≡ numbered_from 0 session.window.waiting
+  pub acks : AllByRecursion (λ (g : UpFrame). g.ack ≤ 0) (ups_to d outs.frames)
+  -- the session was met by this application server, or by none and was entered for it
+  pub mine : IfSome (v.session_at session.number) (λ t. t.app ≡ app)
+  pub entered : v.session_at session.number ≡ None → v.entered_at session.number ≡ Some (record { app = app; in_order = order; lost_since = false })
+  -- what its Welcome rested on is synced
+  pub there : order ≤ current v
+  pub synced : order ≡ current v → session.number ≤ v.synced
+  pub stays : epoch_place (order_at v order) ≤ stays_at v order
+  pub place : (epoch_place (order_at v order) < session.number) ⊎ (0 < order)
+
+-- the lane of a session that begins: what came down is as it was
+pub record Begins (waiting : List Up) (a b : Lane) : Type 0 where
+  pub began : is_some b.began ≡ true
+  pub up : b.up ≡ waiting
+  pub up_taken : b.up_taken ≡ a.up_taken
+  pub down : b.down ≡ a.down
+  pub down_taken : b.down_taken ≡ a.down_taken
 
 -- nothing was taken of a list without messages
 none_of : (n : ℕ) (ms : List Down) → ms ≡ [] → n ≤ length ms → n ≡ 0
@@ -89,7 +110,7 @@ module _ (v w : Server) (x : Site) (dead : ℕ → Bool) (app d : ℕ) (frame : 
   us = ups_to d outs.frames
 
   -- its end after the step
-  abbrev f : End
+  abbrev pub f : End
   f = at_number t.dial (with_ups us) (told_by true (message_from d input) e.state.dial (with_state t (shown d) taking))
 
   moved : g ≡ f
@@ -107,7 +128,7 @@ module _ (v w : Server) (x : Site) (dead : ℕ → Bool) (app d : ℕ) (frame : 
   told : f.told ≡ Some place
   told = ap its_of taken_conn ∙ learns.carried
 
-  conn : f.connection_at t.dial ≡ Some (with_ups us (down_taken c))
+  pub conn : f.connection_at t.dial ≡ Some (with_ups us (down_taken c))
   conn =
       ap (λ (b : Bool). if b then option_map (with_ups us) (taking.connection_at t.dial) else taking.connection_at t.dial) (eq-eqb t.dial t.dial refl)
       ∙ ap (λ (n : ℕ). option_map (with_ups us) (taking.connection_at n)) learns.dial
@@ -134,20 +155,16 @@ module _ (v w : Server) (x : Site) (dead : ℕ → Bool) (app d : ℕ) (frame : 
       ∙ ap (λ (b : Bool). with_app_step b (message_from d input) e.state.dial (sent_before e.state.session) t.session us lane) news
       ∙ ap (λ (o : Option Session). with_app_step true (message_from d input) e.state.dial (sent_before e.state.session) o us lane) learns.now
 
-  -- what came down is as it was
-  record Begins (a b : Lane) : Type 0 where
-    began : is_some b.began ≡ true
-    up : b.up ≡ given_since 0 u.window
-    up_taken : b.up_taken ≡ a.up_taken
-    down : b.down ≡ a.down
-    down_taken : b.down_taken ≡ a.down_taken
+  all_given : given_since 0 u.window ≡ u.window.waiting
+  all_given = ap (λ (n : ℕ). drop (0 - n) u.window.waiting) learns.acked
 
-  begins : Begins lane lane_now
-  begins = subst (Begins lane) (sym lane_is) (record { began = refl; up = refl; up_taken = refl; down = refl; down_taken = refl })
+  -- What it has of the session in that order is what it puts.
+  pub begins : Begins u.window.waiting lane lane_now
+  begins = subst (Begins u.window.waiting lane) (sym lane_is) (record { began = refl; up = all_given; up_taken = refl; down = refl; down_taken = refl })
 
   window_now : WindowIs u.window lane_now.up lane_now.up_taken lane_now.down_taken
   window_now = record {
-    waiting = ap (λ (n : ℕ). drop n (drop (0 - n) u.window.waiting)) (sym learns.acked) ∙ ap (drop u.window.acked) (sym begins.up);
+    waiting = ap (λ (n : ℕ). drop n u.window.waiting) (sym learns.acked) ∙ ap (drop u.window.acked) (sym begins.up);
     acked = omega (arith, learns.acked);
     taken =
         learns.taken
@@ -155,7 +172,7 @@ module _ (v w : Server) (x : Site) (dead : ℕ → Bool) (app d : ℕ) (frame : 
         ∙ sym begins.down_taken;
   }
 
-  beside : SameBeside x y
+  pub beside : SameBeside x y
   beside = site_beside app d outs e.state t (message_from d input) g x
 
   -- the frames behind the Welcome
@@ -187,7 +204,7 @@ module _ (v w : Server) (x : Site) (dead : ℕ → Bool) (app d : ℕ) (frame : 
       left_now : downs_left (with_ups us (down_taken c)) ≡ rest
       left_now = sym (drop-drop 1 c.downs_taken c.downs) ∙ ap (drop 1) left
 
-  own_way : AppWay w y app f
+  pub own_way : AppWay w y app f
   own_way = record {
     window =
         subst (λ (o : Option Session). IfSome o (λ q. IfSome f.told (λ p. WindowIs q.window (y.lane_at q.number p.order).up (y.lane_at q.number p.order).up_taken (y.lane_at q.number p.order).down_taken)))
@@ -204,11 +221,32 @@ module _ (v w : Server) (x : Site) (dead : ℕ → Bool) (app d : ℕ) (frame : 
         (subst (λ (o : Option Place). WithSession (Some u) o (λ q j. JoinedWay w y t q j (with_ups us (down_taken c)))) (sym told) joined)));
   }
 
-  ends : y.end_at app ≡ f
-  ends =
-      ap (λ (h : ℕ → End). h app) (site_ends app d outs e.state t (message_from d input) g x)
-      ∙ ap (λ (b : Bool). if b then g else e) (eq-eqb app app refl)
-      ∙ moved
+  -- Its end alone is changed,
+  pub all_ends : y.end_at ≡ put x.end_at app f
+  all_ends = site_ends app d outs e.state t (message_from d input) g x ∙ ap (put x.end_at app) moved
+
+  pub ends : y.end_at app ≡ f
+  ends = ap (λ (h : ℕ → End). h app) all_ends ∙ ap (λ (b : Bool). if b then f else e) (eq-eqb app app refl)
+
+  -- and of that one connection.
+  pub others_are : (number : ℕ) → number ≢ e.state.dial → f.connection_at number ≡ e.connection_at number
+  others_are number other =
+      ap (λ (b : Bool). if b then option_map (with_ups us) (taking.connection_at number) else taking.connection_at number)
+      (ne_eqb number t.dial (λ same. other (same ∙ learns.dial)))
+      ∙ ap (λ (b : Bool). if b then option_map down_taken (e.connection_at number) else e.connection_at number) (ne_eqb number e.state.dial other)
+
+  -- And one lane alone begins.
+  pub elsewhere_is : (s j : ℕ) → ((s ≡ u.number) → (j ≡ k) → ⊥) → y.lane_at s j ≡ x.lane_at s j
+  elsewhere_is s j none =
+      told_lane (λ (p q : Lane). q ≡ p) (λ p. refl) g.told
+      (with_app_step (is_told_new e.state.session t.session) (message_from d input) e.state.dial (sent_before e.state.session) t.session us)
+      (record x { end_at = put x.end_at app g }) s j
+      (subst
+      (λ (o : Option Place).
+      IfSome o (λ p. s ≡ p.session → j ≡ p.order
+      → with_app_step (is_told_new e.state.session t.session) (message_from d input) e.state.dial (sent_before e.state.session) t.session us (x.lane_at s j) ≡ x.lane_at s j))
+      (sym (ap (λ (z : End). z.told) moved ∙ told))
+      (λ at here. absurd (none at here)))
 
   -- What is on its way to it follows.
   pub way_learnt : AppWay w y app (y.end_at app)
@@ -227,8 +265,7 @@ module _ (v w : Server) (x : Site) (dead : ℕ → Bool) (app d : ℕ) (frame : 
     down_taken = omega (arith, begins.down_taken, ap (λ (l : List Down). length l) begins.down, (link.lanes u.number k).down_taken);
     no_up = λ none. absurd (false≢true (sym (ap is_some none) ∙ begins.began));
     no_down = λ none. absurd (false≢true (sym (ap is_some none) ∙ begins.began));
-    ups =
-        ap (list_all is_numbered_up) (begins.up ∙ ap (λ (n : ℕ). drop (0 - n) u.window.waiting) learns.acked) ∙ learns.numbered;
+    ups = ap (list_all is_numbered_up) begins.up ∙ learns.numbered;
     downs = ap (list_all is_numbered_down) begins.down ∙ (link.lanes u.number k).downs;
   }
 

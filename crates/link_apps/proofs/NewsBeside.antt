@@ -30,11 +30,8 @@ use Rattle.cluster_invariant.specs.Holds.{Holds}
 use Rattle.cluster_invariant.specs.Link.{LinkHolds}
 use Rattle.cluster_steps.proofs.FrameAlone.{taken_silent}
 use Rattle.cluster_steps.proofs.InputsBring.{WelcomeTold}
-use Rattle.cluster_invariant.proofs.OrdersStay.{orders_agree}
 use Rattle.told_kept.proofs.SameSessions.{whose}
-use Rattle.link_kept.proofs.Later.{Later}
-use Rattle.link_apps.proofs.EnteredStays.{later_same, none_met}
-use Rattle.link_apps.proofs.InputPlain.{after_input}
+use Rattle.link_apps.proofs.EnteredStays.{NoneMet, none_met}
 use Rattle.link_apps.proofs.NewsLinks.{told_news}
 use Rattle.link_apps.proofs.Rests.{EndRests, Keeps, rests_same}
 use Rattle.link_apps.proofs.RestLinks.{rest_at}
@@ -79,7 +76,7 @@ links_kept_beside_news l c m app now d frame outs written new h run shows allowe
     subst (λ (n : Machine). LinkHolds ((state_after l n.trail).server_at k) (n.site_at k) n.is_dead_at) (sym goes.after)
     (subst (λ (ws : List Act). LinkHolds ((state_after l (m.trail ++ ws)).server_at k) y m.is_dead_at) (sym goes.acts)
     (subst (λ (q : Plain). LinkHolds (q.server_at k) y m.is_dead_at) (sym (after_all-append l start m.trail goes.app_outs.acts))
-    (rest_at l c m app now (app_in.Frame d frame) outs written new h run shows allowed goes k false later (ne_eqb d k apart)
+    (rest_at l c m app now (app_in.Frame d frame) outs written new h run shows allowed goes k false none (ne_eqb d k apart)
     (taken_silent k d apart (begun a) now frame z goes.steps)
     (ap (list_any (is_index k)) alone.none_cut)
     (subst (λ (t : AppEnd). EndRests (end_at a k) t)
@@ -106,8 +103,5 @@ links_kept_beside_news l c m app now d frame outs written new h run shows allowe
         told_alone l p frame.message app d now ((m.site_at d).end_at app).state (begun a) z refl refl
         (told_news l c m app now d frame outs written new h run shows allowed goes news)
 
-    later : Later (m.site_at k) (p.server_at k) ((after_all l p goes.app_outs.acts).server_at k)
-    later =
-        later_same (m.site_at k) (p.server_at k) ((after_all l p goes.app_outs.acts).server_at k) (orders_agree l m.trail k run)
-        ((after_input l c m app now (app_in.Frame d frame) outs written new h run shows allowed goes).orders k)
-        (none_met (p.server_at k) ((after_all l p goes.app_outs.acts).server_at k) (λ n. ap (λ (s : Server). option_map whose (s.session_at n)) (alone.server k other)))
+    none : NoneMet (p.server_at k) ((after_all l p goes.app_outs.acts).server_at k)
+    none = none_met (p.server_at k) ((after_all l p goes.app_outs.acts).server_at k) (λ n. ap (λ (s : Server). option_map whose (s.session_at n)) (alone.server k other))

@@ -1,10 +1,10 @@
 -- What is on its way to an end that learns of an order, after the frame that tells it.
-use Rattle.std.proofs.Common.{◌≡◌, ◌⊎◌, inl, inr, ℕ, Bool, true, false, List, [], ◌∷◌, ◌++◌, Some, refl, sym, ◌∙◌, ap, subst, arith}
-use Rattle.std.proofs.lemmas.Bool.{false≢true}
+use Rattle.std.proofs.Common.{◌≤◌, None, ◌≡◌, ◌⊎◌, inl, inr, ℕ, Bool, true, false, List, [], ◌∷◌, ◌++◌, Some, refl, sym, ◌∙◌, ap, subst, arith, ◌-◌, ◌+◌, Option, if◌then◌else◌}
+use Rattle.std.proofs.lemmas.Bool.{false≢true, eq-eqb}
 use Rattle.plain_orders.specs.declared.act.Act.{Act}
 use Rattle.plain_orders.specs.declared.entry.Entry.{Entry}
 use Rattle.plain_orders.specs.declared.layout.Layout.{Layout}
-use Rattle.plain_runs.specs.Plain.{Plain, Server, order_at, start}
+use Rattle.plain_runs.specs.Plain.{Plain, Server, order_at, start, Session as PlainSession, current}
 use Rattle.plain_runs.specs.Run.{IsRun, after_all, state_after}
 use Rattle.plain_runs.proofs.RunLemmas.{after_all-append}
 use Rattle.ecp_messages.specs.declared.down.Down.{Down}
@@ -28,13 +28,13 @@ use Rattle.cluster_runs.specs.Machine.{Machine, Site, End, app_state}
 use Rattle.cluster_runs.specs.Mirrors.{Mirrors}
 use Rattle.cluster_runs.specs.Moves.{Allowed}
 use Rattle.cluster_runs.specs.Sent.{Lane, Place, Connection}
-use Rattle.cluster_invariant.specs.Ends.{EndsAre, stands}
+use Rattle.cluster_invariant.specs.Ends.{EndsAre, stands, ToldPlace}
 use Rattle.cluster_invariant.specs.Holds.{Holds}
 use Rattle.cluster_invariant.specs.Link.{AppWay, LaneCounts, AskedFirst, AskedWay, DownBy, DownWay, GreetedFirst, GreetedWay, LinkHolds, NewWelcomeOn, EpochWelcomeOn, WholeIf, WithSession, is_in_recovery}
 use Rattle.cluster_invariant.specs.Rounds.{RoundOf, SessionRound}
-use Rattle.std.specs.Prelude.{IfSome}
+use Rattle.std.specs.Prelude.{IfSome, IsSomeAnd}
 use Rattle.link_apps.proofs.SentFirst.{told_numbered}
-use Rattle.cluster_invariant.specs.Words.{downs_left, numbered_behind, stays_at}
+use Rattle.cluster_invariant.specs.Words.{downs_left, numbered_behind, stays_at, numbered_ups}
 use Rattle.cluster_invariant.proofs.Small.{of_some}
 use Rattle.cluster_steps.proofs.AppSites.{app_ends}
 use Rattle.cluster_steps.proofs.EndSteps.{session_put}
@@ -48,6 +48,13 @@ use Rattle.link_apps.proofs.Learns.{Learns, counts_learnt, way_learnt}
 use Rattle.link_apps.proofs.OwnPlace.{OwnPlace, at_place, own_place}
 use Rattle.link_apps.proofs.RestLinks.{has, may}
 use Rattle.link_apps.proofs.WentOn.{asks_recovering}
+use Rattle.std.specs.List.{AllByRecursion}
+use Rattle.ecp_messages.specs.declared.up.UpFrame.{UpFrame}
+use Rattle.data_rules.specs.Places.{epoch_place}
+use Rattle.end_words.specs.Windows.{fresh, numbered_from}
+use Rattle.cluster_runs.specs.Connections.{ups_to}
+use Rattle.cluster_steps.proofs.JobEnds.{put_frames}
+use Rattle.link_apps.proofs.PutsUp.{acks_frames, numbered_frames}
 
 -- nothing is on its way
 no_way : (es : List Entry) (stays s : ℕ) (a : Lane) (may : Bool) → DownWay es stays s a may []
@@ -62,7 +69,7 @@ no_way es stays s a now = record {
   no_normal = λ some. absurd (some refl);
 }
 
-module _ (v : Server) (x : Site) (dead : ℕ → Bool) (app d now : ℕ) (frame : DownFrame) (outs : AppOuts) (state : AppState) (b : Sofar) (none : b.outs.cuts ≡ [])
+module _ (v : Server) (x : Site) (dead : ℕ → Bool) (app d now : ℕ) (frame : DownFrame) (outs : AppOuts) (state : AppState) (b : Sofar) (none : b.outs.cuts ≡ []) (no_frames : ups_to d b.outs.frames ≡ [])
     (alive : dead app ≡ false) (link : LinkHolds v x dead) (are : EndsAre v x dead) (c : Connection)
     (its : (x.end_at app).connection_at (x.end_at app).state.dial ≡ Some c) (rest : List DownFrame) (left : downs_left c ≡ frame ∷ rest)
     (session epoch kept : ℕ) (front : Front) (taken : ℕ) (message : frame.message ≡ Welcome session epoch kept front taken) where
@@ -76,6 +83,9 @@ module _ (v : Server) (x : Site) (dead : ℕ → Bool) (app d now : ℕ) (frame 
   pub learns_met : MetNew d now session epoch front e.state b (made state outs) → Learns v x app d outs state c rest
   learns_met m = go (subst (GreetedWay v x app e.state.told c) left (subst (λ (line : Line). DownBy line v x app e c) m.greeting (down e.state.line refl)))
     where
+      puts_none : ups_to d outs.frames ≡ []
+      puts_none = m.here.frames ∙ ap (λ (fs : List UpFrame). fs ++ []) no_frames
+
       by : NewWelcomeOn v x app e.state.told c session epoch kept front taken → rest ≡ [] → Learns v x app d outs state c rest
       by w alone = record {
         session = session_put m.since [] (new_session session epoch front);
@@ -93,6 +103,16 @@ module _ (v : Server) (x : Site) (dead : ℕ → Bool) (app d now : ℕ) (frame 
             subst (λ (fs : List DownFrame). DownWay (order_at v w.order) (stays_at v w.order) session (x.lane_at session w.order) (is_in_recovery (end_at state d).link) fs) (sym alone)
             (no_way (order_at v w.order) (stays_at v w.order) session (x.lane_at session w.order) (is_in_recovery (end_at state d).link));
         whole = subst (WholeIf x session w.order (x.lane_at session w.order) c) (sym alone) w.whole;
+        frames = ap numbered_ups puts_none;
+        acks = subst (AllByRecursion (λ (g : UpFrame). g.ack ≤ 0)) (sym puts_none) tt;
+        mine = subst (λ (o : Option PlainSession). IfSome o (λ q. q.app ≡ app)) (sym w.unmet.unmet) tt;
+        entered = λ unmet. w.unmet.entered;
+        there = w.unmet.there;
+        synced = λ here.
+            let all : stays_at v w.order ≡ v.synced = ap (λ (q : Bool). if q then v.synced else epoch_place (order_at v (w.order + 1)) - 1) (eq-eqb w.order (current v) here) in
+            omega (arith, w.synced, all);
+        stays = w.stays;
+        place = inl w.unmet.behind;
       }
 
       go : GreetedWay v x app e.state.told c (frame ∷ rest) → Learns v x app d outs state c rest
@@ -124,6 +144,26 @@ module _ (v : Server) (x : Site) (dead : ℕ → Bool) (app d now : ℕ) (frame 
           ap (λ (z : AppEnd). is_in_recovery z.link) m.here.end
           ∙ ap is_in_recovery (asks_recovering e.state.link (ap (stands e.state.link) (sym m.asking) ∙ (are.tables app alive).stands))
 
+      puts_all : ups_to d outs.frames ≡ put_frames true fresh (told_puts front.w (synced_up front.s s))
+      puts_all = m.here.frames ∙ ap (λ (fs : List UpFrame). fs ++ put_frames true fresh (told_puts front.w (synced_up front.s s))) no_frames
+
+      newest : s.number ≡ e.state.told
+      newest = of_some (λ (q : Session). q.number ≡ e.state.told) e.state.session s m.its (are.told app alive).newest
+
+      known : IsSomeAnd (v.session_at s.number) (λ q. q.app ≡ app)
+      known = go (of_some (λ (q : Session). ToldPlace v app q e.told) e.state.session s m.its (are.told app alive).place)
+        where
+          one : (j : ℕ) (o : Option PlainSession) → IsSomeAnd o (λ q. (q.app ≡ app) × (q.told ≡ j)) → IsSomeAnd o (λ q. q.app ≡ app)
+          one j None is = is
+          one j (Some q) is = is.0
+
+          go : ToldPlace v app s e.told → IsSomeAnd (v.session_at s.number) (λ q. q.app ≡ app)
+          go p = one p.order (v.session_at s.number) p.met
+
+      its_app : (o : Option PlainSession) → IsSomeAnd o (λ q. q.app ≡ app) → IfSome o (λ q. q.app ≡ app)
+      its_app None is = absurd is
+      its_app (Some q) is = is
+
       by : EpochWelcomeOn v x s place.k c session epoch kept front taken rest → Learns v x app d outs state c rest
       by w = record {
         session = session_put m.since (told_puts front.w (synced_up front.s s)) (in_epoch epoch front s);
@@ -141,6 +181,16 @@ module _ (v : Server) (x : Site) (dead : ℕ → Bool) (app d now : ℕ) (frame 
             subst (λ (q : Bool). DownWay (order_at v w.order) (stays_at v w.order) s.number (x.lane_at s.number w.order) q rest) (sym recovers)
             (subst (λ (n : ℕ). DownWay (order_at v w.order) (stays_at v w.order) n (x.lane_at n w.order) true rest) w.number w.way);
         whole = subst (λ (n : ℕ). WholeIf x n w.order (x.lane_at n w.order) c rest) w.number w.whole;
+        frames = ap numbered_ups puts_all ∙ numbered_frames 0 0 (told_puts front.w (synced_up front.s s));
+        acks =
+            subst (AllByRecursion (λ (g : UpFrame). g.ack ≤ 0)) (sym puts_all)
+            (acks_frames 0 0 (numbered_from 0 (told_puts front.w (synced_up front.s s))) (omega arith));
+        mine = its_app (v.session_at s.number) known;
+        entered = λ unmet. absurd (subst (λ (o : Option PlainSession). IsSomeAnd o (λ q. q.app ≡ app)) unmet known);
+        there = w.says.there;
+        synced = λ here. omega (arith, (are.told app alive).synced, newest);
+        stays = w.says.stays;
+        place = inr (omega (arith, w.says.later));
       }
 
       go : AskedFirst v x s place.k c rest (Welcome session epoch kept front taken) → Learns v x app d outs state c rest
@@ -200,7 +250,7 @@ module _ (l : Layout) (c : CoresState) (m : Machine) (app now d : ℕ) (frame : 
   alive : m.is_dead_at app ≡ false
   alive = sym (shows.dead app) ∙ allowed.alive
 
-  taken : Taken (x.end_at app) frame
+  abbrev pub taken : Taken (x.end_at app) frame
   taken = taken_down c m app d frame shows allowed.takes
 
   told : WelcomeTold frame.message d now (x.end_at app).state (begun a) z
@@ -208,10 +258,10 @@ module _ (l : Layout) (c : CoresState) (m : Machine) (app now d : ℕ) (frame : 
 
   by : (n : Down) → frame.message ≡ n → WelcomeTold n d now (x.end_at app).state (begun a) z → Learns v x app d goes.app_outs goes.state taken.connection taken.behind
   by (Welcome session epoch kept front count) is (inl w) =
-      learns_met v x m.is_dead_at app d now frame goes.app_outs goes.state (begun a) refl alive (h.sites d).link (h.sites d).ends taken.connection taken.its taken.behind taken.left
+      learns_met v x m.is_dead_at app d now frame goes.app_outs goes.state (begun a) refl refl alive (h.sites d).link (h.sites d).ends taken.connection taken.its taken.behind taken.left
       session epoch kept front count is w
   by (Welcome session epoch kept front count) is (inr w) =
-      learns_epoch v x m.is_dead_at app d now frame goes.app_outs goes.state (begun a) refl alive (h.sites d).link (h.sites d).ends taken.connection taken.its taken.behind taken.left
+      learns_epoch v x m.is_dead_at app d now frame goes.app_outs goes.state (begun a) refl refl alive (h.sites d).link (h.sites d).ends taken.connection taken.its taken.behind taken.left
       session epoch kept front count is ((h.sites d).rounds.apps app alive) w
   by (Reset session at) is w = absurd w
   by (Block front block) is w = absurd w
@@ -222,7 +272,7 @@ module _ (l : Layout) (c : CoresState) (m : Machine) (app now d : ℕ) (frame : 
   by (Normal front) is w = absurd w
   by Bare is w = absurd w
 
-  learns : Learns v x app d goes.app_outs goes.state taken.connection taken.behind
+  pub learns : Learns v x app d goes.app_outs goes.state taken.connection taken.behind
   learns = by frame.message refl told
 
   -- An end that learns of an order by a frame has just what is on its way to it.

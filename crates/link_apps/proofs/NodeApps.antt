@@ -55,7 +55,7 @@ NoNew None None = ⊤
 NoNew None (Some d) = ⊥
 NoNew (Some c) o = ⊤
 
-some_stays : (P Q : Connection → Type 0) → ((c d : Connection) → DownsSame c d → P c → Q d) → (o p : Option Connection) → DownsStay o p → NoNew o p
+pub some_stays : (P Q : Connection → Type 0) → ((c d : Connection) → DownsSame c d → P c → Q d) → (o p : Option Connection) → DownsStay o p → NoNew o p
     → IfSome o P → IfSome p Q
 some_stays P Q f o None same old is = tt
 some_stays P Q f None (Some d) same old is = absurd old
@@ -66,7 +66,7 @@ some_stays P Q f (Some c) (Some d) same old is = f c d same is
 untold_same : (c d : Connection) → DownsSame c d → IsUntold c → IsUntold d
 untold_same c d q u = record { its = q.its ∙ u.its; silent = q.downs ∙ u.silent }
 
-new_same : (c d : Connection) → DownsSame c d → WaitsNewOn c → WaitsNewOn d
+pub new_same : (c d : Connection) → DownsSame c d → WaitsNewOn c → WaitsNewOn d
 new_same c d q n = record { greeted = ap (λ (k : Knew). k.mark) q.knew ∙ n.greeted; untold = untold_same c d q n.untold }
 
 mark_same : (x : Site) (v w : Server) (n : DataState) (s kept : ℕ) (m : Mark) → Later x v w → current w ≡ current v → WaitsEpoch v n s kept m → WaitsEpoch w n s kept m
@@ -76,7 +76,7 @@ mark_same x v w n s kept m later same e = record {
   kept_more = subst (λ k. k ≤ kept) (sym (later.left m.order e.later)) e.kept_more;
 }
 
-epoch_same : (x : Site) (v w : Server) (n : DataState) (s kept : ℕ) → Later x v w → current w ≡ current v → (c d : Connection) → DownsSame c d
+pub epoch_same : (x : Site) (v w : Server) (n : DataState) (s kept : ℕ) → Later x v w → current w ≡ current v → (c d : Connection) → DownsSame c d
     → WaitsEpochOn v n s kept c → WaitsEpochOn w n s kept d
 epoch_same x v w n s kept later same c d q e = record {
   its = ap (λ (k : Knew). k.session) q.knew ∙ e.its;
@@ -88,7 +88,7 @@ epoch_same x v w n s kept later same c d q e = record {
     go None is = is
     go (Some m) is = mark_same x v w n s kept m later same is
 
-reset_same : (n : DataState) (s : ℕ) (a b : Lane) → b.down ≡ a.down → (c d : Connection) → DownsSame c d → WaitsResetOn n.order s a c → WaitsResetOn n.order s b d
+pub reset_same : (n : DataState) (s : ℕ) (a b : Lane) → b.down ≡ a.down → (c d : Connection) → DownsSame c d → WaitsResetOn n.order s a c → WaitsResetOn n.order s b d
 reset_same n s a b down c d q r = record {
   first = ap (λ (fs : List DownFrame). list_any is_reset_frame fs) q.downs ∙ r.first;
   silent = λ none. q.downs ∙ r.silent (sym q.its ∙ none);

@@ -11,7 +11,7 @@ use Rattle.app_rules.specs.declared.line.Line.TheVariants.{Apart, Trying, Greeti
 use Rattle.app_rules.specs.AppState.{AppEnd, Session}
 use Rattle.cluster_runs.specs.Sent.{Lane, Place, Connection}
 use Rattle.cluster_runs.specs.Machine.{Site, End}
-use Rattle.cluster_invariant.specs.Link.{AppWay, DownWay, WholeIf, WindowIs, JoinedWay, SameWelcome, EpochWelcomeOn, AskedFirst, AskedWay, NewWelcomeOn, GreetedFirst, GreetedWay, WithSession, DownBy, is_in_recovery}
+use Rattle.cluster_invariant.specs.Link.{AppWay, DownWay, WholeIf, WindowIs, JoinedWay, SameWelcome, EpochWelcomeOn, AskedFirst, AskedWay, NewWelcomeOn, GreetedFirst, GreetedWay, WithSession, DownBy, is_in_recovery, Unmet}
 use Rattle.cluster_invariant.specs.Words.{downs_left, stays_at}
 use Rattle.cluster_invariant.proofs.Small.{some_kept}
 
@@ -19,17 +19,18 @@ use Rattle.cluster_invariant.proofs.Small.{some_kept}
 abbrev pub with_lanes_at : (ℕ → ℕ → Lane) → Site → Site
 with_lanes_at lanes y = record y { lane_at = lanes }
 
-module _ (w : Server) (y : Site) (lanes : ℕ → ℕ → Lane) (unlearnt : (s k : ℕ) → (lanes s k).began ≡ None → y.lane_at s k ≡ lanes s k) where
+module _ (w : Server) (y : Site) (lanes : ℕ → ℕ → Lane) (app : ℕ)
+    (fresh : (told s k : ℕ) → Unmet w (with_lanes_at lanes y) app told s k → y.lane_at s k ≡ lanes s k) where
   abbrev z : Site
   z = with_lanes_at lanes y
 
   module _ (c : Connection) where
-    module _ (s : Session) (k : ℕ) (mine : y.lane_at s.number k ≡ lanes s.number k) where
+    module _ (s : Session) (k : ℕ) (mine : (j : ℕ) → y.lane_at s.number j ≡ lanes s.number j) where
       joined_relaned : (e : AppEnd) → JoinedWay w z e s k c → JoinedWay w y e s k c
       joined_relaned e j = record {
         its = j.its;
-        way = subst (λ (l : Lane). DownWay (order_at w k) (stays_at w k) s.number l (is_in_recovery e.link) (downs_left c)) (sym mine) j.way;
-        whole = subst (λ (l : Lane). WholeIf y s.number k l c (downs_left c)) (sym mine) j.whole;
+        way = subst (λ (l : Lane). DownWay (order_at w k) (stays_at w k) s.number l (is_in_recovery e.link) (downs_left c)) (sym (mine k)) j.way;
+        whole = subst (λ (l : Lane). WholeIf y s.number k l c (downs_left c)) (sym (mine k)) j.whole;
       }
 
       same_relaned : (session epoch : ℕ) (front : Front) (taken : ℕ) (behind : List DownFrame) → SameWelcome w z s k c session epoch front taken behind
@@ -46,7 +47,7 @@ module _ (w : Server) (y : Site) (lanes : ℕ → ℕ → Lane) (unlearnt : (s k
       }
         where
           its_lane : y.lane_at session k ≡ lanes session k
-          its_lane = subst (λ (n : ℕ). y.lane_at n k ≡ lanes n k) (sym e.number) mine
+          its_lane = subst (λ (n : ℕ). y.lane_at n k ≡ lanes n k) (sym e.number) (mine k)
 
       epoch_relaned : (session epoch kept : ℕ) (front : Front) (taken : ℕ) (behind : List DownFrame) → EpochWelcomeOn w z s k c session epoch kept front taken behind
           → EpochWelcomeOn w y s k c session epoch kept front taken behind
@@ -63,7 +64,7 @@ module _ (w : Server) (y : Site) (lanes : ℕ → ℕ → Lane) (unlearnt : (s k
       }
         where
           its_lane : y.lane_at session e.order ≡ lanes session e.order
-          its_lane = unlearnt session e.order e.unlearnt
+          its_lane = subst (λ (n : ℕ). y.lane_at n e.order ≡ lanes n e.order) (sym e.number) (mine e.order)
 
       first_relaned : (m : Down) (behind : List DownFrame) → AskedFirst w z s k c behind m → AskedFirst w y s k c behind m
       first_relaned (Welcome session epoch kept front taken) behind (inl e) = inl (same_relaned session epoch front taken behind e)
@@ -81,9 +82,9 @@ module _ (w : Server) (y : Site) (lanes : ℕ → ℕ → Lane) (unlearnt : (s k
       asked_relaned [] is = is
       asked_relaned (f ∷ fs) is = (is.0, first_relaned f.message fs is.1)
 
-    new_relaned : (app told s epoch kept : ℕ) (front : Front) (taken : ℕ) → NewWelcomeOn w z app told c s epoch kept front taken
+    new_relaned : (told s epoch kept : ℕ) (front : Front) (taken : ℕ) → NewWelcomeOn w z app told c s epoch kept front taken
         → NewWelcomeOn w y app told c s epoch kept front taken
-    new_relaned app told s epoch kept front taken n = record {
+    new_relaned told s epoch kept front taken n = record {
       order = n.order;
       its = n.its;
       unmet = record {
@@ -109,49 +110,49 @@ module _ (w : Server) (y : Site) (lanes : ℕ → ℕ → Lane) (unlearnt : (s k
     }
       where
         its_lane : y.lane_at s n.order ≡ lanes s n.order
-        its_lane = unlearnt s n.order n.unmet.unlearnt
+        its_lane = fresh told s n.order n.unmet
 
-    greeted_first_relaned : (app told : ℕ) (m : Down) → GreetedFirst w z app told c m → GreetedFirst w y app told c m
-    greeted_first_relaned app told (Welcome session epoch kept front taken) n = new_relaned app told session epoch kept front taken n
-    greeted_first_relaned app told (Reset session at) is = is
-    greeted_first_relaned app told (Block front block) is = is
-    greeted_first_relaned app told (Drop front lo hi) is = is
-    greeted_first_relaned app told (Ack front) is = is
-    greeted_first_relaned app told (Grant front ticket at) is = is
-    greeted_first_relaned app told (Answer front about job number at sum) is = is
-    greeted_first_relaned app told (Normal front) is = is
-    greeted_first_relaned app told Bare is = is
+    greeted_first_relaned : (told : ℕ) (m : Down) → GreetedFirst w z app told c m → GreetedFirst w y app told c m
+    greeted_first_relaned told (Welcome session epoch kept front taken) n = new_relaned told session epoch kept front taken n
+    greeted_first_relaned told (Reset session at) is = is
+    greeted_first_relaned told (Block front block) is = is
+    greeted_first_relaned told (Drop front lo hi) is = is
+    greeted_first_relaned told (Ack front) is = is
+    greeted_first_relaned told (Grant front ticket at) is = is
+    greeted_first_relaned told (Answer front about job number at sum) is = is
+    greeted_first_relaned told (Normal front) is = is
+    greeted_first_relaned told Bare is = is
 
-    greeted_relaned : (app told : ℕ) (left : List DownFrame) → GreetedWay w z app told c left → GreetedWay w y app told c left
-    greeted_relaned app told [] is = is
-    greeted_relaned app told (f ∷ fs) is = (is.0, greeted_first_relaned app told f.message is.1, is.2)
+    greeted_relaned : (told : ℕ) (left : List DownFrame) → GreetedWay w z app told c left → GreetedWay w y app told c left
+    greeted_relaned told [] is = is
+    greeted_relaned told (f ∷ fs) is = (is.0, greeted_first_relaned told f.message is.1, is.2)
 
-  down_relaned : (line : Line) (app : ℕ) (e : End) → IfSome e.state.session (λ s. (k : ℕ) → y.lane_at s.number k ≡ lanes s.number k) → (c : Connection)
+  down_relaned : (line : Line) (e : End) → IfSome e.state.session (λ s. (k : ℕ) → y.lane_at s.number k ≡ lanes s.number k) → (c : Connection)
       → DownBy line w z app e c → DownBy line w y app e c
-  down_relaned Apart app e mine c is = tt
-  down_relaned Trying app e mine c is = tt
-  down_relaned Greeting app e mine c is = greeted_relaned c app e.state.told (downs_left c) is
-  down_relaned Asking app e mine c is = go e.state.session e.told mine is
+  down_relaned Apart e mine c is = tt
+  down_relaned Trying e mine c is = tt
+  down_relaned Greeting e mine c is = greeted_relaned c e.state.told (downs_left c) is
+  down_relaned Asking e mine c is = go e.state.session e.told mine is
     where
       go : (o : Option Session) (p : Option Place) → IfSome o (λ s. (k : ℕ) → y.lane_at s.number k ≡ lanes s.number k)
           → WithSession o p (λ s k. AskedWay w z s k c (downs_left c)) → WithSession o p (λ s k. AskedWay w y s k c (downs_left c))
       go None p m at = at
       go (Some s) None m at = at
-      go (Some s) (Some p) m at = asked_relaned c s p.order (m p.order) (downs_left c) at
-  down_relaned Joined app e mine c is = go e.state.session e.told mine is
+      go (Some s) (Some p) m at = asked_relaned c s p.order m (downs_left c) at
+  down_relaned Joined e mine c is = go e.state.session e.told mine is
     where
       go : (o : Option Session) (p : Option Place) → IfSome o (λ s. (k : ℕ) → y.lane_at s.number k ≡ lanes s.number k)
           → WithSession o p (λ s k. JoinedWay w z e.state s k c) → WithSession o p (λ s k. JoinedWay w y e.state s k c)
       go None p m at = at
       go (Some s) None m at = at
-      go (Some s) (Some p) m at = joined_relaned c s p.order (m p.order) e.state at
+      go (Some s) (Some p) m at = joined_relaned c s p.order m e.state at
 
-  -- What is on its way to an end goes by the lanes of its session, and by those that it didn't learn of.
-  pub way_relaned : (app : ℕ) (e : End) → IfSome e.state.session (λ s. (k : ℕ) → y.lane_at s.number k ≡ lanes s.number k) → AppWay w z app e → AppWay w y app e
-  way_relaned app e mine is = record {
+  -- What is on its way to an end goes by the lanes of its session, and by those of a session that it didn't meet.
+  pub way_relaned : (e : End) → IfSome e.state.session (λ s. (k : ℕ) → y.lane_at s.number k ≡ lanes s.number k) → AppWay w z app e → AppWay w y app e
+  way_relaned e mine is = record {
     window = window e.state.session e.told mine is.window;
     begun = begun e.state.session e.told mine is.begun;
-    down = some_kept (DownBy e.state.line w z app e) (DownBy e.state.line w y app e) (λ c at. down_relaned e.state.line app e mine c at) (e.connection_at e.state.dial) is.down;
+    down = some_kept (DownBy e.state.line w z app e) (DownBy e.state.line w y app e) (λ c at. down_relaned e.state.line e mine c at) (e.connection_at e.state.dial) is.down;
   }
     where
       window : (o : Option Session) (p : Option Place) → IfSome o (λ s. (k : ℕ) → y.lane_at s.number k ≡ lanes s.number k)

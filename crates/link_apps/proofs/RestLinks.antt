@@ -38,9 +38,8 @@ use Rattle.cluster_steps.proofs.InputOuts.{failed_none, broken_none, joins_none,
 use Rattle.ends_kept.proofs.PairTables.{line_has}
 use Rattle.ends_kept.proofs.TablesMoves.{app_may}
 use Rattle.told_kept.proofs.ToldActs.{TellNothing, input_acts}
-use Rattle.link_kept.proofs.Later.{Later}
 use Rattle.link_kept.specs.Laws.{EachLinkHolds}
-use Rattle.link_apps.proofs.EnteredStays.{entered_stays}
+use Rattle.link_apps.proofs.EnteredStays.{NoneMet, entered_stays}
 use Rattle.link_apps.proofs.InputPlain.{AfterInput, after_input}
 use Rattle.link_apps.proofs.PutSteps.{own_after}
 use Rattle.link_apps.proofs.Rests.{EndRests, Keeps, IsUntroubled, failed_rests, ended_rests, rejoined_rests, one_rests, all_ticked, ticks_keep}
@@ -68,16 +67,16 @@ module _ (l : Layout) (c : CoresState) (m : Machine) (app now : ℕ) (input : Ap
 
   -- one data server at which the end rests, where its connections were as they were
   pub rest_by : (d : ℕ) (cut : Bool)
-      → Later (m.site_at d) ((state_after l m.trail).server_at d) ((after_all l (state_after l m.trail) goes.app_outs.acts).server_at d)
+      → NoneMet ((state_after l m.trail).server_at d) ((after_all l (state_after l m.trail) goes.app_outs.acts).server_at d)
       → TakesNone (has_wire (end_at goes.state d).line) ((m.site_at d).end_at app) (app_takes d input ((m.site_at d).end_at app).state.dial ((m.site_at d).end_at app))
       → ups_to d goes.app_outs.frames ≡ [] → list_any (is_index d) goes.app_outs.cuts ≡ cut → EndRests (end_at a d) (end_at goes.state d)
       → (has_wire (end_at goes.state d).line ≡ true → Keeps app d goes.app_outs.acts)
       → LinkHolds ((after_all l (state_after l m.trail) goes.app_outs.acts).server_at d) (input_site app input goes.app_outs goes.state goes.shown d (m.site_at d)) m.is_dead_at
-  rest_by d cut later takes frames cuts rests keeps =
+  rest_by d cut none takes frames cuts rests keeps =
       link_kept_by_rest ((state_after l m.trail).server_at d) ((after_all l (state_after l m.trail) goes.app_outs.acts).server_at d) (m.site_at d)
       (input_site app input goes.app_outs goes.state goes.shown d (m.site_at d)) m.is_dead_at app
       (own_after (nothing_put cut) (end_at goes.state d) (goes.shown d) (app_takes d input ((m.site_at d).end_at app).state.dial ((m.site_at d).end_at app))) alive
-      later (λ b other. after.others d b other) (λ wired. entered_stays l (state_after l m.trail) goes.app_outs.acts app d (keeps wired)) (after.now d)
+      (after.later d) (λ b other. after.others d none b other) (λ wired. entered_stays l (state_after l m.trail) goes.app_outs.acts app d none (keeps wired)) (after.now d)
       (h.sites d).order.past (h.sites d).link (h.sites d).ends (h.sites d).dials
       (rests_at ((state_after l m.trail).server_at d) (m.site_at d) app d input goes.app_outs goes.state goes.shown cut ((h.sites d).ends.told app alive).place
       ((h.sites d).link.apps app alive).window takes frames cuts
@@ -88,12 +87,12 @@ module _ (l : Layout) (c : CoresState) (m : Machine) (app now : ℕ) (input : Ap
 
   -- and where the input takes nothing there
   pub rest_at : (d : ℕ) (cut : Bool)
-      → Later (m.site_at d) ((state_after l m.trail).server_at d) ((after_all l (state_after l m.trail) goes.app_outs.acts).server_at d)
+      → NoneMet ((state_after l m.trail).server_at d) ((after_all l (state_after l m.trail) goes.app_outs.acts).server_at d)
       → TakesNothing input d → ups_to d goes.app_outs.frames ≡ [] → list_any (is_index d) goes.app_outs.cuts ≡ cut → EndRests (end_at a d) (end_at goes.state d)
       → (has_wire (end_at goes.state d).line ≡ true → Keeps app d goes.app_outs.acts)
       → LinkHolds ((after_all l (state_after l m.trail) goes.app_outs.acts).server_at d) (input_site app input goes.app_outs goes.state goes.shown d (m.site_at d)) m.is_dead_at
-  rest_at d cut later takes =
-      rest_by d cut later (takes_none (has_wire (end_at goes.state d).line) d input ((m.site_at d).end_at app).state.dial ((m.site_at d).end_at app) takes)
+  rest_at d cut none takes =
+      rest_by d cut none (takes_none (has_wire (end_at goes.state d).line) d input ((m.site_at d).end_at app).state.dial ((m.site_at d).end_at app) takes)
 
   -- all of them
   pub rest_all : TellNothing goes.app_outs.acts → ((d : ℕ) → TakesNothing input d) → goes.app_outs.frames ≡ [] → goes.app_outs.cuts ≡ []
@@ -106,7 +105,7 @@ module _ (l : Layout) (c : CoresState) (m : Machine) (app now : ℕ) (input : Ap
       (λ d.
       subst (λ (q : Plain). LinkHolds (q.server_at d) (input_site app input goes.app_outs goes.state goes.shown d (m.site_at d)) m.is_dead_at)
       (sym (after_all-append l start m.trail goes.app_outs.acts))
-      (rest_at d false ((after_input l c m app now input outs written new h run shows allowed goes).later d tells) (takes d) (ap (ups_to d) frames) (ap (list_any (is_index d)) cuts) (rests d) (keeps d))))
+      (rest_at d false ((after_input l c m app now input outs written new h run shows allowed goes).none d tells) (takes d) (ap (ups_to d) frames) (ap (list_any (is_index d)) cuts) (rests d) (keeps d))))
 
   pub has : (d : ℕ) → LineHas (end_at a d).line (end_at a d).session
   has d =

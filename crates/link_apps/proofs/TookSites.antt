@@ -30,7 +30,7 @@ use Rattle.link_apps.proofs.TakenSites.{EndTakes, beside_is, conn_is, elsewhere_
 use Rattle.link_apps.proofs.PutSteps.{own_after}
 
 -- what a window was given behind what it had sent, as an acknowledgement came
-given_took : (s t : Window Up) (ack : ℕ) (ms : List Up) → t.acked ≡ max s.acked ack → t.waiting ≡ drop (ack - s.acked) s.waiting ++ ms → given_since (sent s) t ≡ ms
+pub given_took : (s t : Window Up) (ack : ℕ) (ms : List Up) → t.acked ≡ max s.acked ack → t.waiting ≡ drop (ack - s.acked) s.waiting ++ ms → given_since (sent s) t ≡ ms
 given_took s t ack ms acked waiting =
     ap (drop (s.acked + length s.waiting - t.acked)) waiting
     ∙ ap (λ (n : ℕ). drop n (drop (ack - s.acked) s.waiting ++ ms)) (omega (arith, acked, length-drop (ack - s.acked) s.waiting))

@@ -145,7 +145,7 @@ pub unmet_later : (v w : Server) (x y : Site) → Later x v w → ((s k : ℕ) �
 unmet_later v w x y later lanes app told s k still why u = record {
   there = omega (arith, u.there, later.there);
   above = u.above;
-  unmet = later.met s u.unmet;
+  unmet = still.met s k u.entered u.unmet;
   entered = still.known s k k u.there (known why) u.entered;
   opened =
       subst (λ (xs : List Entry). entry_at xs s ≡ Some (Opened s app)) (sym (later.goes_on k u.there).1)

@@ -135,7 +135,6 @@ later_crashed x v clock round kept agree low within epochs = record {
   left = λ k under. crashed_left v clock round kept k under;
   last = λ k under. ap last_epoch (crashed_order v clock round kept k under);
   place = λ k under. ap epoch_place (crashed_order v clock round kept k under);
-  met = λ s is. is;
   newer = λ i j under past there stays. newer i j under past there stays;
   counts = λ s k under unlearnt. ap (λ (es : List Entry). count es s) (crashed_order v clock round kept k under);
 }
@@ -173,7 +172,7 @@ link_kept_by_later l d now clock es v x dead its starts epochs = record {
       (started_empty d l.times es now);
   apps =
       λ app alive.
-      app_quiet v w x y dead (later_crashed x v clock l.times.round (length es) starts.agree starts.low starts.within epochs) (λ a. entered_same a v w (λ s. refl))
+      app_quiet v w x y dead (later_crashed x v clock l.times.round (length es) starts.agree starts.low starts.within epochs) (λ a. entered_same a v w (λ s. refl) (λ s. refl))
       (λ s k. same_lane (x.lane_at s k)) its.link its.ends its.dials app alive
       (x.end_at app) refl refl (quietly_same ((x.end_at app).connection_at (x.end_at app).state.dial)) (λ c e q made s k left carries is at here. absurd (gone app c s k made carries here))
       (count_same x y (λ s k. refl) (x.end_at app).state.line (x.end_at app).state.session (x.end_at app).told);

@@ -8,7 +8,7 @@ use Rattle.cluster_invariant.proofs.AllLists.{all_joined}
 use Rattle.link_kept.proofs.LockSessions.{RequestsOf}
 
 -- what waits in front waits without what is behind
-wait_front : (hs : List Hold) (earlier xs ys : List Request) → AllWait hs earlier (xs ++ ys) → AllWait hs earlier xs
+pub wait_front : (hs : List Hold) (earlier xs ys : List Request) → AllWait hs earlier (xs ++ ys) → AllWait hs earlier xs
 wait_front hs earlier [] ys is = tt
 wait_front hs earlier (x ∷ xs) ys is = (is.0, wait_front hs (earlier ++ x ∷ []) xs ys is.1)
 
@@ -26,7 +26,7 @@ pass_grants P l left grants (r ∷ rs) at given rest =
     go false a b = b
 
 -- of what waits in front nothing is granted
-behind_grants : (P : ℕ → Type 0) (l : Locks) (left grants xs ys : List Request) (at : ℕ) → AllWait l.holds left xs → RequestsOf P grants → RequestsOf P ys
+pub behind_grants : (P : ℕ → Type 0) (l : Locks) (left grants xs ys : List Request) (at : ℕ) → AllWait l.holds left xs → RequestsOf P grants → RequestsOf P ys
     → RequestsOf P (pass l left grants (xs ++ ys) at).grants
 behind_grants P l left grants [] ys at wait given rest = pass_grants P l left grants ys at given rest
 behind_grants P l left grants (x ∷ xs) ys at wait given rest =

@@ -28,7 +28,7 @@ rises es (Commit session w job txn) may = omega (arith, last_epoch-push es (Comm
 rises es (Rollback session w job txn) may = omega (arith, last_epoch-push es (Rollback session w job txn))
 
 -- a front's last Epoch isn't above the whole list's
-front_low : (es : List Entry) → IsOrdered es → (n : ℕ) → last_epoch (take n es) ≤ last_epoch es
+pub front_low : (es : List Entry) → IsOrdered es → (n : ℕ) → last_epoch (take n es) ≤ last_epoch es
 front_low es ordered = ordered_induction (λ xs. (n : ℕ) → last_epoch (take n xs) ≤ last_epoch xs) (λ n. nothing n) more es ordered
   where
     none : List Entry
@@ -45,7 +45,7 @@ front_low es ordered = ordered_induction (λ xs. (n : ℕ) → last_epoch (take 
         go (inl under) = omega (arith, ap last_epoch (take-append-le n xs (e ∷ []) (omega (arith, under))), low n, rises xs e may)
         go (inr over) = omega (arith, ap last_epoch (take_all n (xs ++ e ∷ []) (omega (arith, over, length-append xs (e ∷ [])))))
 
-fronts_rise : (es : List Entry) (m n : ℕ) → IsOrdered es → m ≤ n → last_epoch (take m es) ≤ last_epoch (take n es)
+pub fronts_rise : (es : List Entry) (m n : ℕ) → IsOrdered es → m ≤ n → last_epoch (take m es) ≤ last_epoch (take n es)
 fronts_rise es m n ordered low =
     omega (arith, front_low (take n es) (ordered-front (take n es) (drop n es) (subst IsOrdered (sym (take-append-drop n es)) ordered)) m, ap last_epoch (take-take m n es low))
 
@@ -70,7 +70,7 @@ none_behind found k c (Update session w job txn op ∷ es) low place = none_behi
 none_behind found k c (Commit session w job txn ∷ es) low place = none_behind found (k + 1) c es (omega (arith, low)) (omega (arith, place))
 none_behind found k c (Rollback session w job txn ∷ es) low place = none_behind found (k + 1) c es (omega (arith, low)) (omega (arith, place))
 
-all_in : (found k c n : ℕ) (es : List Entry) → found ≤ k → epoch_place_from found k es ≤ k + n → epoch_from c (take n es) ≡ epoch_from c es
+pub all_in : (found k c n : ℕ) (es : List Entry) → found ≤ k → epoch_place_from found k es ≤ k + n → epoch_from c (take n es) ≡ epoch_from c es
 all_in found k c zero es low place = none_behind found k c es low (omega (arith, place))
 all_in found k c (suc n) [] low place = refl
 all_in found k c (suc n) (Epoch number ∷ es) low place = all_in (k + 1) (k + 1) number n es (omega arith) (omega (arith, place))

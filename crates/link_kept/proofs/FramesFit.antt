@@ -100,18 +100,18 @@ pub record FrameAt (x : Site) (dead : ℕ → Bool) (old : DataState) (input : D
   pub next : (conn : ℕ) (f : UpFrame) (l : Linked) → input ≡ data_in.Frame conn f → link_of x conn ≡ Some l → NextIs x l f
 
 -- a frame's step begins with the state as it was
-begins_old : (t : Coming) (conn : ℕ) (f : UpFrame) → t.input ≡ data_in.Frame conn f → (begins t).state ≡ t.old
+pub begins_old : (t : Coming) (conn : ℕ) (f : UpFrame) → t.input ≡ data_in.Frame conn f → (begins t).state ≡ t.old
 begins_old t conn f came = ap (λ (input : DataIn). (begins (record { old = t.old; now = t.now; input = input })).state) came
 
 module _ (x : Site) (dead : ℕ → Bool) (t : Coming) (h : FrameAt x dead t.old t.input) where
   -- what is on its way on the connection of the session
-  record OnWay (session : ℕ) (f : UpFrame) : Type 0 where
-    rest : List UpFrame
-    lives : live t.old.order session ≡ true
-    whole : Bool
-    way : UpWay (x.lane_at session x.past) (f ∷ rest) whole
+  pub record OnWay (session : ℕ) (f : UpFrame) : Type 0 where
+    pub rest : List UpFrame
+    pub lives : live t.old.order session ≡ true
+    pub whole : Bool
+    pub way : UpWay (x.lane_at session x.past) (f ∷ rest) whole
 
-  on_way : (conn session : ℕ) (f : UpFrame) → t.input ≡ data_in.Frame conn f → role_of t.old conn ≡ Some (Bound session) → OnWay session f
+  pub on_way : (conn session : ℕ) (f : UpFrame) → t.input ≡ data_in.Frame conn f → role_of t.old conn ≡ Some (Bound session) → OnWay session f
   on_way conn session f came role = go (of_some (RoleIs x t.old conn) (role_of t.old conn) (Bound session) role (h.dials.roles conn))
     where
       by : (l : Linked) → link_of x conn ≡ Some l → live t.old.order session ≡ true → NextIs x l f → OnWay session f

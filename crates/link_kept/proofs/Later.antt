@@ -52,10 +52,12 @@ pub record EnteredStays (app : ℕ) (v w : Server) : Type 0 where
   pub known : (s k j : ℕ) → k ≤ current v → (s ≤ stays_at v k) ⊎ (s ≤ length (order_at v (current v)))
       → v.entered_at s ≡ Some (record { app = app; in_order = j; lost_since = false })
       → w.entered_at s ≡ Some (record { app = app; in_order = j; lost_since = false })
+  -- and is met no sooner
+  pub met : (s j : ℕ) → v.entered_at s ≡ Some (record { app = app; in_order = j; lost_since = false }) → v.session_at s ≡ None → w.session_at s ≡ None
 
 -- where nothing more is
-pub entered_same : (app : ℕ) (v w : Server) → ((s : ℕ) → w.entered_at s ≡ v.entered_at s) → EnteredStays app v w
-entered_same app v w same = record { known = λ s k j low why is. same s ∙ is }
+pub entered_same : (app : ℕ) (v w : Server) → ((s : ℕ) → w.entered_at s ≡ v.entered_at s) → ((s : ℕ) → w.session_at s ≡ v.session_at s) → EnteredStays app v w
+entered_same app v w same mets = record { known = λ s k j low why is. same s ∙ is; met = λ s j known none. mets s ∙ none }
 
 -- What a data server's moves make of the plain server: of a session whose application server didn't learn of an order nothing more counts
 -- in it.
@@ -67,8 +69,6 @@ pub record Later (x : Site) (v w : Server) : Type 0 where
   pub left : (k : ℕ) → k < current v → stays_at w k ≡ stays_at v k
   pub last : (k : ℕ) → k ≤ current v → last_epoch (order_at w k) ≡ last_epoch (order_at v k)
   pub place : (k : ℕ) → k ≤ current v → epoch_place (order_at w k) ≡ epoch_place (order_at v k)
-  -- none is met meanwhile
-  pub met : (s : ℕ) → v.session_at s ≡ None → w.session_at s ≡ None
   -- an order to come has a later Epoch than one whose Epoch stays
   pub newer : (i j : ℕ) → j ≤ current v → current v < i → i ≤ current w → epoch_place (order_at v j) ≤ stays_at v j
       → last_epoch (order_at v j) < last_epoch (order_at w i)

@@ -52,7 +52,6 @@ later_known x v known agree = record {
   left = λ k low. refl;
   last = λ k low. refl;
   place = λ k low. refl;
-  met = λ s is. is;
   newer = λ i j low past there stays. absurd (omega (arith, past, there));
   counts = λ s k low unlearnt. refl;
 }
@@ -147,7 +146,7 @@ link_kept_by_look l m app job line at outs written new h agree goes =
     kept_by_look LinksPart l m app job line at outs written new goes (λ d. (h.sites d).link)
     (λ knows.
     link_beside v (record v { known_at = knows }) x x.end_at m.is_dead_at m.is_dead_at (later_known x v knows (agree at.server))
-    (λ a. entered_same a v (record v { known_at = knows }) (λ s. refl)) refl its.order.past its.link its.ends
+    (λ a. entered_same a v (record v { known_at = knows }) (λ s. refl) (λ s. refl)) refl its.order.past its.link its.ends
     its.dials (λ a n. quietly_same ((x.end_at a).connection_at n)) (λ a. refl) (λ a. refl) (λ a alive. alive))
   where
     v : Server
@@ -182,7 +181,7 @@ link_kept_by_die l m app outs written new h agree goes = kept_by_death LinksPart
     each alive d =
         link_beside ((state_after l m.trail).server_at d) ((state_after l m.trail).server_at d) (m.site_at d) (ends d) m.is_dead_at (put m.is_dead_at app true)
         (later_known (m.site_at d) ((state_after l m.trail).server_at d) ((state_after l m.trail).server_at d).known_at (agree d))
-        (λ a. entered_same a ((state_after l m.trail).server_at d) ((state_after l m.trail).server_at d) (λ s. refl)) refl (h.sites d).order.past
+        (λ a. entered_same a ((state_after l m.trail).server_at d) ((state_after l m.trail).server_at d) (λ s. refl) (λ s. refl)) refl (h.sites d).order.past
         (h.sites d).link (h.sites d).ends (h.sites d).dials
         (λ a n. quietly_mapped (leaves a) (quiet a) (((m.site_at d).end_at a).connection_at n)) (λ a. refl) (λ a. refl) alive
 
@@ -210,7 +209,7 @@ link_kept_by_halt l m server outs written new h agree goes = kept_by_halt LinksP
       node = tt;
       apps =
           λ app alive.
-          app_quiet v v x (halted_site x) m.is_dead_at (later_known x v v.known_at (agree server)) (λ a. entered_same a v v (λ s. refl)) (λ s k. same_lane (x.lane_at s k)) (h.sites server).link
+          app_quiet v v x (halted_site x) m.is_dead_at (later_known x v v.known_at (agree server)) (λ a. entered_same a v v (λ s. refl) (λ s. refl)) (λ s k. same_lane (x.lane_at s k)) (h.sites server).link
           (h.sites server).ends (h.sites server).dials app alive ((halted_site x).end_at app) refl refl
           (quietly_mapped leaves_linked quiet ((x.end_at app).connection_at (x.end_at app).state.dial)) (λ c d q made s k left its is at there. tt)
           (count_same x (halted_site x) (λ s k. refl) (x.end_at app).state.line (x.end_at app).state.session (x.end_at app).told);

@@ -73,7 +73,7 @@ grown_sent lane w m counts begun is g = record {
 pub grown_ack_put : (lane : Lane) (w : Window Down) → Grown lane w → Grown lane (with_ack_put w)
 grown_ack_put lane w g = record { more = g.more; waiting = g.waiting; acked = g.acked; taken = g.taken; no_less = g.no_less; numbered = g.numbered; none = g.none }
 
-drop_more : {X : Type 0} (a b : ℕ) (xs : List X) → drop (b - a) (drop a xs) ≡ drop (max a b) xs
+pub drop_more : {X : Type 0} (a b : ℕ) (xs : List X) → drop (b - a) (drop a xs) ≡ drop (max a b) xs
 drop_more a b xs = let same : a + (b - a) ≡ max a b = omega arith in drop-drop (b - a) a xs ∙ ap (λ (n : ℕ). drop n xs) same
 
 pub grown_ack : (lane : Lane) (w : Window Down) (ack : ℕ) → ack ≤ lane.down_taken → Grown lane w → Grown lane (with_ack w ack)

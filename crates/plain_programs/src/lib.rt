@@ -17,6 +17,9 @@ mod touched;
 mod transaction_name;
 mod whole_number;
 
+pub use child_keys::{end_of_child, sub_behind};
+pub use op_check::op_may;
 pub use order_check::OrderCheck;
-pub use plain_store::PlainStore;
-pub use touched::touches;
+pub use plain_store::{PlainStore, data_code, sum_of};
+pub use touched::{node_span, op_spans, touches};
+pub use whole_number::{decimal_value, whole_of};

@@ -219,7 +219,7 @@ impl PlainStore {
 }
 
 /// The code of what stands at and below a node.
-fn data_code(has_value: bool, has_descendants: bool) -> u8
+pub fn data_code(has_value: bool, has_descendants: bool) -> u8
     ensures { result ≡ data_code has_value has_descendants }
 {
     match (has_descendants, has_value) {
@@ -231,7 +231,7 @@ fn data_code(has_value: bool, has_descendants: bool) -> u8
 }
 
 /// The sum of a whole number and an amount, if it has at most `DIGIT_LIMIT` digits.
-fn sum_of(number: i64, amount: i64) -> Sum
+pub fn sum_of(number: i64, amount: i64) -> Sum
     ensures { result ≡ sum_of (number +ℤ amount) }
 {
     match number.checked_add(amount) {

@@ -9,7 +9,7 @@ use std::alloc::{AllocError, Global};
 use subscript_keys::{KeyBytes, Span};
 
 /// The span that holds a node's key alone.
-fn node_span(alloc: Global, key: &KeyBytes) -> Result<Span, AllocError>
+pub fn node_span(alloc: Global, key: &KeyBytes) -> Result<Span, AllocError>
     ensures { IfOk result (λ span. span ≡ node_span key.now) }
 {
     let mut hi = Vec::with_capacity(alloc, key.as_slice().len() + 1)?;

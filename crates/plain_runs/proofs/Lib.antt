@@ -23,7 +23,7 @@ mod Strangers
 pub mod Epochs
 mod EpochLaws
 pub mod MetOnce
-mod MetLaws
+pub mod MetLaws
 mod OpenTransactions
 pub mod BegunItems
 pub mod Ordered

@@ -84,7 +84,7 @@ met_low l s k n a o = k.met n (there (s.session_at n) o)
     there None e = absurd (cc (e))
     there (Some m) e = refl
 
-run_met : (l : Layout) (p : Plain) (acts : List Act) → RunFrom l p acts → ((d : ℕ) → OrdersKept (facet (p.server_at d))) → ((d : ℕ) → IssuedKept (view (p.server_at d))) → ((d : ℕ) → ToldKept l (sight (p.server_at d)))
+pub run_met : (l : Layout) (p : Plain) (acts : List Act) → RunFrom l p acts → ((d : ℕ) → OrdersKept (facet (p.server_at d))) → ((d : ℕ) → IssuedKept (view (p.server_at d))) → ((d : ℕ) → ToldKept l (sight (p.server_at d)))
     → ((d : ℕ) → MetKept (meetings (p.server_at d))) → (e : ℕ) → MetKept (meetings ((after_all l p acts).server_at e))
 run_met l p [] run os is ts k e = k e
 run_met l p (a ∷ acts) run os is ts k e =

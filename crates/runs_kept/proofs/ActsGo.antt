@@ -16,8 +16,6 @@ use Rattle.plain_runs.specs.Run.{after_all}
 use Rattle.plain_runs.specs.Step.{after}
 use Rattle.plain_runs.proofs.RunLemmas.{at_put}
 use Rattle.cluster_runs.specs.Steps.{is_raised, raised}
-use Rattle.data_pieces.proofs.PlainView.{is_of_locks}
-use Rattle.runs_kept.proofs.NowFrom.{MayNow, NowFrom}
 
 -- an act of a step that is no save
 abbrev pub is_data : Act → Bool
@@ -121,75 +119,6 @@ data_raised k (Mended app d) its = absurd (false≢true its)
 data_raised k (Tick time) its = absurd (false≢true its)
 data_raised k (Lose app d loss) its = absurd (false≢true its)
 data_raised k (Died app) its = absurd (false≢true its)
-
--- acts of locks are such, and rest on nothing here
-pub locks_data : (a : Act) → is_of_locks a ≡ true → is_data a ≡ true
-locks_data (Opened d entries) is = absurd (false≢true is)
-locks_data (Enter d e) is = absurd (false≢true is)
-locks_data (Synced d n) is = absurd (false≢true is)
-locks_data (Shut d session cause) is = absurd (false≢true is)
-locks_data (Release d session) is = refl
-locks_data (Met app d session) is = absurd (false≢true is)
-locks_data (Told app d session epoch kept) is = absurd (false≢true is)
-locks_data (Back d) is = absurd (false≢true is)
-locks_data (Crash d kept) is = absurd (false≢true is)
-locks_data (Issue job line d w item) is = absurd (false≢true is)
-locks_data (Read job line d at via question) is = absurd (false≢true is)
-locks_data (Grant d session job mode key at) is = refl
-locks_data (Granted job line d at) is = absurd (false≢true is)
-locks_data (GiveUp job line d mode key) is = absurd (false≢true is)
-locks_data (Quit job line d mode key) is = absurd (false≢true is)
-locks_data (Free d session job mode key) is = refl
-locks_data (Counted job line d at sum) is = absurd (false≢true is)
-locks_data (NotWhole job line d at) is = absurd (false≢true is)
-locks_data (Range job line d at) is = absurd (false≢true is)
-locks_data (Committed job line d at) is = absurd (false≢true is)
-locks_data (RolledBack job line d at) is = absurd (false≢true is)
-locks_data (Reached job line d at) is = absurd (false≢true is)
-locks_data (Level job line level) is = absurd (false≢true is)
-locks_data (Done job line) is = absurd (false≢true is)
-locks_data (Refused job line refusal) is = absurd (false≢true is)
-locks_data (Broke app d end time) is = absurd (false≢true is)
-locks_data (Mended app d) is = absurd (false≢true is)
-locks_data (Tick time) is = absurd (false≢true is)
-locks_data (Lose app d loss) is = absurd (false≢true is)
-locks_data (Died app) is = absurd (false≢true is)
-
-locks_may : (l : Layout) (p : Plain) (a : Act) → is_of_locks a ≡ true → MayNow l p a
-locks_may l p (Opened d entries) is = absurd (false≢true is)
-locks_may l p (Enter d e) is = absurd (false≢true is)
-locks_may l p (Synced d n) is = absurd (false≢true is)
-locks_may l p (Shut d session cause) is = absurd (false≢true is)
-locks_may l p (Release d session) is = tt
-locks_may l p (Met app d session) is = absurd (false≢true is)
-locks_may l p (Told app d session epoch kept) is = absurd (false≢true is)
-locks_may l p (Back d) is = absurd (false≢true is)
-locks_may l p (Crash d kept) is = absurd (false≢true is)
-locks_may l p (Issue job line d w item) is = absurd (false≢true is)
-locks_may l p (Read job line d at via question) is = absurd (false≢true is)
-locks_may l p (Grant d session job mode key at) is = tt
-locks_may l p (Granted job line d at) is = absurd (false≢true is)
-locks_may l p (GiveUp job line d mode key) is = absurd (false≢true is)
-locks_may l p (Quit job line d mode key) is = absurd (false≢true is)
-locks_may l p (Free d session job mode key) is = tt
-locks_may l p (Counted job line d at sum) is = absurd (false≢true is)
-locks_may l p (NotWhole job line d at) is = absurd (false≢true is)
-locks_may l p (Range job line d at) is = absurd (false≢true is)
-locks_may l p (Committed job line d at) is = absurd (false≢true is)
-locks_may l p (RolledBack job line d at) is = absurd (false≢true is)
-locks_may l p (Reached job line d at) is = absurd (false≢true is)
-locks_may l p (Level job line level) is = absurd (false≢true is)
-locks_may l p (Done job line) is = absurd (false≢true is)
-locks_may l p (Refused job line refusal) is = absurd (false≢true is)
-locks_may l p (Broke app d end time) is = absurd (false≢true is)
-locks_may l p (Mended app d) is = absurd (false≢true is)
-locks_may l p (Tick time) is = absurd (false≢true is)
-locks_may l p (Lose app d loss) is = absurd (false≢true is)
-locks_may l p (Died app) is = absurd (false≢true is)
-
-pub locks_now : (l : Layout) (p : Plain) (acts : List Act) → AllByRecursion (λ a. is_of_locks a ≡ true) acts → NowFrom l p acts
-locks_now l p [] all = tt
-locks_now l p (a ∷ acts) all = (locks_may l p a all.0, locks_now l (after l p a) acts all.1)
 
 -- what they make together
 pub all_keep : (l : Layout) (p : Plain) (acts : List Act) → AllByRecursion (λ a. is_data a ≡ true) acts → Kept p (after_all l p acts)

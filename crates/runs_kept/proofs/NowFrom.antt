@@ -28,7 +28,7 @@ MayNow l p (Opened d entries) = MayCome l p (Opened d entries)
 MayNow l p (Enter d e) = EntryNow l p e (Enter d e)
 MayNow l p (Synced d n) = MayCome l p (Synced d n)
 MayNow l p (Shut d session cause) = MayCome l p (Shut d session cause)
-MayNow l p (Release d session) = Unit {0}
+MayNow l p (Release d session) = MayCome l p (Release d session)
 MayNow l p (Met app d session) = MayCome l p (Met app d session)
 MayNow l p (Told app d session epoch kept) = MayCome l p (Told app d session epoch kept)
 MayNow l p (Back d) = (is_some (p.server_at d).due ≡ true) × (list_any is_close (drop (p.server_at d).synced (p.server_at d).order) ≡ false)
@@ -73,7 +73,7 @@ both_may l p (Opened d entries) now later = now
 both_may l p (Enter d e) now later = entry_both l p e (Enter d e) now later
 both_may l p (Synced d n) now later = now
 both_may l p (Shut d session cause) now later = now
-both_may l p (Release d session) now later = later
+both_may l p (Release d session) now later = now
 both_may l p (Met app d session) now later = now
 both_may l p (Told app d session epoch kept) now later = now
 both_may l p (Back d) now later = record { recovering = now.0; told = later.told; counted = later.counted; closes = now.1 }

@@ -1,5 +1,6 @@
 -- What holds of the acts of a data server's step so far: orders and ends let each of them come.
 use Rattle.std.proofs.Common.{◌≡◌, ◌≤◌, ℕ, true, List, [], ◌∷◌, ◌++◌, sym, ◌∙◌, ap, subst}
+use Rattle.std.specs.Prelude.{map}
 use Rattle.std.specs.List.{AllByRecursion}
 use Rattle.std.proofs.lemmas.List.{append-nil}
 use Rattle.plain_orders.specs.declared.act.Act.{Act}
@@ -9,10 +10,9 @@ use Rattle.plain_runs.specs.Run.{after_all}
 use Rattle.plain_runs.proofs.RunLemmas.{after_all-append}
 use Rattle.data_rules.specs.Puts.{Sofar}
 use Rattle.cluster_runs.specs.Steps.{raised}
-use Rattle.cluster_invariant.proofs.AllLists.{all_follow}
-use Rattle.data_pieces.proofs.PlainView.{is_of_locks, view}
-use Rattle.data_pieces.proofs.QuietPieces.{Quiet}
-use Rattle.runs_kept.proofs.ActsGo.{Kept, all_keep, is_data, locks_data, locks_now, raised_data, raised_joined}
+use Rattle.data_pieces.proofs.PlainView.{view}
+use Rattle.runs_kept.proofs.ActsGo.{Kept, all_keep, is_data, raised_data, raised_joined}
+use Rattle.runs_kept.proofs.LockRows.{WritesRows, act_of, rows_data, rows_now}
 use Rattle.runs_kept.proofs.NowFrom.{MayNow, NowFrom, now_joined}
 
 -- the acts so far, what moment it is, and that the server has an order, which is synced so far at least
@@ -54,11 +54,11 @@ same_adds l p k b c same = record { more = []; acts = same ∙ sym (append-nil b
 pub one_adds : (l : Layout) (p : Plain) (k : ℕ) (b c : Sofar) (a : Act) → c.outs.acts ≡ b.outs.acts ++ a ∷ [] → is_data a ≡ true → MayNow l (after_all l p (raised k b.outs.acts)) a → Adds l p k b c
 one_adds l p k b c a acts its may = record { more = a ∷ []; acts = acts; plain = (its, tt); run = (may, tt) }
 
--- acts of locks
-pub quiet_adds : (l : Layout) (p : Plain) (k : ℕ) (b c : Sofar) → Quiet b c → Adds l p k b c
-quiet_adds l p k b c q = record {
-  more = q.acts.more;
-  acts = q.acts.acts;
-  plain = all_follow (λ a. is_of_locks a ≡ true) (λ a. is_data a ≡ true) locks_data q.acts.more q.acts.all;
-  run = locks_now l (after_all l p (raised k b.outs.acts)) q.acts.more q.acts.all;
+-- grants and holds that end
+pub rows_adds : (l : Layout) (p : Plain) (k : ℕ) (b c : Sofar) → WritesRows b c → Adds l p k b c
+rows_adds l p k b c w = record {
+  more = map act_of w.rows;
+  acts = w.acts;
+  plain = rows_data w.rows;
+  run = rows_now l (after_all l p (raised k b.outs.acts)) w.rows;
 }

@@ -1,6 +1,7 @@
 -- Each small change of a data server's step adds acts that orders and ends let come.
 use Rattle.std.proofs.Common.{◌≡◌, ◌≤◌, ◌&&◌, ◌||◌, not, drop, zero, suc, arith, ℕ, ◌+◌, Bool, true, false, List, [], ◌∷◌, ◌++◌, length, Option, Some, None, is_some, option_map, refl, sym, ◌∙◌, ap, subst}
 use Rattle.std.proofs.lemmas.Bool.{false≢true}
+use Rattle.std.specs.Prelude.{take}
 use Rattle.std.specs.List.{list_any}
 use Rattle.plain_orders.specs.declared.act.Act.{Act}
 use Rattle.plain_orders.specs.declared.act.Act.TheVariants as act
@@ -9,7 +10,7 @@ use Rattle.plain_orders.specs.declared.entry.Entry.{Entry}
 use Rattle.plain_orders.specs.declared.entry.Entry.TheVariants.{Opened, Update as UpdateEntry, Commit as CommitEntry, Rollback as RollbackEntry}
 use Rattle.plain_orders.specs.declared.layout.Layout.{Layout}
 use Rattle.plain_orders.specs.declared.op.Op.TheVariants as ops
-use Rattle.plain_orders.specs.Entries.{live_session}
+use Rattle.plain_orders.specs.Entries.{closed_by, closes, live_session}
 use Rattle.plain_orders.specs.Sessions.{is_close}
 use Rattle.recovery_round.specs.RoundWords.{is_over}
 use Rattle.plain_runs.specs.Plain.{Plain, Server}
@@ -20,16 +21,20 @@ use Rattle.ecp_messages.specs.declared.up.Up.TheVariants.{Hello, Recover, Update
 use Rattle.link_states.specs.declared.link_event.LinkEvent.TheVariants as event
 use Rattle.recovery_round.specs.RoundWords.{Round}
 use Rattle.data_rules.specs.DataState.{DataState}
+use Rattle.data_rules.specs.declared.data_in.DataIn.TheVariants as data_in
 use Rattle.data_rules.specs.declared.rows.Caller.{Caller}
 use Rattle.data_rules.specs.Callers.{waiting_conn}
 use Rattle.data_rules.specs.Conns.{breaks_if, drops_conn, end_breaks, is_normal, link_of, with_event, without_conn}
 use Rattle.data_rules.specs.Opening.{all_apps, breaks_unless, ends_among, is_round_over, with_end}
-use Rattle.data_rules.specs.Puts.{Sofar, becomes, conn_of, head_of, puts}
+use Rattle.data_rules.specs.Puts.{Sofar, becomes, conn_of, head_of, puts, writes}
 use Rattle.cluster_runs.specs.Steps.{raised}
 use Rattle.cluster_invariant.specs.Ends.{due_in}
+use Rattle.cluster_invariant.specs.Words.{IsFront}
 use Rattle.cluster_invariant.proofs.PieceKinds.{Ending, There, Here, calls, cuts_if, end_back, ends_back, next_caller, with_replies}
 use Rattle.cluster_invariant.proofs.PieceKinds.{Piece, Accepts, Forgets, Breaks, Dials, Waits, Opens, OpensNext, Resumes, GoesOn, ComesAgain, AwaitsReset, Closes, Acknowledges, Takes, TakesDone, Enters, Fetches, PutsNormal, PutsAck, Replies, Leaves, Bares, Locks, RoundEnds, Ticks, makes}
-use Rattle.cluster_invariant.proofs.PieceMay.{Coming, item_of}
+use Rattle.cluster_invariant.proofs.PieceKinds.{Asks, Unlocks, Withdraws, GivesBack, ForgetsTicket, Claims, Cancels, Releases}
+use Rattle.lock_table.specs.LockWords.{without_session}
+use Rattle.cluster_invariant.proofs.PieceMay.{Coming, ReleasesMay, item_of}
 use Rattle.cluster_invariant.proofs.Pieces.{MayMake}
 use Rattle.cluster_invariant.proofs.PiecesOfRounds.{back_written}
 use Rattle.cluster_invariant.proofs.PutLaws.{only_leaves, only_puts}
@@ -41,10 +46,10 @@ use Rattle.data_pieces.proofs.EndsPieces.{ConnsHold, had_conn}
 use Rattle.data_pieces.proofs.LinksGo.{LinksGo}
 use Rattle.data_pieces.proofs.PieceFacts.{enters_acts, opens_acts, shuts_acts}
 use Rattle.data_pieces.proofs.PlainView.{view, view_back, view_broke}
-use Rattle.data_pieces.proofs.QuietPieces.{Quiet, quiet_calls, quiet_goes_on, quiet_windows}
 use Rattle.runs_kept.proofs.ActsGo.{is_data}
+use Rattle.runs_kept.proofs.LockRows.{WritesRows, calls_rows, goes_on_acts, locks_rows}
 use Rattle.runs_kept.proofs.NowFrom.{EntryNow, MayNow}
-use Rattle.runs_kept.proofs.RunGo.{NowGo, adds_go, one_adds, quiet_adds, same_adds}
+use Rattle.runs_kept.proofs.RunGo.{NowGo, adds_go, one_adds, rows_adds, same_adds}
 use Rattle.runs_kept.proofs.RunMay.{breaks_may, shuts_may}
 
 dropped_acts : (o : Option ℕ) (b : Sofar) → (drops_conn o b).outs.acts ≡ b.outs.acts
@@ -135,7 +140,44 @@ module _ (l : Layout) (p : Plain) (d k now saved : ℕ) (es : List Entry) where
       go None none more = more b h
       go (Some s) has more = more (end_back a s now b) (one_back a s b has h)
 
-module _ (l : Layout) (p : Plain) (d k saved : ℕ) (t : Coming) (W : Caller → Type 0) (hold : ConnsHold t.old) where
+-- a Close among the entries that a save covers is one of the first so many of the order
+closed_within : (s : ℕ) (es fs : List Entry) (synced upto n : ℕ) → IsFront es fs → upto ≤ length es → upto ≤ n → list_any (closes s) (drop synced (take upto es)) ≡ true
+    → closed_by fs s n ≡ true
+closed_within s es fs synced upto n front within low is =
+    any_front (closes s) (take upto es) (take n fs)
+    (subst (λ (xs : List Entry). IsFront (take upto es) (take n xs)) (sym front.1) (front_taken upto n es front.0 within low)) (any_dropped (closes s) synced (take upto es) is)
+  where
+    any_dropped : (p : Entry → Bool) (i : ℕ) (xs : List Entry) → list_any p (drop i xs) ≡ true → list_any p xs ≡ true
+    any_dropped p zero xs is = is
+    any_dropped p (suc i) [] is = is
+    any_dropped p (suc i) (x ∷ xs) is = or_right (p x) (list_any p xs) (any_dropped p i xs is)
+      where
+        or_right : (a b : Bool) → b ≡ true → (a || b) ≡ true
+        or_right true b is = refl
+        or_right false b is = is
+
+    any_front : (p : Entry → Bool) (xs ys : List Entry) → IsFront xs ys → list_any p xs ≡ true → list_any p ys ≡ true
+    any_front p xs ys f is = ap (list_any p) f.1 ∙ any_left p xs f.0 is
+      where
+        any_left : (p : Entry → Bool) (xs zs : List Entry) → list_any p xs ≡ true → list_any p (xs ++ zs) ≡ true
+        any_left p [] zs is = absurd (false≢true is)
+        any_left p (x ∷ xs) zs is = go (p x) is (any_left p xs zs)
+          where
+            go : (b : Bool) → (b || list_any p xs) ≡ true → (list_any p xs ≡ true → list_any p (xs ++ zs) ≡ true) → (b || list_any p (xs ++ zs)) ≡ true
+            go true is more = refl
+            go false is more = more is
+
+    front_taken : (i j : ℕ) (xs rest : List Entry) → i ≤ length xs → i ≤ j → IsFront (take i xs) (take j (xs ++ rest))
+    front_taken zero j xs rest within low = (take j (xs ++ rest), refl)
+    front_taken (suc i) j [] rest within low = absurd (omega (arith, within))
+    front_taken (suc i) zero (x ∷ xs) rest within low = absurd (omega (arith, low))
+    front_taken (suc i) (suc j) (x ∷ xs) rest within low = one (front_taken i j xs rest (omega (arith, within)) (omega (arith, low)))
+      where
+        one : IsFront (take i xs) (take j (xs ++ rest)) → IsFront (x ∷ take i xs) (x ∷ take j (xs ++ rest))
+        one f = (f.0, ap (λ (ys : List Entry). x ∷ ys) f.1)
+
+module _ (l : Layout) (p : Plain) (d k saved : ℕ) (t : Coming) (W : Caller → Type 0) (hold : ConnsHold t.old)
+    (covers : (upto : ℕ) → t.input ≡ data_in.Saved upto → (upto ≤ length t.old.order) × (saved ≡ upto)) where
   abbrev Goes : Sofar → Type 0
   Goes b = EndsGo t W d (view l p d k b.outs.acts) b.state
 
@@ -148,8 +190,8 @@ module _ (l : Layout) (p : Plain) (d k saved : ℕ) (t : Coming) (W : Caller →
   same_go : (b c : Sofar) → c.outs.acts ≡ b.outs.acts → Runs b → Runs c
   same_go b c same h = adds_go l p d k t.now saved b c (same_adds l p k b c same) h
 
-  quiet_go : (b c : Sofar) → Quiet b c → Runs b → Runs c
-  quiet_go b c q h = adds_go l p d k t.now saved b c (quiet_adds l p k b c q) h
+  rows_go : (b c : Sofar) → WritesRows b c → Runs b → Runs c
+  rows_go b c w h = adds_go l p d k t.now saved b c (rows_adds l p k b c w) h
 
   -- an act of this server
   act_go : (b c : Sofar) (a : ℕ → Act) → b.state.server ≡ d → c.outs.acts ≡ b.outs.acts ++ a b.state.server ∷ [] → is_data (a d) ≡ true → MayNow l (after_all l p (raised k b.outs.acts)) (a d) → Runs b → Runs c
@@ -194,40 +236,61 @@ module _ (l : Layout) (p : Plain) (d k saved : ℕ) (t : Coming) (W : Caller →
           subst (λ (es : List Entry). list_any is_close (drop (view l p d k b.outs.acts).synced es) ≡ false) (sym links.order)
           (none_behind b.state.order b.state.synced (view l p d k b.outs.acts).synced (subst (λ (m : ℕ). m ≤ (view l p d k b.outs.acts).synced) (sym synced) h.no_less) (some_round b.state b.state.round over).1)
 
+  -- a Close that a save covers is synced
+  of_save : (session : ℕ) (b : Sofar) → ReleasesMay t session b → IsFront t.old.order b.state.order → LinksGo d (view l p d k b.outs.acts) b.state → Runs b
+      → closed_by (view l p d k b.outs.acts).order session (view l p d k b.outs.acts).synced ≡ true
+  of_save session b may front links h =
+      ap (λ (es : List Entry). closed_by es session (view l p d k b.outs.acts).synced) links.order
+      ∙ closed_within session t.old.order b.state.order t.old.synced may.upto (view l p d k b.outs.acts).synced front (covers may.upto may.came).0
+      (omega (arith, (covers may.upto may.came).1, h.no_less)) may.closed
+
   -- Each of them.
-  pub run_piece : (q : Piece) (b : Sofar) → MayMake t q b → Goes b → b.state.times ≡ l.times → b.state.synced ≡ saved → Runs b → Runs (makes t.now q b)
-  run_piece (Accepts conn) b may e times synced h = same_go b (makes t.now (Accepts conn) b) refl h
-  run_piece (Forgets ending conn) b may e times synced h = same_go b (makes t.now (Forgets ending conn) b) (cut_acts ending conn (becomes (without_conn conn) b)) h
-  run_piece (Breaks ending conn session app) b may e times synced h =
+  pub run_piece : (q : Piece) (b : Sofar) → MayMake t q b → Goes b → b.state.times ≡ l.times → b.state.synced ≡ saved → IsFront t.old.order b.state.order → Runs b
+      → Runs (makes t.now q b)
+  run_piece (Accepts conn) b may e times synced front h = same_go b (makes t.now (Accepts conn) b) refl h
+  run_piece (Forgets ending conn) b may e times synced front h = same_go b (makes t.now (Forgets ending conn) b) (cut_acts ending conn (becomes (without_conn conn) b)) h
+  run_piece (Breaks ending conn session app) b may e times synced front h =
       breaks_go ending conn session app b (had_conn l p d k t W hold conn session app b may.first may.bound may.opened e) e.links times h
-  run_piece (Dials app dial) b may e times synced h = same_go b (makes t.now (Dials app dial) b) refl h
-  run_piece (Waits app conn) b may e times synced h = same_go b (makes t.now (Waits app conn) b) (dropped_acts (waiting_conn b.state app) b) h
-  run_piece (Opens app conn) b may e times synced h = opens_go app conn b (makes t.now (Opens app conn) b) (opens_acts app conn t.now b) may.free (none_is b.state.round may.round) e.links h
-  run_piece (OpensNext app conn) b may e times synced h =
+  run_piece (Dials app dial) b may e times synced front h = same_go b (makes t.now (Dials app dial) b) refl h
+  run_piece (Waits app conn) b may e times synced front h = same_go b (makes t.now (Waits app conn) b) (dropped_acts (waiting_conn b.state app) b) h
+  run_piece (Opens app conn) b may e times synced front h = opens_go app conn b (makes t.now (Opens app conn) b) (opens_acts app conn t.now b) may.free (none_is b.state.round may.round) e.links h
+  run_piece (OpensNext app conn) b may e times synced front h =
       opens_go app conn b (makes t.now (OpensNext app conn) b) (opens_acts app conn t.now (becomes next_caller b)) (subst (CallersOf b.state.conns b.state.order) may.next e.callers).each.0.1 may.over e.links h
-  run_piece (Resumes app session conn) b may e times synced h = same_go b (makes t.now (Resumes app session conn) b) (dropped_acts (conn_of b.state session) b) h
-  run_piece (GoesOn session conn taken) b may e times synced h = quiet_go b (makes t.now (GoesOn session conn taken) b) (quiet_goes_on session conn taken b) h
-  run_piece (ComesAgain session conn kept) b may e times synced h = same_go b (makes t.now (ComesAgain session conn kept) b) refl h
-  run_piece (AwaitsReset session conn at) b may e times synced h = same_go b (makes t.now (AwaitsReset session conn at) b) refl h
-  run_piece (Closes session app cause) b may e times synced h =
+  run_piece (Resumes app session conn) b may e times synced front h = same_go b (makes t.now (Resumes app session conn) b) (dropped_acts (conn_of b.state session) b) h
+  run_piece (GoesOn session conn taken) b may e times synced front h = same_go b (makes t.now (GoesOn session conn taken) b) (goes_on_acts session conn taken b) h
+  run_piece (ComesAgain session conn kept) b may e times synced front h = same_go b (makes t.now (ComesAgain session conn kept) b) refl h
+  run_piece (AwaitsReset session conn at) b may e times synced front h = same_go b (makes t.now (AwaitsReset session conn at) b) refl h
+  run_piece (Closes session app cause) b may e times synced front h =
       act_go b (makes t.now (Closes session app cause) b) (λ q. act.Shut q session cause) e.links.server (shuts_acts session app cause t.now b) refl
       (shuts_may l (after_all l p (raised k b.outs.acts)) d t b session app e.links times h.clock may.has cause may.why) h
-  run_piece (Acknowledges conn session up) b may e times synced h = same_go b (makes t.now (Acknowledges conn session up) b) refl h
-  run_piece (Takes conn session up) b may e times synced h = same_go b (makes t.now (Takes conn session up) b) refl h
-  run_piece (TakesDone conn session up) b may e times synced h = same_go b (makes t.now (TakesDone conn session up) b) refl h
-  run_piece (Enters x) b may e times synced h =
+  run_piece (Acknowledges conn session up) b may e times synced front h = same_go b (makes t.now (Acknowledges conn session up) b) refl h
+  run_piece (Takes conn session up) b may e times synced front h = same_go b (makes t.now (Takes conn session up) b) refl h
+  run_piece (TakesDone conn session up) b may e times synced front h = same_go b (makes t.now (TakesDone conn session up) b) refl h
+  run_piece (Enters x) b may e times synced front h =
       act_go b (makes t.now (Enters x) b) (λ q. act.Enter q x) e.links.server (enters_acts x b) refl (item_now l (after_all l p (raised k b.outs.acts)) may.session may.its.up.message x (act.Enter d x) may.item) h
-  run_piece (Fetches session run block) b may e times synced h =
+  run_piece (Fetches session run block) b may e times synced front h =
       same_go (puts session (down.Block (head_of b.state session) block) b) (makes t.now (Fetches session run block) b) refl
-      (quiet_go b (puts session (down.Block (head_of b.state session) block) b) (quiet_windows b (puts session (down.Block (head_of b.state session) block) b) (only_puts session (down.Block (head_of b.state session) block) b)) h)
-  run_piece (PutsNormal app session) b may e times synced h = quiet_go b (makes t.now (PutsNormal app session) b) (quiet_windows b (makes t.now (PutsNormal app session) b) (only_puts session _ b)) h
-  run_piece (PutsAck session) b may e times synced h = quiet_go b (makes t.now (PutsAck session) b) (quiet_windows b (makes t.now (PutsAck session) b) (only_puts session _ b)) h
-  run_piece (Replies at says) b may e times synced h = same_go b (makes t.now (Replies at says) b) refl h
-  run_piece (Leaves before r behind) b may e times synced h =
-      quiet_go (becomes (with_replies (before ++ behind)) b) (makes t.now (Leaves before r behind) b)
-      (quiet_windows (becomes (with_replies (before ++ behind)) b) (makes t.now (Leaves before r behind) b) (only_leaves r.says (becomes (with_replies (before ++ behind)) b)))
+      (same_go b (puts session (down.Block (head_of b.state session) block) b) (only_puts session (down.Block (head_of b.state session) block) b).acts h)
+  run_piece (PutsNormal app session) b may e times synced front h = same_go b (makes t.now (PutsNormal app session) b) (only_puts session _ b).acts h
+  run_piece (PutsAck session) b may e times synced front h = same_go b (makes t.now (PutsAck session) b) (only_puts session _ b).acts h
+  run_piece (Replies at says) b may e times synced front h = same_go b (makes t.now (Replies at says) b) refl h
+  run_piece (Leaves before r behind) b may e times synced front h =
+      same_go (becomes (with_replies (before ++ behind)) b) (makes t.now (Leaves before r behind) b) (only_leaves r.says (becomes (with_replies (before ++ behind)) b)).acts
       (same_go b (becomes (with_replies (before ++ behind)) b) refl h)
-  run_piece (Bares session conn) b may e times synced h = same_go b (makes t.now (Bares session conn) b) refl h
-  run_piece (Locks call) b may e times synced h = quiet_go b (calls call b) (quiet_calls call b) h
-  run_piece RoundEnds b may e times synced h = round_go b may e.links synced h
-  run_piece (Ticks app session) b may e times synced h = same_go b (makes t.now (Ticks app session) b) refl h
+  run_piece (Bares session conn) b may e times synced front h = same_go b (makes t.now (Bares session conn) b) refl h
+  run_piece (Locks (Asks r)) b may e times synced front h = rows_go b (calls (Asks r) b) (calls_rows (Asks r) b tt) h
+  run_piece (Locks (Unlocks who mode key)) b may e times synced front h = rows_go b (calls (Unlocks who mode key) b) (calls_rows (Unlocks who mode key) b tt) h
+  run_piece (Locks (Withdraws r session ticket)) b may e times synced front h =
+      rows_go b (calls (Withdraws r session ticket) b) (calls_rows (Withdraws r session ticket) b tt) h
+  run_piece (Locks (GivesBack r)) b may e times synced front h = rows_go b (calls (GivesBack r) b) (calls_rows (GivesBack r) b tt) h
+  run_piece (Locks (ForgetsTicket r)) b may e times synced front h = rows_go b (calls (ForgetsTicket r) b) (calls_rows (ForgetsTicket r) b tt) h
+  run_piece (Locks (Claims who key mode number at)) b may e times synced front h =
+      rows_go b (calls (Claims who key mode number at) b) (calls_rows (Claims who key mode number at) b tt) h
+  run_piece (Locks (Cancels r)) b may e times synced front h = rows_go b (calls (Cancels r) b) (calls_rows (Cancels r) b tt) h
+  run_piece (Locks (Releases session)) b may e times synced front h =
+      rows_go (writes (act.Release b.state.server session) b) (calls (Releases session) b)
+      (locks_rows (without_session b.state.locks session (length b.state.order)) (writes (act.Release b.state.server session) b))
+      (act_go b (writes (act.Release b.state.server session) b) (λ q. act.Release q session) e.links.server refl refl
+      (record { closed = of_save session b may front e.links h }) h)
+  run_piece RoundEnds b may e times synced front h = round_go b may e.links synced h
+  run_piece (Ticks app session) b may e times synced front h = same_go b (makes t.now (Ticks app session) b) refl h

@@ -1,5 +1,5 @@
 -- The trail stays a run over a step of a data server.
-use Rattle.std.proofs.Common.{◌≡◌, ◌≢◌, ◌≤◌, ℕ, Bool, true, false, cond, List, [], ◌∷◌, length, Option, Some, refl, sym, ◌∙◌, ap, subst, arith}
+use Rattle.std.proofs.Common.{◌≡◌, ◌≢◌, ◌≤◌, ℕ, Bool, true, false, cond, List, [], ◌∷◌, ◌++◌, append-nil, append_assoc, length, Option, Some, refl, sym, ◌∙◌, ap, subst, arith}
 use Rattle.std.specs.Prelude.{nat_lt}
 use Rattle.std.proofs.lemmas.Bool.{ltb-false, ltb-true}
 use Rattle.plain_orders.specs.declared.act.Act.{Act}
@@ -37,9 +37,12 @@ use Rattle.cluster_invariant.specs.Holds.{Holds, SiteHolds}
 use Rattle.cluster_invariant.specs.Orders.{NodeOrder}
 use Rattle.cluster_invariant.proofs.AllLists.{all_follow}
 use Rattle.cluster_invariant.proofs.OrderMoves.{step_from}
+use Rattle.cluster_invariant.specs.Words.{IsFront}
+use Rattle.cluster_invariant.proofs.Deeds.{Does, deeds_grow, order_by}
 use Rattle.cluster_invariant.proofs.PieceDeeds.{does_piece}
+use Rattle.cluster_invariant.proofs.PieceKinds.{Piece, makes}
 use Rattle.cluster_invariant.proofs.PieceMay.{Coming, begins}
-use Rattle.cluster_invariant.proofs.Pieces.{kept_by_pieces}
+use Rattle.cluster_invariant.proofs.Pieces.{MayMake, kept_by_pieces}
 use Rattle.cluster_invariant.proofs.PiecesOfSteps.{StepFrom, step_pieces, synced_state}
 use Rattle.cluster_invariant.proofs.Small.{of_some, put_same}
 use Rattle.data_pieces.proofs.ConnLists.{conn_for}
@@ -60,6 +63,18 @@ begins_times old now (data_in.Connected conn) = refl
 begins_times old now (data_in.Broken conn) = refl
 begins_times old now data_in.Tick = refl
 begins_times old now (data_in.Saved upto) = ap (λ (n : DataState). n.times) (synced_state upto (begun old))
+
+-- and with its order
+begins_front : (old : DataState) (now : ℕ) (input : DataIn) → IsFront old.order (begins (record { old = old; now = now; input = input })).state.order
+begins_front old now (data_in.Frame conn up) = ([], sym (append-nil old.order))
+begins_front old now (data_in.Connected conn) = ([], sym (append-nil old.order))
+begins_front old now (data_in.Broken conn) = ([], sym (append-nil old.order))
+begins_front old now data_in.Tick = ([], sym (append-nil old.order))
+begins_front old now (data_in.Saved upto) = ([], ap (λ (n : DataState). n.order) (synced_state upto (begun old)) ∙ sym (append-nil old.order))
+
+-- one front of another
+front_then : (xs ys zs : List Entry) → IsFront xs ys → IsFront ys zs → IsFront xs zs
+front_then xs ys zs f m = (f.0 ++ m.0, m.1 ∙ ap (λ (es : List Entry). es ++ m.0) f.1 ∙ append_assoc xs f.0 m.0)
 
 -- the acts that begin a step
 record Began (l : Layout) (p : Plain) (d now upto : ℕ) (acts : List Act) : Type 0 where
@@ -159,13 +174,27 @@ module _ (l : Layout) (c : CoresState) (m : Machine) (server now : ℕ) (input :
   clock = allowed.now_may.clock ∙ shows.clock ∙ sym h.clock
 
   abbrev Goes : Sofar → Type 0
-  Goes b = EndsGo t W server (view l p server v.synced b.outs.acts) b.state × ((b.state.times ≡ l.times) × ((b.state.synced ≡ (begins t).state.synced) × NowGo l p server v.synced now (begins t).state.synced b))
+  Goes b = EndsGo t W server (view l p server v.synced b.outs.acts) b.state × ((b.state.times ≡ l.times) × ((b.state.synced ≡ (begins t).state.synced) × (IsFront old.order b.state.order × NowGo l p server v.synced now (begins t).state.synced b)))
 
   begin : Goes (begins t)
   begin = (
     ends_begin l p server v.synced W x old now input has node (all_follow (CallerIs old x) W (λ w is. tt) old.callers node.callers.each),
-    (begins_times old now input ∙ order.its_times, (refl, now_begins l p server old now input has clock order.opened (omega (arith, order.synced)) may)),
+    (begins_times old now input ∙ order.its_times, (refl, (begins_front old now input, now_begins l p server old now input has clock order.opened (omega (arith, order.synced)) may))),
   )
+
+  -- the order goes on
+  goes_front : (q : Piece) (b : Sofar) → MayMake t q b → IsFront old.order b.state.order → IsFront old.order (makes now q b).state.order
+  goes_front q b known f = by (does_piece t q b known)
+    where
+      by : Does b (makes now q b) → IsFront old.order (makes now q b).state.order
+      by does =
+          subst (IsFront old.order) (sym does.order) (front_then old.order b.state.order (order_by does.deeds b.state.order) f (deeds_grow does.deeds b.state.order))
+
+  -- a save that comes covers entries that are there
+  covers : (upto : ℕ) → input ≡ data_in.Saved upto → (upto ≤ length old.order) × ((begins t).state.synced ≡ upto)
+  covers upto came =
+      subst (λ (i : DataIn). DataMay old i → (upto ≤ length old.order) × ((begins (record { old = old; now = now; input = i })).state.synced ≡ upto)) (sym came)
+      (λ saved. (saved.within, ap (λ (n : DataState). n.synced) (synced_state upto (begun old)))) may
 
   -- what orders and ends let come
   run_now : NowFrom l p (raised v.synced goes.data_outs.acts)
@@ -173,9 +202,15 @@ module _ (l : Layout) (c : CoresState) (m : Machine) (server now : ℕ) (input :
       (kept_by_pieces t Goes
       (λ q b known g. (
         ends_piece l p server v.synced t W hold places_all (λ app conn e is. tt) q b known g.0,
-        ((does_piece t q b known).times ∙ g.1.0, ((does_piece t q b known).synced ∙ g.1.1.0, run_piece l p server v.synced (begins t).state.synced t W hold q b known g.0 g.1.0 g.1.1.0 g.1.1.1)),
+        (
+          (does_piece t q b known).times ∙ g.1.0,
+          (
+            (does_piece t q b known).synced ∙ g.1.1.0,
+            (goes_front q b known g.1.1.1.0, run_piece l p server v.synced (begins t).state.synced t W hold covers q b known g.0 g.1.0 g.1.1.0 g.1.1.1.0 g.1.1.1.1),
+          ),
+        ),
       ))
-      (begins t) (made goes.state goes.data_outs) (step_pieces old now input goes.data_outs goes.state from may goes.steps) begin).1.1.1.run
+      (begins t) (made goes.state goes.data_outs) (step_pieces old now input goes.data_outs goes.state from may goes.steps) begin).1.1.1.1.run
 
   -- With what it rests on beside them the trail stays a run.
   pub run_kept_by_server : AllLater l (state_after l m.trail) written → IsRun l new.trail

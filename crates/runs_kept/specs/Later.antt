@@ -25,12 +25,11 @@ EntryLater l p (entry.Update session w job txn op) a = MayCome l p a
 EntryLater l p (entry.Commit session w job txn) a = MayCome l p a
 EntryLater l p (entry.Rollback session w job txn) a = MayCome l p a
 
--- what an act does: items, grants, holds that end, releases, and the end of a round
+-- what an act does: items, grants, holds that end, and the end of a round
 abbrev pub MayLater : Layout → Plain → Act → Type 0
 MayLater l p (act.Enter d e) = EntryLater l p e (act.Enter d e)
 MayLater l p (act.Grant d session job mode key at) = MayCome l p (act.Grant d session job mode key at)
 MayLater l p (act.Free d session job mode key) = MayCome l p (act.Free d session job mode key)
-MayLater l p (act.Release d session) = MayCome l p (act.Release d session)
 MayLater l p (act.Back d) = AllAreBack (p.server_at d)
 MayLater l p a = Unit {0}
 

@@ -1,5 +1,5 @@
 -- What application ends were told stays as the invariant has it over each input of an application server.
-use Rattle.std.proofs.Common.{◌≡◌, ◌≢◌, ◌<◌, ℕ, Bool, true, false, not, List, [], ◌++◌, Option, Some, None, is_some, option_map, refl, sym, ◌∙◌, ap, subst, inl, inr, arith, eqb}
+use Rattle.std.proofs.Common.{◌≡◌, ◌≢◌, ◌≤◌, ◌<◌, ℕ, Bool, true, false, not, List, [], ◌++◌, Option, Some, None, is_some, option_map, refl, sym, ◌∙◌, ap, subst, inl, inr, arith, eqb}
 use Rattle.std.specs.Prelude.{IsSomeAnd}
 use Rattle.std.specs.List.{AllByRecursion}
 use Rattle.std.proofs.lemmas.Bool.{eqb-true, eq-eqb, ne_eqb, false≢true}
@@ -33,9 +33,10 @@ use Rattle.cluster_runs.specs.Moves.{Allowed, AppTakes}
 use Rattle.cluster_invariant.specs.Ends.{AppTold, ToldPlace}
 use Rattle.cluster_invariant.specs.Holds.{Holds}
 use Rattle.cluster_invariant.specs.Link.{NewWelcomeOn}
+use Rattle.cluster_invariant.specs.Words.{stays_at}
 use Rattle.cluster_invariant.proofs.AppActs.{Leaves, app_step_leaves}
 use Rattle.cluster_invariant.proofs.OrderBeside.{leaves_orders, rows_same}
-use Rattle.cluster_invariant.proofs.OrdersStay.{stays_synced}
+use Rattle.cluster_invariant.proofs.OrdersStay.{stays_synced, what_stays_rises}
 use Rattle.cluster_invariant.proofs.Small.{at_places, of_some, put_same, put_other}
 use Rattle.cluster_steps.proofs.AppSites.{site_ends, end_has_state, app_ends}
 use Rattle.cluster_steps.proofs.EndSteps.{session_put}
@@ -43,7 +44,7 @@ use Rattle.cluster_steps.proofs.FrameCases.{LineHas}
 use Rattle.cluster_steps.proofs.InputsBring.{WelcomeTold}
 use Rattle.cluster_steps.proofs.Outcomes.{EndKept, InputTold, input_told, end_same}
 use Rattle.ends_kept.proofs.EpochBegun.{begun_is}
-use Rattle.ends_kept.proofs.MetTold.{new_on, epoch_on, EpochOn, no_session_of}
+use Rattle.ends_kept.proofs.MetTold.{new_on, epoch_on, EpochOn, no_session_of, told_in}
 use Rattle.ends_kept.proofs.OrderApps.{told_new, no_news, takes_told, takes_its}
 use Rattle.ends_kept.proofs.PairTables.{line_has}
 use Rattle.ends_kept.proofs.TablesMoves.{app_may}
@@ -110,7 +111,7 @@ module _ (l : Layout) (c : CoresState) (m : Machine) (app now : ℕ) (h : Holds 
         (app_end d outs ((m.site_at d).end_at app).state (end_at state d) shown (message_from d (app_in.Frame d frame)) (app_takes d (app_in.Frame d frame) ((m.site_at d).end_at app).state.dial ((m.site_at d).end_at app))) (m.site_at d))
     welcome_site (Welcome session epoch kept front taken) d frame state outs shown message takes later (inl x) =
         told_site l m app d outs state shown (message_from d (app_in.Frame d frame)) taking h later
-        (subst (λ (w : Server). AppTold w app moved) (sym after) (met_now l v app session on.order epoch e.state.told moved t has told (omega (arith, on.synced, stays_synced l m.trail d on.order run on.unmet.there)) on.unmet.above
+        (subst (λ (w : Server). AppTold w app moved) (sym after) (met_now l v app session on.order epoch e.state.told moved t has told (omega (arith, on.synced, stays_synced l m.trail d on.order run on.unmet.there)) on.synced on.unmet.above
         ((h.sites d).ends.told app alive).met on.unmet.entered))
         (λ a other. subst (λ (w : Server). MetsKept a v w) (sym after) (met_beside l v app session a on.unmet.unmet other))
       where
@@ -166,7 +167,7 @@ module _ (l : Layout) (c : CoresState) (m : Machine) (app now : ℕ) (h : Holds 
         after = ap (λ (ws : List Act). (after_all l (state_after l m.trail) ws).server_at d) x.here.acts ∙ put_same (state_after l m.trail).server_at d (met_by l v app session)
     welcome_site (Welcome session epoch kept front taken) d frame state outs shown message takes later (inr x) =
         told_site l m app d outs state shown (message_from d (app_in.Frame d frame)) taking h later
-        (subst (λ (w : Server). AppTold w app moved) (sym after) (learnt_now l v app session epoch kept on.welcome.order e moved x.session t has told begun_at had (sym on.welcome.number) whose ((h.sites d).ends.told app alive)))
+        (subst (λ (w : Server). AppTold w app moved) (sym after) (learnt_now l v app session epoch kept on.welcome.order e moved x.session t has told opened begun_at had (sym on.welcome.number) whose ((h.sites d).ends.told app alive)))
         (λ a other. subst (λ (w : Server). MetsKept a v w) (sym after) (learnt_beside l v app session epoch kept a whose other))
       where
         v : Server
@@ -220,6 +221,19 @@ module _ (l : Layout) (c : CoresState) (m : Machine) (app now : ℕ) (h : Holds 
 
         told : OrderTold v on.welcome.order epoch
         told = record { there = on.welcome.says.there; its_epoch = on.welcome.says.its_epoch; stays = on.welcome.says.stays }
+
+        -- its Open stays in the order that it was told of before, and so in this one
+        opened : session ≤ stays_at v on.welcome.order
+        opened = at_told (of_some (λ y. ToldPlace v app y e.told) e.state.session x.session had ((h.sites d).ends.told app alive).place)
+          where
+            at_told : ToldPlace v app x.session e.told → session ≤ stays_at v on.welcome.order
+            at_told p =
+                omega (
+                  arith,
+                  on.welcome.number,
+                  p.within,
+                  what_stays_rises l m.trail d p.order on.welcome.order run (omega (arith, told_in v app x.session p.order p.met, on.told, on.welcome.says.later)) on.welcome.says.there,
+                )
 
         begun_at : begun_by v epoch ≡ on.welcome.order
         begun_at = begun_is v epoch on.welcome.order on.welcome.says.there on.welcome.says.its_epoch on.welcome.says.only

@@ -40,9 +40,9 @@ met_beside l v app session a none differs n =
     at_put (MetKept a) v.session_at session (Some (new_session v app session)) (met_same a)
     (subst (λ (o : Option PlainSession). MetKept a o (Some (new_session v app session))) (sym none) (λ is. differs (sym is))) n
 
-pub met_now : (l : Layout) (v : Server) (app session order epoch old : ℕ) (f : End) (t : Session) → EndHas f t session session order epoch → OrderTold v order epoch → session ≤ v.synced → old < session
+pub met_now : (l : Layout) (v : Server) (app session order epoch old : ℕ) (f : End) (t : Session) → EndHas f t session session order epoch → OrderTold v order epoch → session ≤ v.synced → session ≤ stays_at v order → old < session
     → ((n : ℕ) → MetBelow app old n (v.session_at n)) → v.entered_at session ≡ Some (record { app = app; in_order = order; lost_since = false }) → AppTold (met_by l v app session) app f
-met_now l v app session order epoch old f t has o synced above met entered = record {
+met_now l v app session order epoch old f t has o synced stands above met entered = record {
   synced = omega (arith, has.told, synced);
   newest = subst (λ (q : Option Session). IfSome q (λ s. s.number ≡ f.state.told)) (sym has.session) (has.number ∙ sym has.told);
   met = λ number. subst (λ n. MetBelow app n number (w.session_at number)) (sym has.told)
@@ -70,6 +70,7 @@ met_now l v app session order epoch old f t has o synced above met entered = rec
           (refl, ap (λ (q : Option Entered). (unwrap_or q (record { app = 0; in_order = 0; lost_since = false })).in_order) entered));
       epoch = has.epoch ∙ o.its_epoch;
       stays = o.stays;
+      within = omega (arith, has.number, stands);
     }
 
 -- a new epoch
@@ -81,9 +82,9 @@ learnt_beside l v app session epoch kept a its differs n = at_put (MetKept a) v.
     go None h = absurd h
     go (Some s) h = (refl, λ is. absurd (differs (sym is ∙ h)))
 
-pub learnt_now : (l : Layout) (v : Server) (app session epoch kept order : ℕ) (e f : End) (s t : Session) → EndHas f t e.state.told session order epoch → OrderTold v order epoch → begun_by v epoch ≡ order
+pub learnt_now : (l : Layout) (v : Server) (app session epoch kept order : ℕ) (e f : End) (s t : Session) → EndHas f t e.state.told session order epoch → OrderTold v order epoch → session ≤ stays_at v order → begun_by v epoch ≡ order
     → e.state.session ≡ Some s → s.number ≡ session → IsSomeAnd (v.session_at session) (λ x. x.app ≡ app) → AppTold v app e → AppTold (told_of l v app session epoch kept) app f
-learnt_now l v app session epoch kept order e f s t has o begun had its whose h = record {
+learnt_now l v app session epoch kept order e f s t has o stands begun had its whose h = record {
   synced = omega (arith, has.told, h.synced);
   newest = subst (λ (q : Option Session). IfSome q (λ s. s.number ≡ f.state.told)) (sym has.session) (has.number ∙ sym its ∙ of_some (λ y. y.number ≡ e.state.told) e.state.session s had h.newest ∙ sym has.told);
   met = λ number. subst (λ n. MetBelow app n number (w.session_at number)) (sym has.told)
@@ -117,4 +118,5 @@ learnt_now l v app session epoch kept order e f s t has o begun had its whose h 
           (subst (λ (q : Option PlainSession). IsSomeAnd q (λ s. (s.app ≡ app) × (s.told ≡ order))) (sym (put_same v.session_at session (option_map learn (v.session_at session)))) (met_as (v.session_at session) whose));
       epoch = has.epoch ∙ o.its_epoch;
       stays = o.stays;
+      within = omega (arith, has.number, stands);
     }

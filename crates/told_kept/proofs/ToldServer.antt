@@ -49,18 +49,18 @@ deed_tells d (Grants s j m key at) = refl
 deed_tells d (Frees s j m key) = refl
 deed_tells d (Breaks app now) = refl
 
-abbrev AllLeave : List Act → Type 0
+abbrev pub AllLeave : List Act → Type 0
 AllLeave acts = AllByRecursion (λ a. leaves_told a ≡ true) acts
 
-deeds_tell : (d : ℕ) (ds : List Deed) → AllLeave (map (act_of d) ds)
+pub deeds_tell : (d : ℕ) (ds : List Deed) → AllLeave (map (act_of d) ds)
 deeds_tell d [] = tt
 deeds_tell d (x ∷ xs) = (deed_tells d x, deeds_tell d xs)
 
-both_tell : (xs ys : List Act) → AllLeave xs → AllLeave ys → AllLeave (xs ++ ys)
+pub both_tell : (xs ys : List Act) → AllLeave xs → AllLeave ys → AllLeave (xs ++ ys)
 both_tell [] ys a b = b
 both_tell (x ∷ xs) ys a b = (a.0, both_tell xs ys a.1 b)
 
-begins_tells : (old : DataState) (now : ℕ) (input : DataIn) → AllLeave (begins (record { old = old; now = now; input = input })).outs.acts
+pub begins_tells : (old : DataState) (now : ℕ) (input : DataIn) → AllLeave (begins (record { old = old; now = now; input = input })).outs.acts
 begins_tells old now (data_in.Frame conn up) = tt
 begins_tells old now (data_in.Connected conn) = tt
 begins_tells old now (data_in.Broken conn) = tt
@@ -71,7 +71,7 @@ begins_tells old now (data_in.Saved upto) = go (nat_lt old.synced upto)
     go true = (refl, tt)
     go false = tt
 
-raised_tell : (n : ℕ) (acts : List Act) → AllLeave acts → AllLeave (raised n acts)
+pub raised_tell : (n : ℕ) (acts : List Act) → AllLeave acts → AllLeave (raised n acts)
 raised_tell n [] all = tt
 raised_tell n (a ∷ acts) all = go (is_raised n a) (raised_tell n acts all.1)
   where

@@ -70,6 +70,7 @@ place_later v w app s t told later mets number epoch h = record {
   met = subst (λ (n : ℕ). IsSomeAnd (w.session_at n) (λ t. (t.app ≡ app) × (t.told ≡ h.order))) (sym number) (met_at app h.order (v.session_at s.number) (w.session_at s.number) (mets s.number) h.met);
   epoch = epoch ∙ h.epoch ∙ sym (later.last h.order h.there);
   stays = omega (arith, later.place h.order h.there, h.stays, later.stays h.order h.there);
+  within = omega (arith, number, h.within, later.stays h.order h.there);
 }
 
 -- An end that was told nothing new knows what it knew.

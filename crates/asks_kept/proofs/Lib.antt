@@ -1,0 +1,13 @@
+pub mod UpKinds
+pub mod GrantKinds
+pub mod Follows
+pub mod AsksFit
+pub mod Tickets
+pub mod FewerGrants
+pub mod AsksGo
+pub mod AsksPieces
+pub mod TableAlong
+pub mod CountsPieces
+pub mod CountsGo
+pub mod FreshEnds
+pub mod AsksAfter

@@ -1,0 +1,3 @@
+pub mod AsksShort
+pub mod EndLanes
+pub mod AsksServer

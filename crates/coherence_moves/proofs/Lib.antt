@@ -1,0 +1,2 @@
+pub mod CoherenceServer
+pub mod CoherenceMoves

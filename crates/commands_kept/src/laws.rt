@@ -1,0 +1,12 @@
+ghost use Rattle.commands_kept.specs.Laws.{DeathsKeepCommands, HaltsKeepCommands, LooksKeepCommands, StartsKeepCommands, StepsKeepCommands, TicksKeepCommands};
+
+/// Where the invariant holds, each step of a data server, each start and halt of one, ticks, looks and deaths keep which commands
+/// the requests of application ends are of.
+pub fn commands_are_kept()
+    ensures steps { StepsKeepCommands }
+    ensures starts { StartsKeepCommands }
+    ensures halts { HaltsKeepCommands }
+    ensures deaths { DeathsKeepCommands }
+    ensures looks { LooksKeepCommands }
+    ensures ticks { TicksKeepCommands }
+{}

@@ -1,0 +1,5 @@
+pub mod FitLemmas
+pub mod BegunLemmas
+pub mod MapLemmas
+pub mod SearchLemmas
+pub mod UndoLemmas

@@ -1,0 +1,3 @@
+pub mod Undos
+pub mod Transactions
+pub mod Limits

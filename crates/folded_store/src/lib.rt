@@ -1,0 +1,22 @@
+//! The fold of a list of entries over the tree of blocks: the pairs, and what each open transaction would put back.
+//!
+//! Contracts see a `FoldedStore` as the `Folded` of the entries that it took: the map of the pairs, and the open
+//! transactions, the latest begun first. `apply` takes any entry whose key and value are within their limits, and is one
+//! step of the fold; it tells exactly the spans that the entry changed, and an increment's sum. Reads are as those of the
+//! plain store, and `run_for` is the tree's.
+//!
+//! Out of memory in the middle of an entry a part of it may be done: no clause says which, and such a store is to be let go.
+#![tactic(auto)]
+
+mod begun;
+mod changing;
+mod entry_fit;
+mod folded_store;
+mod open_transaction;
+mod undo_item;
+mod undo_list;
+mod undoing;
+
+pub use entry_fit::entry_fits;
+pub use folded_store::FoldedStore;
+pub use open_transaction::TransactionName;

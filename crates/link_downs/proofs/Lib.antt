@@ -1,0 +1,14 @@
+pub mod OnConn
+pub mod OffConn
+pub mod NumberedPuts
+pub mod BoundPuts
+pub mod BoundConn
+pub mod BoundPieces
+pub mod ServerLater
+pub mod SiteConns
+pub mod OrderPieces
+pub mod StepWays
+pub mod WaysMore
+pub mod LinkedConns
+pub mod ReplyLists
+pub mod CarriedWays

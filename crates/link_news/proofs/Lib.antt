@@ -1,0 +1,5 @@
+pub mod NewsNode
+pub mod LearntSite
+pub mod NewsSite
+pub mod NewsPlain
+pub mod NewsKept

@@ -1,0 +1,9 @@
+pub mod RoundLanes
+pub mod RoundsEnds
+pub mod RoundSessions
+pub mod RoundInputs
+pub mod RoundSites
+pub mod RoundNews
+pub mod RoundApps
+pub mod RoundJobs
+pub mod RoundCommands

@@ -1,0 +1,15 @@
+pub mod Counted
+pub mod Gave
+pub mod GavePieces
+pub mod RoundStays
+pub mod FramesTaken
+pub mod GaveRounds
+pub mod GivenTests
+pub mod FrameGiven
+pub mod MessageKinds
+pub mod StepGiven
+pub mod LanesGiven
+pub mod LiveApps
+pub mod RoundSteps
+pub mod RoundsServer
+pub mod RoundsMoves
