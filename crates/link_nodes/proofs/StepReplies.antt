@@ -27,7 +27,7 @@ use Rattle.data_rules.specs.declared.rows.Role.{Role}
 use Rattle.data_rules.specs.declared.rows.Role.TheVariants.{Waiting, Bound, Closing}
 use Rattle.recovery_round.specs.RoundWords.{Round}
 use Rattle.cluster_runs.specs.Connections.{link_of}
-use Rattle.cluster_invariant.proofs.Deeds.{order_by}
+use Rattle.cluster_invariant.proofs.Deeds.{deeds_grow, order_by}
 use Rattle.data_rules.specs.declared.rows.Says.{Says}
 use Rattle.data_rules.specs.declared.rows.Says.TheVariants.{NewWelcome, EpochWelcome, ResetOf, GrantOf, AnswerOf}
 use Rattle.data_rules.specs.Conns.{role_of}
@@ -62,7 +62,6 @@ use Rattle.cluster_invariant.proofs.PieceMay.{Came, Coming, begins}
 use Rattle.cluster_invariant.proofs.PiecesOfSteps.{StepFrom, synced_state}
 use Rattle.cluster_invariant.proofs.Small.{of_some}
 use Rattle.cluster_invariant.proofs.Written.{place_kept}
-use Rattle.dials_server.proofs.KnownServer.{deeds_grow}
 use Rattle.data_ends_kept.proofs.HelloComes.{hello_takes}
 use Rattle.data_ends_kept.proofs.HellosTaken.{FirstFrames, old_takes}
 use Rattle.data_ends_kept.proofs.NodeEndsServer as ends
