@@ -1,23 +1,19 @@
 -- Steps of the plain machine that a script's lines make.
-use Rattle.std.proofs.Common.{◌≡◌, ℕ, ◌+◌, Bool, true, false, cond, not, List, [], ◌∷◌, ◌++◌, length, Option, None, Some, refl, ap, ◌∙◌, arith, length-append}
+use Rattle.std.proofs.Common.{◌≡◌, ℕ, ◌+◌, Bool, true, false, List, [], ◌∷◌, ◌++◌, length, Option, None, Some, refl, sym, ap, ◌∙◌, arith, length-append}
 use Rattle.std.specs.Option.{IfSome}
-use Rattle.std.specs.List.{filter}
 use Rattle.std.proofs.lemmas.Bool.{false≢true}
 use Rattle.plain_orders.specs.declared.act.Act.{Act}
 use Rattle.plain_orders.specs.declared.act.Act.TheVariants.{Opened, Enter, Synced, Met, Issue, Read}
 use Rattle.plain_orders.specs.declared.entry.Entry.{Entry}
-use Rattle.plain_orders.specs.declared.entry.Entry.TheVariants.{Opened as OpenedEntry, Update}
+use Rattle.plain_orders.specs.declared.entry.Entry.TheVariants.{Epoch, Opened as OpenedEntry, Update}
 use Rattle.plain_orders.specs.declared.item.Item.TheVariants.{Op as OpItem}
 use Rattle.plain_orders.specs.declared.op.Op.{Op}
 use Rattle.plain_orders.specs.declared.op.Op.TheVariants.{Set, Kill, Add}
 use Rattle.plain_orders.specs.declared.question.Question.{Question}
 use Rattle.plain_orders.specs.declared.via.Via.TheVariants.{Fetched}
 use Rattle.plain_orders.specs.declared.layout.Layout.{Layout}
-use Rattle.plain_orders.specs.Fold.{Folded, fold_step, nothing_folded, op_after}
-use Rattle.plain_orders.specs.Ordered.{OpMay}
-use Rattle.plain_orders.specs.PairMap.{Map, is_under}
-use Rattle.plain_orders.specs.Keys.{HasKeys}
-use Rattle.plain_orders.proofs.OrderKeys.{put_keys}
+use Rattle.plain_orders.specs.Ordered.{OpMay, MayFollow}
+use Rattle.plain_orders.specs.PairMap.{Map}
 use Rattle.plain_orders.proofs.NodeKeys.{child_key}
 use Rattle.plain_runs.specs.Items.{is_change_op}
 use Rattle.plain_runs.specs.JobRows.{asked_key}
@@ -28,21 +24,28 @@ use Rattle.subscript_keys.specs.Key.{IsKey, IsSub, IsWithinLimit}
 use Rattle.app_job.specs.Sites.{Site, IsSite}
 use Rattle.app_job.specs.Limits.{NextMay}
 use Rattle.plain_orders.proofs.EntryLemmas.{count-push, live-push}
-use Rattle.plain_orders.proofs.FoldLemmas.{fold-push}
 use Rattle.plain_orders.specs.Own.{Issued}
 use Rattle.plain_runs.specs.Plain.{Plain, Session, start}
 use Rattle.plain_runs.specs.Step.{after}
+use Rattle.global_store.specs.declared.global_store.GlobalStore.{GlobalStore}
+use Rattle.global_store.specs.Stores.{IsStoreOf}
 use Rattle.cluster_call.specs.Running.{IsBetweenLines, HasJob, IsAnswered, SESSION}
 
-pub opened_stands : (l : Layout) → IsBetweenLines (after l start (Opened 0 [])) 1 0 false nothing_folded
-opened_stands l = record {
+-- the first entry, which a data server writes as it opens on a fresh journal
+abbrev pub first_epoch : Entry
+first_epoch = Epoch 1
+
+pub epoch_follows : MayFollow [] first_epoch
+epoch_follows = record { is_next = refl; in_range = omega arith }
+
+pub opened_stands : (l : Layout) (store : GlobalStore) → IsStoreOf (first_epoch ∷ []) store → IsBetweenLines (after l start (Opened 0 [])) 1 0 false store
+opened_stands l store stored = record {
   opened = refl;
   past = refl;
   size = refl;
   synced = refl;
   not_due = refl;
-  folds = refl;
-  keys = tt;
+  stored = stored;
   unbroken = refl;
   seen = omega arith;
   free = refl;
@@ -65,16 +68,20 @@ behind_save l p = after l (behind_open l p) (Synced 0 2)
 abbrev pub behind_met : Layout → Plain → Plain
 behind_met l p = after l (behind_save l p) (Met 0 0 SESSION)
 
+-- the session's Open may follow
+pub open_follows : (p : Plain) (entries issued : ℕ) (store : GlobalStore) → IsBetweenLines p entries issued false store → MayFollow (p.server_at 0).order (OpenedEntry SESSION 0)
+open_follows p entries issued store h = rw h.pair.order (record { is_started = λ e. omega (arith, e); is_position = refl; is_free = refl })
+
 -- behind a connection
-pub connected_stands : (l : Layout) (p : Plain) (entries issued : ℕ) (store : Folded) → IsBetweenLines p entries issued false store → HasJob l → IsBetweenLines (behind_met l p) 2 0 true store
-connected_stands l p entries issued store h job = record {
+pub connected_stands : (l : Layout) (p : Plain) (entries issued : ℕ) (old new : GlobalStore) → IsBetweenLines p entries issued false old → HasJob l
+    → IsStoreOf ((p.server_at 0).order ++ OpenedEntry SESSION 0 ∷ []) new → IsBetweenLines (behind_met l p) 2 0 true new
+connected_stands l p entries issued old new h job stored = record {
   opened = h.opened;
   past = h.past;
   size = rw h.pair.order refl;
   synced = refl;
   not_due = h.not_due;
-  folds = fold-push (p.server_at 0).order (OpenedEntry SESSION 0) ∙ h.folds;
-  keys = h.keys;
+  stored = stored;
   unbroken = refl;
   seen = rw job.job (omega arith);
   free = rw job.job h.free;
@@ -119,37 +126,25 @@ issued_op line op = record { item = OpItem op; txn = 0; job = 0; line = line }
 abbrev with_op : Session → ℕ → Op → Session
 with_op its line op = record its { issued = its.issued ++ issued_op line op ∷ [] }
 
-known_after : (l : Layout) (p : Plain) (entries issued line w : ℕ) (store : Folded) (op : Op) → is_change_op op ≡ true → (h : IsBetweenLines p entries issued true store) → HasJob l
+known_after : (l : Layout) (p : Plain) (entries issued line w : ℕ) (store : GlobalStore) (op : Op) → is_change_op op ≡ true → (h : IsBetweenLines p entries issued true store) → HasJob l
     → ((behind_issue l p line w op).server_at 0).session_at SESSION ≡ Some (with_op h.pair.0 line op)
 known_after l p entries issued line w store (Set key value) e h job = rw job.job (rw h.pair.1.session (rw h.pair.1.known (rw h.level refl)))
 known_after l p entries issued line w store (Kill key) e h job = rw job.job (rw h.pair.1.session (rw h.pair.1.known (rw h.level refl)))
 known_after l p entries issued line w store (Add key amount) e h job = absurd (false≢true e)
 
--- what stays outside a node
-outside_keys : (f : List ℕ → Bool) (m : Map) → HasKeys m → HasKeys (filter (λ q. f q.0) m)
-outside_keys f [] h = tt
-outside_keys f (q ∷ m) h = go (f q.0) (outside_keys f m h.1)
-  where
-    go : (t : Bool) → HasKeys (filter (λ r. f r.0) m) → HasKeys (cond t (q ∷ filter (λ r. f r.0) m) (filter (λ r. f r.0) m))
-    go true more = (h.0, more)
-    go false more = more
+-- the update may follow
+pub update_follows : (p : Plain) (entries issued : ℕ) (store : GlobalStore) (op : Op) → OpMay 0 op → IsBetweenLines p entries issued true store → MayFollow (p.server_at 0).order (update_entry (issued + 1) op)
+update_follows p entries issued store op may h = record { is_live = h.pair.1.is_live; is_next = ap (λ n. n + 1) (sym h.pair.1.count); within = may }
 
--- the keys behind an update
-op_keys : (m : Map) (op : Op) → is_change_op op ≡ true → OpMay 0 op → HasKeys m → HasKeys (op_after m op)
-op_keys m (Set key value) e may h = put_keys key value m may.key_may.is_key h
-op_keys m (Kill key) e may h = outside_keys (λ k. not (is_under key k)) m h
-op_keys m (Add key amount) e may h = absurd (false≢true e)
-
-pub op_stands : (l : Layout) (p : Plain) (entries issued line : ℕ) (store : Folded) (op : Op) → is_change_op op ≡ true → OpMay 0 op → IsBetweenLines p entries issued true store → HasJob l
-    → IsBetweenLines (behind_update l p line (issued + 1) (entries + 1) op) (entries + 1) (issued + 1) true (fold_step store (update_entry (issued + 1) op))
-op_stands l p entries issued line store op e may h job = record {
+pub op_stands : (l : Layout) (p : Plain) (entries issued line : ℕ) (old new : GlobalStore) (op : Op) → is_change_op op ≡ true → IsBetweenLines p entries issued true old → HasJob l
+    → IsStoreOf ((p.server_at 0).order ++ update_entry (issued + 1) op ∷ []) new → IsBetweenLines (behind_update l p line (issued + 1) (entries + 1) op) (entries + 1) (issued + 1) true new
+op_stands l p entries issued line old new op e h job stored = record {
   opened = h.opened;
   past = h.past;
   size = omega (arith, h.size, length-append (p.server_at 0).order (update_entry (issued + 1) op ∷ []));
   synced = refl;
   not_due = h.not_due;
-  folds = fold-push (p.server_at 0).order (update_entry (issued + 1) op) ∙ ap (λ f. fold_step f (update_entry (issued + 1) op)) h.folds;
-  keys = op_keys store.pairs op e may h.keys;
+  stored = stored;
   unbroken = h.unbroken;
   seen = omega (arith, h.seen);
   free = h.free;
@@ -160,7 +155,7 @@ op_stands l p entries issued line store op e may h job = record {
     with_op h.pair.0 line op,
     record {
       session = h.pair.1.session;
-      known = known_after l p entries issued line (issued + 1) store op e h job;
+      known = known_after l p entries issued line (issued + 1) old op e h job;
       told = h.pair.1.told;
       all_issued = omega (arith, h.pair.1.all_issued, length-append h.pair.0.issued (issued_op line op ∷ []));
       is_live = live-push (p.server_at 0).order (update_entry (issued + 1) op) SESSION ∙ h.pair.1.is_live;
@@ -169,7 +164,7 @@ op_stands l p entries issued line store op e may h job = record {
   );
 }
 
-pub read_stands : (l : Layout) (p : Plain) (entries issued line : ℕ) (store : Folded) (question : Question) → IsBetweenLines p entries issued true store
+pub read_stands : (l : Layout) (p : Plain) (entries issued line : ℕ) (store : GlobalStore) (question : Question) → IsBetweenLines p entries issued true store
     → IsBetweenLines (after l p (Read 0 line 0 entries Fetched question)) entries issued true store
 read_stands l p entries issued line store question h = record {
   opened = h.opened;
@@ -177,8 +172,7 @@ read_stands l p entries issued line store question h = record {
   size = h.size;
   synced = h.synced;
   not_due = h.not_due;
-  folds = h.folds;
-  keys = h.keys;
+  stored = h.stored;
   unbroken = h.unbroken;
   seen = omega arith;
   free = h.free;

@@ -7,7 +7,7 @@ use Rattle.plain_orders.specs.declared.item.Item.TheVariants.{Op as OpItem}
 use Rattle.plain_orders.specs.declared.layout.Layout.{Layout}
 use Rattle.plain_orders.specs.declared.op.Op.TheVariants.{Set as SetOp, Kill as KillOp}
 use Rattle.plain_orders.specs.Entries.{count, live}
-use Rattle.plain_orders.specs.Fold.{Folded, fold}
+use Rattle.plain_orders.specs.Fold.{fold}
 use Rattle.subscript_keys.specs.declared.limits.TheConstants.{VALUE_LIMIT}
 use Rattle.subscript_keys.specs.Key.{IsKey, IsSub, IsWithinLimit}
 use Rattle.plain_orders.specs.declared.question.Question.{Question}
@@ -15,7 +15,8 @@ use Rattle.plain_orders.specs.declared.question.Question.TheVariants.{Get as Get
 use Rattle.plain_orders.specs.Answers.{data_at, next_key, IsSubIn}
 use Rattle.plain_orders.specs.Ordered.{KeyMay}
 use Rattle.plain_orders.specs.PairMap.{Map, value_at}
-use Rattle.plain_orders.specs.Keys.{HasKeys}
+use Rattle.global_store.specs.declared.global_store.GlobalStore.{GlobalStore}
+use Rattle.global_store.specs.Stores.{IsStoreOf}
 use Rattle.plain_runs.specs.JobRows.{asked_key}
 use Rattle.plain_runs.specs.Plain.{Plain, Server, Session}
 use Rattle.plain_runs.specs.Recording.{state_of}
@@ -100,15 +101,14 @@ abbrev pub IsConnected : Server → ℕ → Bool → Type 0
 IsConnected s issued false = IsUnmet s issued
 IsConnected s issued true = (its : Session) × IsMet s issued its
 
--- where the plain machine is between two lines: one list, all of it synced, that folds to the store
-pub record IsBetweenLines (p : Plain) (entries issued : ℕ) (connected : Bool) (store : Folded) : Type 0 where
+-- where the plain machine is between two lines: one list, all of it synced, that the store stands for
+pub record IsBetweenLines (p : Plain) (entries issued : ℕ) (connected : Bool) (store : GlobalStore) : Type 0 where
   pub opened : (p.server_at 0).opened ≡ true
   pub past : (p.server_at 0).past ≡ []
   pub size : length (p.server_at 0).order ≡ entries
   pub synced : (p.server_at 0).synced ≡ entries
   pub not_due : (p.server_at 0).due ≡ None
-  pub folds : fold (p.server_at 0).order ≡ store
-  pub keys : HasKeys store.pairs
+  pub stored : IsStoreOf (p.server_at 0).order store
   pub unbroken : ((p.server_at 0).pair_at 0).broke ≡ None
   pub seen : ((p.server_at 0).known_at 0).seen ≤ entries
   pub free : ((p.server_at 0).known_at 0).bar ≡ None
@@ -121,7 +121,11 @@ pub record IsBetweenLines (p : Plain) (entries issued : ℕ) (connected : Bool) 
 abbrev pub IsAtRest : ScriptRun → Type 0
 IsAtRest run = IsBetweenLines (state_of run.recorder) run.length run.issued run.is_connected run.store
 
--- a question has its answer on the store's pairs, and its node is within the limits
+-- the pairs that the data server's list makes
+abbrev pub pairs_in : ScriptRun → Map
+pairs_in run = (fold ((state_of run.recorder).server_at 0).order).pairs
+
+-- a question has its answer on these pairs, and its node is within the limits
 abbrev pub IsAnswered : Map → Question → Type 0
 IsAnswered m (GetQuestion key value) = (value ≡ value_at m key) × KeyMay key
 IsAnswered m (ShapeQuestion key code) = (code ≡ data_at m key) × KeyMay key

@@ -70,7 +70,7 @@ impl ScriptRun {
         ensures layout { self.new.recorder.layout ≡ self.old.recorder.layout }
         ensures did { IfOk result (λ answer. DidTodo self.old.recorder.layout line (Todo.Job 0 command.now) self.old.recorder.acts self.new.recorder.acts (answer ∷ [])) }
     {
-        self.be_connected()?;
+        self.be_connected(alloc)?;
         let answer = self.do_command(alloc, line, command)?;
         Ok(AnswerLine {
             job: JOB,

@@ -1,7 +1,7 @@
 //! Reads of a run.
 ghost use Rattle.std.specs.Prelude.{◌≡◌, true, [], ◌∷◌, OnOk, IfOk};
 ghost use Rattle.app_job.specs.Limits.{NextMay};
-ghost use Rattle.cluster_call.specs.Running.{AddsAct, DidCommand, HasJob, IsAnswered, IsAtRest, IsHere};
+ghost use Rattle.cluster_call.specs.Running.{AddsAct, DidCommand, HasJob, IsAnswered, IsAtRest, IsHere, pairs_in};
 
 use crate::copies::{copy_sub, copy_value};
 use crate::script_run::{JOB, SERVER, ScriptRun};
@@ -31,7 +31,7 @@ impl ScriptRun {
         requires met { self.old.is_connected ≡ true }
         requires stands { IsAtRest self.old }
         requires job { HasJob self.old.recorder.layout }
-        requires answer { IsAnswered self.old.store.pairs question }
+        requires answer { IsAnswered (pairs_in self.old) question }
         ensures stands { OnOk result (IsAtRest self.new) }
         ensures layout { self.new.recorder.layout ≡ self.old.recorder.layout }
         ensures length { self.new.length ≡ self.old.length }

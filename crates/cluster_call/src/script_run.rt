@@ -3,8 +3,8 @@
 ghost use Rattle.std.specs.Prelude.{◌≡◌, true, false, [], ◌∷◌, OnOk, IfOk};
 ghost use Rattle.cluster_call.specs.Running.{AddsServed, HasJob, IsAtRest};
 
+use global_store::GlobalStore;
 use plain_orders::{Act, Entries, Entry, Layout};
-use plain_programs::PlainStore;
 use plain_runs::Recorder;
 use std::alloc::{AllocError, Global};
 
@@ -18,12 +18,12 @@ pub const JOB: u16 = 0;
 /// The only session: its Open is the second entry of the data server's list.
 pub const SESSION: u64 = 2;
 
-/// A run: the trail so far, what the data server's list folds to, and where the data server, the pair and the
-/// job stand.
+/// A run: the trail so far, the store of the data server's list, and where the data server, the pair and the job
+/// stand.
 #[derive(Drop)]
 pub struct ScriptRun {
     pub recorder: Recorder,
-    pub store: PlainStore,
+    pub store: GlobalStore,
     /// The length of the data server's list, all of which is synced.
     pub length: u64,
     /// How many items the job issued.
@@ -43,9 +43,11 @@ impl ScriptRun {
             server: SERVER,
             entries: Entries::new(alloc),
         })?;
+        let mut store = GlobalStore::new(alloc)?;
+        store.apply(alloc, &Entry::Epoch { number: 1 })?;
         Ok(ScriptRun {
             recorder,
-            store: PlainStore::new(alloc),
+            store,
             length: 1,
             issued: 0,
             is_connected: false,
@@ -53,7 +55,7 @@ impl ScriptRun {
     }
 
     /// Connects the pair.
-    fn connect(&mut self) -> Result<(), AllocError>
+    fn connect(&mut self, alloc: Global) -> Result<(), AllocError>
         requires unmet { self.old.is_connected ≡ false }
         requires stands { IsAtRest self.old }
         requires job { HasJob self.old.recorder.layout }
@@ -62,12 +64,14 @@ impl ScriptRun {
         ensures layout { self.new.recorder.layout ≡ self.old.recorder.layout }
         ensures adds { OnOk result (AddsServed self.old.recorder.layout self.old.recorder.acts self.new.recorder.acts) }
     {
+        let entry = Entry::Opened {
+            session: SESSION,
+            app: APP,
+        };
+        self.store.apply(alloc, &entry)?;
         self.recorder.note(Act::Enter {
             server: SERVER,
-            entry: Entry::Opened {
-                session: SESSION,
-                app: APP,
-            },
+            entry,
         })?;
         self.recorder.note(Act::Synced {
             server: SERVER,
@@ -85,7 +89,7 @@ impl ScriptRun {
     }
 
     /// Connects the pair where it isn't connected yet.
-    pub fn be_connected(&mut self) -> Result<(), AllocError>
+    pub fn be_connected(&mut self, alloc: Global) -> Result<(), AllocError>
         requires stands { IsAtRest self.old }
         requires job { HasJob self.old.recorder.layout }
         ensures stands { OnOk result (IsAtRest self.new) }
@@ -96,6 +100,6 @@ impl ScriptRun {
         if self.is_connected {
             return Ok(());
         }
-        self.connect()
+        self.connect(alloc)
     }
 }

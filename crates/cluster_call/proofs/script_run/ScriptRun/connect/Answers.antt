@@ -1,10 +1,10 @@
-use Rattle.std.proofs.Common.{◌≡◌, ◌∷◌, [], Bool, true, sym, subst}
+use Rattle.std.proofs.Common.{◌≡◌, ◌∷◌, [], Bool, true, false, sym, subst}
 use Rattle.plain_orders.specs.declared.act.Act.TheVariants.{Synced, Met}
 use Rattle.plain_runs.specs.Plain.{Plain}
 use Rattle.plain_runs.specs.Recording.{state_of}
 use Rattle.cluster_call.specs.Running.{IsBetweenLines}
 use Rattle.cluster_call.proofs.AddLemmas.{served_met, served_open, served_save, state_behind_three, three_more}
-use Rattle.cluster_call.proofs.RunSteps.{connected_stands, behind_met, open_session}
+use Rattle.cluster_call.proofs.RunSteps.{connected_stands, behind_met, open_follows, open_session}
 use Rattle.cluster_call.proofs.script_run.ScriptRun.connect.Goals as goal
 
 pub returns-clause-stands : goal.returns-clause-stands
@@ -12,9 +12,12 @@ returns-clause-stands c =
     let met : state_of c.note-3.new.self ≡ behind_met c.args.self.now.recorder.layout (state_of c.args.self.now.recorder) =
     state_behind_three c.args.self.now.recorder.layout c.note.new.self.layout c.note-2.new.self.layout (state_of c.args.self.now.recorder) (state_of c.note.new.self) (state_of c.note-2.new.self) (state_of c.note-3.new.self) open_session (Synced 0 2) (Met 0 0 2)
     c.in_ok-note.ensures.layout c.in_ok-note-2.ensures.layout c.in_ok-note.ensures.state c.in_ok-note-2.ensures.state c.in_ok-note-3.ensures.state in
-    subst (λ (p : Plain). IsBetweenLines p 2 0 true c.args.self.now.store) (sym met)
-    (connected_stands c.args.self.now.recorder.layout (state_of c.args.self.now.recorder) c.args.self.now.length c.args.self.now.issued c.args.self.now.store
-    (subst (λ (b : Bool). IsBetweenLines (state_of c.args.self.now.recorder) c.args.self.now.length c.args.self.now.issued b c.args.self.now.store) c.requires.unmet c.requires.stands) c.requires.job)
+    let old = c.args.self.now in
+    let stands : IsBetweenLines (state_of old.recorder) old.length old.issued false old.store =
+    subst (λ (b : Bool). IsBetweenLines (state_of old.recorder) old.length old.issued b old.store) c.requires.unmet c.requires.stands in
+    subst (λ (p : Plain). IsBetweenLines p 2 0 true c.apply.new.self) (sym met)
+    (connected_stands old.recorder.layout (state_of old.recorder) old.length old.issued old.store c.apply.new.self stands c.requires.job
+    (c.in_ok-apply.ensures.next ((state_of old.recorder).server_at 0).order stands.stored (open_follows (state_of old.recorder) old.length old.issued old.store stands)))
 
 pub returns-clause-adds : goal.returns-clause-adds
 returns-clause-adds c =
