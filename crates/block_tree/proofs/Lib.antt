@@ -7,3 +7,4 @@ pub mod PutLemmas
 pub mod RemovalLemmas
 pub mod RunLemmas
 pub mod EndLemmas
+pub mod FlatLemmas

@@ -1,3 +1,4 @@
 pub mod TreeWords
 pub mod LeafWords
 pub mod Removals
+pub mod FlatWords

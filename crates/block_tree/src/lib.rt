@@ -12,15 +12,20 @@
 
 mod block_tree;
 mod copying;
+mod flat_pairs;
 mod key_end;
 mod leaf;
+mod leaf_table;
 mod leaves;
 mod limits;
 mod making_room;
+mod pair_table;
 mod removing;
 mod room;
 mod sizes;
 mod tidying;
 
 pub use block_tree::BlockTree;
+pub use flat_pairs::FlatPairs;
 pub use key_end::{is_before_end, keys_are_before_end};
+pub use pair_table::PairTable;
