@@ -21,36 +21,29 @@ use subscript_keys::{KeyBytes, Pairs, Run, Span, ValueBytes};
 #[derive(Drop)]
 pub struct FlatPairs {
     pairs: BTreeMap<KeyBytes, ValueBytes>,
-    /// The bytes behind the keys of all nodes.
-    end: KeyBytes,
     alloc: Global,
 }
 
 impl Model for FlatPairs {
-    ghost use Rattle.std.specs.Prelude.{◌≡◌};
     ghost use Rattle.plain_orders.specs.PairMap.{Map};
     ghost use Rattle.block_tree.specs.FlatWords.{AreShort};
-    ghost use Rattle.block_tree.specs.TreeWords.{end_of_keys};
 
     ghost Value = { Map };
 
     ghost view = { λ f. f.pairs.entries };
 
-    ghost invariant = { λ f. AreShort f.pairs.entries × (f.end ≡ end_of_keys) };
+    ghost invariant = { λ f. AreShort f.pairs.entries };
 }
 
 impl FlatPairs {
     /// With no pair.
-    pub fn new(alloc: Global) -> Result<FlatPairs, AllocError>
-        ensures { IfOk result (λ pairs. pairs ≡ []) }
+    pub fn new(alloc: Global) -> FlatPairs
+        ensures { result ≡ [] }
     {
-        let mut end = Vec::with_capacity(alloc, 1)?;
-        end.push(0xFF)?;
-        Ok(FlatPairs {
+        FlatPairs {
             pairs: BTreeMap::new(alloc),
-            end: KeyBytes::from_vec(end),
             alloc,
-        })
+        }
     }
 
     /// The span of the run that holds the key.
@@ -61,16 +54,23 @@ impl FlatPairs {
         ensures whole { FitsOneBlock self.now → IfOk result (λ span. span ≡ all_keys) }
     {
         let first = KeyBytes::from_vec(Vec::new(self.alloc));
-        if measure(&self.pairs, &first, &self.end) <= WHOLE_ROOM {
-            return span_of(&first, &self.end);
+        let end = end_of_keys(self.alloc)?;
+        if measure(&self.pairs, &first, &end) <= WHOLE_ROOM {
+            return span_of(&first, &end);
         }
-        self.cut_for(first, key)
+        self.cut_for(first, &end, key)
     }
 
     /// The same where the pairs don't all fit one block: the first run begins at the empty key, and each other one at its first
     /// key.
-    fn cut_for(&self, first: KeyBytes, key: &KeyBytes) -> Result<Span, AllocError>
+    fn cut_for(
+        &self,
+        first: KeyBytes,
+        end: &KeyBytes,
+        key: &KeyBytes,
+    ) -> Result<Span, AllocError>
         requires first { first ≡ [] }
+        requires end { end.now ≡ end_of_keys }
         requires below { key_cmp key.now end_of_keys ≡ Less }
         ensures holds { IfOk result (λ span. contains span key.now ≡ true) }
         ensures fits { IfOk result (λ span. 7 + length span.lo + length span.hi + size (within self.now span) ≤ 8192) }
@@ -92,14 +92,14 @@ impl FlatPairs {
             last = Some((next, size_of(next, value)));
         }
         if let Some((edge, bytes)) = last {
-            if is_full(&lo, before + bytes, &self.end) {
+            if is_full(&lo, before + bytes, end) {
                 if key < edge {
                     return span_of(&lo, edge);
                 }
                 lo = edge.clone()?;
             }
         }
-        span_of(&lo, &self.end)
+        span_of(&lo, end)
     }
 }
 
@@ -140,6 +140,15 @@ impl PairTable for FlatPairs {
         remove_all(&mut self.pairs, &mut bytes, keys, &mut removed);
         Ok(Pairs::from_vec(removed))
     }
+}
+
+/// The bytes behind the keys of all nodes.
+fn end_of_keys(alloc: Global) -> Result<KeyBytes, AllocError>
+    ensures { IfOk result (λ end. end ≡ end_of_keys) }
+{
+    let mut end = Vec::with_capacity(alloc, 1)?;
+    end.push(0xFF)?;
+    Ok(KeyBytes::from_vec(end))
 }
 
 /// Whether a block can't hold so many bytes of pairs between these two edges.

@@ -11,7 +11,7 @@ use std::alloc::AllocError;
 use subscript_keys::{KeyBytes, Pairs, Run, Span, ValueBytes};
 
 /// The pairs of a store, cut into runs.
-pub trait PairTable {
+pub trait PairTable: Drop {
     /// The list of the pairs, which rises by their keys.
     ghost pairs: { Self → Map };
 

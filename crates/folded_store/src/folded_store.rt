@@ -1,4 +1,4 @@
-ghost use Rattle.std.specs.Prelude.{◌≡◌, ◌≤◌, Some, OnOk, IfOk, IfSome, IsTrue, true, length, filter, map};
+ghost use Rattle.std.specs.Prelude.{◌≡◌, ◌≤◌, [], Some, OnOk, IfOk, IfSome, IsTrue, true, length, filter, map};
 ghost use Rattle.std.specs.Option.{option_copied};
 ghost use Rattle.std.specs.List.{list_any};
 ghost use Rattle.std.specs.declared.cmp.Ordering.TheVariants.{Less};
@@ -23,7 +23,7 @@ use crate::changing::remove_node;
 use crate::open_transaction::TransactionName;
 use crate::undo_item::UndoItem;
 use crate::undoing::undo_all;
-use block_tree::BlockTree;
+use block_tree::PairTable;
 use plain_orders::{Applied, Entry, Op, Spans, Sum};
 use plain_programs::{
     data_code, decimal_value, end_of_child, op_spans, sub_behind, sum_of, whole_of,
@@ -35,31 +35,32 @@ use subscript_keys::{KeyBytes, Run, Sub, ValueBytes};
 /// The pairs that a list of entries makes, and the transactions that are open after it. Contracts see it as the fold of
 /// that list.
 #[derive(Drop)]
-pub struct FoldedStore {
-    pairs: BlockTree,
+pub struct FoldedStore<P: PairTable> {
+    pairs: P,
     begun: Begun,
 }
 
-impl Model for FoldedStore {
+impl<P: PairTable> Model for FoldedStore<P> {
     ghost use Rattle.plain_orders.specs.Fold.{Folded};
     ghost use Rattle.folded_store.specs.Limits.{FoldedFits};
 
     ghost Value = { Folded };
 
-    ghost view = { λ s. record { pairs = s.pairs; begun = s.begun } };
+    ghost view = { λ s. record { pairs = P.pairs s.pairs; begun = s.begun } };
 
-    ghost invariant = { λ s. FoldedFits (record { pairs = s.pairs; begun = s.begun }) };
+    ghost invariant = { λ s. FoldedFits (record { pairs = P.pairs s.pairs; begun = s.begun }) };
 }
 
-impl FoldedStore {
-    /// With no pair.
-    pub fn new(alloc: Global) -> Result<FoldedStore, AllocError>
-        ensures { IfOk result (λ store. store ≡ nothing_folded) }
+impl<P: PairTable> FoldedStore<P> {
+    /// Of no entry, over a table with no pair.
+    pub fn over(alloc: Global, pairs: P) -> FoldedStore<P>
+        requires { P.pairs pairs ≡ [] }
+        ensures { result ≡ nothing_folded }
     {
-        Ok(FoldedStore {
-            pairs: BlockTree::new(alloc)?,
+        FoldedStore {
+            pairs,
             begun: Begun::new(alloc),
-        })
+        }
     }
 
     /// How many nodes have a value.

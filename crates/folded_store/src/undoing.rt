@@ -7,16 +7,16 @@ ghost use Rattle.folded_store.specs.Undos.{undo_of};
 use crate::changing::{put_pairs_back, put_value_back};
 use crate::undo_item::UndoItem;
 use crate::undo_list::UndoList;
-use block_tree::BlockTree;
+use block_tree::PairTable;
 use plain_orders::Spans;
 use std::alloc::{AllocError, Global};
 
 /// Puts an item back. Out of memory, a part of it is put back.
-fn undo_item(alloc: Global, pairs: &mut BlockTree, item: UndoItem) -> Result<(), AllocError>
-    requires pairs { MapFits pairs.old }
+fn undo_item<P: PairTable>(alloc: Global, pairs: &mut P, item: UndoItem) -> Result<(), AllocError>
+    requires pairs { MapFits (P.pairs pairs.old) }
     requires item { UndoFits (undo_of item) }
-    ensures ok { OnOk result (pairs.new ≡ undone pairs.old (undo_of item)) }
-    ensures fits { MapFits pairs.new }
+    ensures ok { OnOk result (P.pairs pairs.new ≡ undone (P.pairs pairs.old) (undo_of item)) }
+    ensures fits { MapFits (P.pairs pairs.new) }
 {
     match item {
         UndoItem::OldValue { key, value } => put_value_back(alloc, pairs, key, value),
@@ -26,17 +26,17 @@ fn undo_item(alloc: Global, pairs: &mut BlockTree, item: UndoItem) -> Result<(),
 
 /// Puts all items of a transaction back, the newest first, and adds the spans in which they change something. Out of
 /// memory, a part of them is put back.
-pub fn undo_all(
+pub fn undo_all<P: PairTable>(
     alloc: Global,
-    pairs: &mut BlockTree,
+    pairs: &mut P,
     undo: UndoList,
     spans: &mut Spans,
 ) -> Result<(), AllocError>
-    requires pairs { MapFits pairs.old }
+    requires pairs { MapFits (P.pairs pairs.old) }
     requires undo { UndosFit undo }
-    ensures ok { OnOk result (pairs.new ≡ all_undone pairs.old undo) }
+    ensures ok { OnOk result (P.pairs pairs.new ≡ all_undone (P.pairs pairs.old) undo) }
     ensures spans { OnOk result (spans.new ≡ spans.old ++ map undo_span undo) }
-    ensures fits { MapFits pairs.new }
+    ensures fits { MapFits (P.pairs pairs.new) }
 {
     let mut undo = undo;
     while let Some(item) = undo.pop() {

@@ -19,6 +19,7 @@ ghost use Rattle.session_books.specs.Places.{close_place};
 ghost use Rattle.session_books.specs.Books.{owed_live};
 ghost use Rattle.global_store.specs.Stores.{IsStoreOf};
 
+use block_tree::BlockTree;
 use folded_store::{FoldedStore, TransactionName};
 use plain_orders::{Applied, Entry};
 use session_books::{Owed, SessionBooks};
@@ -28,7 +29,7 @@ use subscript_keys::{KeyBytes, Run, Sub, ValueBytes};
 /// The store of a data server.
 #[derive(Drop)]
 pub struct GlobalStore {
-    folded: FoldedStore,
+    folded: FoldedStore<BlockTree>,
     books: SessionBooks,
     /// Whether `apply` answered an `Err`.
     spent: bool,
@@ -40,7 +41,7 @@ impl GlobalStore {
         ensures { IfOk result (λ store. IsStoreOf [] store) }
     {
         Ok(GlobalStore {
-            folded: FoldedStore::new(alloc)?,
+            folded: FoldedStore::over(alloc, BlockTree::new(alloc)?),
             books: SessionBooks::new(alloc),
             spent: false,
         })

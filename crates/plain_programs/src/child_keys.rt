@@ -2,7 +2,7 @@ ghost use Rattle.std.specs.Prelude.{◌≡◌, ◌++◌, IfOk, IsTrue, Some};
 ghost use Rattle.subscript_keys.specs.Key.{sub_bytes, IsKey, IsSub};
 ghost use Rattle.subscript_keys.specs.Span.{span_hi};
 ghost use Rattle.plain_orders.specs.PairMap.{is_below};
-ghost use Rattle.plain_orders.specs.Answers.{IsSubIn};
+ghost use Rattle.plain_orders.specs.Answers.{data_code, IsSubIn};
 
 use std::alloc::{AllocError, Global};
 use subscript_keys::{KeyBytes, Sub, put_sub, take_sub};
@@ -35,5 +35,17 @@ pub fn sub_behind(
     match take_sub(alloc, rest)? {
         None => Ok(None),
         Some((sub, _after)) => Ok(Some(sub)),
+    }
+}
+
+/// The code of what stands at and below a node.
+pub fn data_code(has_value: bool, has_descendants: bool) -> u8
+    ensures { result ≡ data_code has_value has_descendants }
+{
+    match (has_descendants, has_value) {
+        (true, true) => 11,
+        (true, false) => 10,
+        (false, true) => 1,
+        (false, false) => 0,
     }
 }

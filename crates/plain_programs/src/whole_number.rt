@@ -1,10 +1,12 @@
-ghost use Rattle.std.specs.Prelude.{◌≡◌, ◌<◌, ◌≤◌, ◌^◌, IsTrue, IfOk, length, pos, if◌then◌else◌};
+ghost use Rattle.std.specs.Prelude.{◌≡◌, ◌+ℤ◌, ◌<◌, ◌≤◌, ◌^◌, IsTrue, IfOk, length, pos, if◌then◌else◌};
 ghost use Rattle.std.specs.List.{list_all};
 ghost use Rattle.subscript_keys.specs.declared.limits.TheConstants.{DIGIT_LIMIT, NUMBER_LIMIT};
 ghost use Rattle.plain_orders.specs.Numbers.{is_digit, is_natural, number_from, whole_of, integer_text};
+ghost use Rattle.plain_orders.specs.Fold.{sum_of};
 
+use plain_orders::Sum;
 use std::alloc::{AllocError, Global};
-use subscript_keys::{DIGIT_LIMIT, ValueBytes};
+use subscript_keys::{DIGIT_LIMIT, NUMBER_LIMIT, ValueBytes};
 
 /// Whether all bytes are digits.
 fn are_digits(bytes: &[u8]) -> bool
@@ -69,4 +71,14 @@ pub fn decimal_value(alloc: Global, number: i64) -> Result<ValueBytes, AllocErro
 {
     let text = format!(in alloc; "{number}")?;
     Ok(ValueBytes::from_vec(text.into_bytes()))
+}
+
+/// The sum of a whole number and an amount, if it has at most `DIGIT_LIMIT` digits.
+pub fn sum_of(number: i64, amount: i64) -> Sum
+    ensures { result ≡ sum_of (number +ℤ amount) }
+{
+    match number.checked_add(amount) {
+        Some(sum) if sum.unsigned_abs() < NUMBER_LIMIT => Sum::Whole(sum),
+        _ => Sum::Range,
+    }
 }

@@ -9,8 +9,8 @@ use Rattle.folded_store.proofs.MapLemmas.{span_of, killed}
 use Rattle.folded_store.proofs.changing.remove_node.Goals as goal
 
 pub returns-clause-removed : goal.returns-clause-removed
-returns-clause-removed c =
-    let m = c.args.pairs.now in
+returns-clause-removed g c =
+    let m = (g.P.PairTable.pairs c.args.pairs.now) in
     let span = c.in_ok-span.span in
     let same : span ≡ killed_span c.args.node.now = span_of span c.args.node.now c.in_ok-span.ensures.lo c.in_ok-span.ensures.hi in
     IfOk-weaker c.kill_span.result _ _
@@ -18,8 +18,8 @@ returns-clause-removed c =
     c.kill_span.ensures.removed
 
 pub returns-clause-ok : goal.returns-clause-ok
-returns-clause-ok c =
-    let m = c.args.pairs.now in
+returns-clause-ok g c =
+    let m = (g.P.PairTable.pairs c.args.pairs.now) in
     let span = c.in_ok-span.span in
     let same : span ≡ killed_span c.args.node.now = span_of span c.args.node.now c.in_ok-span.ensures.lo c.in_ok-span.ensures.hi in
     on_ok_weaker c.kill_span.result

@@ -7,8 +7,8 @@ use Rattle.folded_store.proofs.FitLemmas.{by_result, undone_holds}
 use Rattle.folded_store.proofs.undoing.undo_item.Goals as goal
 
 pub returns-in-OldValue-clause-fits : goal.returns-in-OldValue-clause-fits
-returns-in-OldValue-clause-fits c =
-    let m = c.args.pairs.now in
+returns-in-OldValue-clause-fits g c =
+    let m = (g.P.PairTable.pairs c.args.pairs.now) in
     let fits : ValueFits c.in-OldValue.key c.in-OldValue.value = subst (λ (i : UndoItem). UndoFits (undo_of i)) c.in-OldValue.is c.requires.item in
     by_result c.put_value_back.result c.put_value_back.ensures.ok c.put_value_back.ensures.err
     (λ e. subst MapFits (sym e) (undone_holds m (OldValue c.in-OldValue.key c.in-OldValue.value) fits c.requires.pairs))

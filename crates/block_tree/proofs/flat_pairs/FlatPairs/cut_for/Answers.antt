@@ -18,7 +18,7 @@ overflow_add-before c =
     let m = c.into_iter-next-iterator.result in
     let all : m ≡ c.self.inside.pairs.entries = c.into_iter-next-iterator.ensures.into_iter_gives ∙ c.iter-next-items.ensures.rest in
     let at = behind_edge m c.loop-next.next-iterator c.loop-next.lo c.loop-next.before c.loop-next.last c.in-Some-last.edge c.in-Some-last.bytes c.loop-next.invariant.stands c.in-Some-last.is in
-    let few = few_bytes m c.loop-next.next-iterator c.loop-next.lo c.loop-next.before c.in-Some-last.edge.now c.in-Some-last.bytes (subst AreShort (sym all) c.self.invariant.0) at in
+    let few = few_bytes m c.loop-next.next-iterator c.loop-next.lo c.loop-next.before c.in-Some-last.edge.now c.in-Some-last.bytes (subst AreShort (sym all) c.self.invariant) at in
     omega (arith, few)
 
 pub is_full-requires : goal.is_full-requires
@@ -26,7 +26,7 @@ is_full-requires c =
     let m = c.into_iter-next-iterator.result in
     let all : m ≡ c.self.inside.pairs.entries = c.into_iter-next-iterator.ensures.into_iter_gives ∙ c.iter-next-items.ensures.rest in
     let at = behind_edge m c.loop-next.next-iterator c.loop-next.lo c.loop-next.before c.loop-next.last c.in-Some-last.edge c.in-Some-last.bytes c.loop-next.invariant.stands c.in-Some-last.is in
-    let few = few_bytes m c.loop-next.next-iterator c.loop-next.lo c.loop-next.before c.in-Some-last.edge.now c.in-Some-last.bytes (subst AreShort (sym all) c.self.invariant.0) at in
+    let few = few_bytes m c.loop-next.next-iterator c.loop-next.lo c.loop-next.before c.in-Some-last.edge.now c.in-Some-last.bytes (subst AreShort (sym all) c.self.invariant) at in
     omega (arith, few)
 
 pub overflow_add-before-in-Some-last : goal.overflow_add-before-in-Some-last
@@ -34,21 +34,21 @@ overflow_add-before-in-Some-last c =
     let m = c.into_iter-next-iterator.result in
     let all : m ≡ c.self.inside.pairs.entries = c.into_iter-next-iterator.ensures.into_iter_gives ∙ c.iter-next-items.ensures.rest in
     let at = behind_edge m c.loop-next.next-iterator c.loop-next.lo c.loop-next.before c.loop-next.last c.in-Some-last.edge c.in-Some-last.bytes c.loop-next.invariant.stands c.in-Some-last.is in
-    let few = few_bytes m c.loop-next.next-iterator c.loop-next.lo c.loop-next.before c.in-Some-last.edge.now c.in-Some-last.bytes (subst AreShort (sym all) c.self.invariant.0) at in
+    let few = few_bytes m c.loop-next.next-iterator c.loop-next.lo c.loop-next.before c.in-Some-last.edge.now c.in-Some-last.bytes (subst AreShort (sym all) c.self.invariant) at in
     elim c.if-is_full.branch [ then-is_full+else-lt+in_ok-lo w ↦ omega (arith, few, w.before-is) | else-is_full w ↦ omega (arith, few, w.before-is) ]
 
 pub size_of-requires-clause-key : goal.size_of-requires-clause-key
 size_of-requires-clause-key c =
     let m = c.into_iter-next-iterator.result in
     let all : m ≡ c.self.inside.pairs.entries = c.into_iter-next-iterator.ensures.into_iter_gives ∙ c.iter-next-items.ensures.rest in
-    (next_is_short m c.next.new.self c.loop-next.lo c.loop-next.before c.loop-next.last (c.in-Some.next.now, c.in-Some.value.now) (subst AreShort (sym all) c.self.invariant.0)
+    (next_is_short m c.next.new.self c.loop-next.lo c.loop-next.before c.loop-next.last (c.in-Some.next.now, c.in-Some.value.now) (subst AreShort (sym all) c.self.invariant)
     (subst (λ (r : Map). StandsAt m r c.loop-next.lo c.loop-next.before c.loop-next.last) c.in-Some.ensures.steps c.loop-next.invariant.stands)).key
 
 pub size_of-requires-clause-value : goal.size_of-requires-clause-value
 size_of-requires-clause-value c =
     let m = c.into_iter-next-iterator.result in
     let all : m ≡ c.self.inside.pairs.entries = c.into_iter-next-iterator.ensures.into_iter_gives ∙ c.iter-next-items.ensures.rest in
-    (next_is_short m c.next.new.self c.loop-next.lo c.loop-next.before c.loop-next.last (c.in-Some.next.now, c.in-Some.value.now) (subst AreShort (sym all) c.self.invariant.0)
+    (next_is_short m c.next.new.self c.loop-next.lo c.loop-next.before c.loop-next.last (c.in-Some.next.now, c.in-Some.value.now) (subst AreShort (sym all) c.self.invariant)
     (subst (λ (r : Map). StandsAt m r c.loop-next.lo c.loop-next.before c.loop-next.last) c.in-Some.ensures.steps c.loop-next.invariant.stands)).value
 
 pub overflow_add-before-in-Some-last-2 : goal.overflow_add-before-in-Some-last-2
@@ -56,7 +56,7 @@ overflow_add-before-in-Some-last-2 c =
     let m = c.into_iter-next-iterator.result in
     let all : m ≡ c.self.inside.pairs.entries = c.into_iter-next-iterator.ensures.into_iter_gives ∙ c.iter-next-items.ensures.rest in
     let at = behind_edge m c.loop-next.next-iterator c.loop-next.lo c.loop-next.before c.loop-next.last c.in-Some-last-2.edge c.in-Some-last-2.bytes c.loop-next.invariant.stands c.in-Some-last-2.is in
-    let few = few_bytes m c.loop-next.next-iterator c.loop-next.lo c.loop-next.before c.in-Some-last-2.edge.now c.in-Some-last-2.bytes (subst AreShort (sym all) c.self.invariant.0) at in
+    let few = few_bytes m c.loop-next.next-iterator c.loop-next.lo c.loop-next.before c.in-Some-last-2.edge.now c.in-Some-last-2.bytes (subst AreShort (sym all) c.self.invariant) at in
     omega (arith, few)
 
 pub is_full-requires-in-Some-last-2 : goal.is_full-requires-in-Some-last-2
@@ -64,7 +64,7 @@ is_full-requires-in-Some-last-2 c =
     let m = c.into_iter-next-iterator.result in
     let all : m ≡ c.self.inside.pairs.entries = c.into_iter-next-iterator.ensures.into_iter_gives ∙ c.iter-next-items.ensures.rest in
     let at = behind_edge m c.loop-next.next-iterator c.loop-next.lo c.loop-next.before c.loop-next.last c.in-Some-last-2.edge c.in-Some-last-2.bytes c.loop-next.invariant.stands c.in-Some-last-2.is in
-    let few = few_bytes m c.loop-next.next-iterator c.loop-next.lo c.loop-next.before c.in-Some-last-2.edge.now c.in-Some-last-2.bytes (subst AreShort (sym all) c.self.invariant.0) at in
+    let few = few_bytes m c.loop-next.next-iterator c.loop-next.lo c.loop-next.before c.in-Some-last-2.edge.now c.in-Some-last-2.bytes (subst AreShort (sym all) c.self.invariant) at in
     omega (arith, few)
 
 pub loop-next-preserved : goal.loop-next-preserved
@@ -72,7 +72,7 @@ loop-next-preserved c =
     let m = c.into_iter-next-iterator.result in
     let all : m ≡ c.self.inside.pairs.entries = c.into_iter-next-iterator.ensures.into_iter_gives ∙ c.iter-next-items.ensures.rest in
     let rises : IsRising m = subst IsRising (sym all) (rising_from_sorted c.self.inside.pairs.entries c.iter-next-items.ensures.ordered) in
-    let short : AreShort m = subst AreShort (sym all) c.self.invariant.0 in
+    let short : AreShort m = subst AreShort (sym all) c.self.invariant in
     let rest = c.next.new.self in
     let next : List ℕ × List ℕ = (c.in-Some.next.now, c.in-Some.value.now) in
     let lo = c.loop-next.lo in
@@ -112,7 +112,7 @@ left c =
     let m = c.into_iter-next-iterator.result in
     let all : m ≡ c.self.inside.pairs.entries = c.into_iter-next-iterator.ensures.into_iter_gives ∙ c.iter-next-items.ensures.rest in
     let rises : IsRising m = subst IsRising (sym all) (rising_from_sorted c.self.inside.pairs.entries c.iter-next-items.ensures.ordered) in
-    let short : AreShort m = subst AreShort (sym all) c.self.invariant.0 in
+    let short : AreShort m = subst AreShort (sym all) c.self.invariant in
     let lo = c.loop-next.lo in
     let before = c.loop-next.before in
     let stood : StandsAt m [] lo before c.loop-next.last =
@@ -127,7 +127,7 @@ left c =
           let there : c.match-last-2.lo ≡ lo = search rules in
           let fits : 7 + length lo + length end_of_keys + (before + w.in-Some-last-2.bytes) ≤ 8192 =
           not_full (7 + length lo + length end_of_keys + (before + w.in-Some-last-2.bytes))
-          (ap (λ (k : List ℕ). nat_lt 8192 (7 + length lo + length k + (before + w.in-Some-last-2.bytes))) (sym c.self.invariant.1)
+          (ap (λ (k : List ℕ). nat_lt 8192 (7 + length lo + length k + (before + w.in-Some-last-2.bytes))) (sym c.requires.end)
           ∙ sym w.is_full-in-Some-last-2.ensures ∙ w.if-is_full-2.false) in
           rw there (c.loop-next.invariant.below, last_fits m rises short lo before w.in-Some-last-2.edge.now w.in-Some-last-2.bytes at fits)
       | in_default-last w ↦
@@ -141,7 +141,7 @@ returns-clause-holds c =
     IfOk-weaker c.span_of-2.result _ _
     (λ span is.
     subst (λ (s : Span). contains s c.args.key.now ≡ true) (sym is)
-    (and_from _ _ (ap not (left c).0) (ap (λ (k : List ℕ). is_lt (key_cmp c.args.key.now k)) c.self.invariant.1 ∙ ap is_lt c.requires.below)))
+    (and_from _ _ (ap not (left c).0) (ap (λ (k : List ℕ). is_lt (key_cmp c.args.key.now k)) c.requires.end ∙ ap is_lt c.requires.below)))
     c.span_of-2.ensures
 
 pub returns-clause-fits : goal.returns-clause-fits
@@ -151,6 +151,6 @@ returns-clause-fits c =
     IfOk-weaker c.span_of-2.result _ _
     (λ span is.
     subst (λ (s : Span). 7 + length s.lo + length s.hi + size (within c.args.self.now s) ≤ 8192) (sym is)
-    (subst (λ (k : List ℕ). 7 + length c.match-last-2.lo + length k + size_between c.args.self.now c.match-last-2.lo k ≤ 8192) (sym c.self.invariant.1)
+    (subst (λ (k : List ℕ). 7 + length c.match-last-2.lo + length k + size_between c.args.self.now c.match-last-2.lo k ≤ 8192) (sym c.requires.end)
     (subst (λ (q : Map). 7 + length c.match-last-2.lo + length end_of_keys + size_between q c.match-last-2.lo end_of_keys ≤ 8192) all (left c).1)))
     c.span_of-2.ensures

@@ -22,7 +22,7 @@ invariant_of-self c =
     let m = c.self.inside.pairs.entries in
     let span = c.args.span.now in
     let left : c.remove_all.new.pairs.entries ≡ without m span = c.remove_all.ensures.pairs ∙ span_removed span m c.in_ok-keys.keys.items c.in_ok-keys.ensures in
-    (subst AreShort (sym left) (part_short (is_out span) m c.self.invariant.0), c.self.invariant.1)
+    subst AreShort (sym left) (part_short (is_out span) m c.self.invariant)
 
 pub returns-clause-removed : goal.returns-clause-removed
 returns-clause-removed c =

@@ -4,7 +4,5 @@ use Rattle.block_tree.proofs.FlatLemmas.{put_short}
 use Rattle.block_tree.proofs.flat_pairs.FlatPairsPairTable.set.Goals as goal
 
 pub invariant_of-self-2 : goal.invariant_of-self-2
-invariant_of-self-2 c = (
-  subst AreShort (sym c.in_ok-old.ensures.entries) (put_short c.args.key c.args.value c.self.inside.pairs.entries c.requires.key c.requires.value c.self.invariant.0),
-  c.self.invariant.1,
-)
+invariant_of-self-2 c =
+    subst AreShort (sym c.in_ok-old.ensures.entries) (put_short c.args.key c.args.value c.self.inside.pairs.entries c.requires.key c.requires.value c.self.invariant)

@@ -5,7 +5,7 @@ use Rattle.folded_store.proofs.FitLemmas.{kept}
 use Rattle.folded_store.proofs.folded_store.FoldedStore.apply.Goals as goal
 
 pub invariant_of-self : goal.invariant_of-self
-invariant_of-self c =
+invariant_of-self g c =
     let n = c.named-in-Commit.result in
     record {
       pairs = c.self.invariant.pairs;

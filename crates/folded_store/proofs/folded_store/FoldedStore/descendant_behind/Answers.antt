@@ -5,8 +5,8 @@ use Rattle.folded_store.proofs.SearchLemmas.{behind_none, behind_some}
 use Rattle.folded_store.proofs.folded_store.FoldedStore.descendant_behind.Goals as goal
 
 pub returns-in_err-key : goal.returns-in_err-key
-returns-in_err-key c =
-    let m = c.self.inside.pairs in
+returns-in_err-key g c =
+    let m = (g.P.PairTable.pairs c.self.inside.pairs) in
     rw (c.from_residual.ensures, ← c.self.view_is)
     (record {
       value = sym (behind_none c.args.node.now c.args.bytes.now c.requires m c.self.invariant.pairs.rises (sym c.in_err-key.ensures));
@@ -14,8 +14,8 @@ returns-in_err-key c =
     })
 
 pub returns-then-not-starts_with : goal.returns-then-not-starts_with
-returns-then-not-starts_with c =
-    let m = c.self.inside.pairs in
+returns-then-not-starts_with g c =
+    let m = (g.P.PairTable.pairs c.self.inside.pairs) in
     let apart : is_under c.args.node.now c.in_ok-key.key.now ≡ false = search rules in
     rw (← c.self.view_is)
     (record {
@@ -24,8 +24,8 @@ returns-then-not-starts_with c =
     })
 
 pub returns : goal.returns
-returns c =
-    let m = c.self.inside.pairs in
+returns g c =
+    let m = (g.P.PairTable.pairs c.self.inside.pairs) in
     let under : is_under c.args.node.now c.in_ok-key.key.now ≡ true = search rules in
     rw (← c.self.view_is)
     (record {

@@ -6,20 +6,20 @@ use Rattle.folded_store.proofs.FitLemmas.{kill_holds, pairs_under_fit, note_fits
 use Rattle.folded_store.proofs.folded_store.FoldedStore.kill.Goals as goal
 
 pub invariant_of-self-then-name-eq0 : goal.invariant_of-self-then-name-eq0
-invariant_of-self-then-name-eq0 c = record {
-  pairs = subst MapFits (sym c.in_ok-pairs.ensures.ok) (kill_holds c.self.inside.pairs c.args.key.now c.self.invariant.pairs);
+invariant_of-self-then-name-eq0 g c = record {
+  pairs = subst MapFits (sym c.in_ok-pairs.ensures.ok) (kill_holds (g.P.PairTable.pairs c.self.inside.pairs) c.args.key.now c.self.invariant.pairs);
   begun = c.self.invariant.begun;
 }
 
 pub invariant_of-self-in_err-node : goal.invariant_of-self-in_err-node
-invariant_of-self-in_err-node c = record {
-  pairs = subst MapFits (sym c.in_ok-pairs.ensures.ok) (kill_holds c.self.inside.pairs c.args.key.now c.self.invariant.pairs);
+invariant_of-self-in_err-node g c = record {
+  pairs = subst MapFits (sym c.in_ok-pairs.ensures.ok) (kill_holds (g.P.PairTable.pairs c.self.inside.pairs) c.args.key.now c.self.invariant.pairs);
   begun = c.self.invariant.begun;
 }
 
 pub invariant_of-self-2 : goal.invariant_of-self-2
-invariant_of-self-2 c =
-    let m = c.self.inside.pairs in
+invariant_of-self-2 g c =
+    let m = (g.P.PairTable.pairs c.self.inside.pairs) in
     let n = c.args.name in
     let removed = map as_entry c.in_ok-pairs.pairs in
     let fits : PairsFit removed = subst PairsFit (sym c.in_ok-pairs.ensures.removed) (pairs_under_fit m c.args.key.now c.self.invariant.pairs.pairs) in

@@ -1,8 +1,0 @@
-use Rattle.std.proofs.Common.{◌∙◌, ap, is_some}
-use Rattle.plain_programs.proofs.SearchLemmas.{any_descendant, some_copied}
-use Rattle.plain_programs.proofs.plain_store.PlainStore.has_descendants.Goals as goal
-
-pub returns : goal.returns
-returns c =
-    c.is_some.ensures ∙ some_copied c.descendant_behind.result ∙ ap is_some c.descendant_behind.ensures
-    ∙ any_descendant c.args.self.now.pairs c.args.node.now
