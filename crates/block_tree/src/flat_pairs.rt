@@ -63,12 +63,7 @@ impl FlatPairs {
 
     /// The same where the pairs don't all fit one block: the first run begins at the empty key, and each other one at its first
     /// key.
-    fn cut_for(
-        &self,
-        first: KeyBytes,
-        end: &KeyBytes,
-        key: &KeyBytes,
-    ) -> Result<Span, AllocError>
+    fn cut_for(&self, first: KeyBytes, end: &KeyBytes, key: &KeyBytes) -> Result<Span, AllocError>
         requires first { first ≡ [] }
         requires end { end.now ≡ end_of_keys }
         requires below { key_cmp key.now end_of_keys ≡ Less }

@@ -1,8 +1,7 @@
-use crate::flat::Flat;
 use crate::listed::Listed;
 use crate::nodes::{long_key, next_number, node_bytes, node_key, one_of, value_of};
-use block_bytes::write_block;
-use block_tree::is_before_end;
+use crate::runs::{Store, walk};
+use folded_store::PlainStore;
 use global_store::{GlobalStore, entry_fits};
 use plain_orders::{Applied, Entry, Op, Sum};
 use plain_programs::OrderCheck;
@@ -16,39 +15,6 @@ fn apply(alloc: Global, store: &mut GlobalStore, entry: &Entry) -> Result<Applie
         return Err(Fail::from("an entry is past the limits"));
     }
     Ok(store.apply(alloc, entry)?)
-}
-
-/// The run that begins at this key.
-fn run_at(alloc: Global, store: &GlobalStore, key: &KeyBytes) -> Result<Run, Fail> {
-    if !is_before_end(key) {
-        return Err(Fail::from("a key is behind all"));
-    }
-    let run = store.run_for(key)?;
-    if run.span.lo != *key {
-        return Err(Fail::from("a run doesn't begin where the one before ends"));
-    }
-    write_block(alloc, &run)?;
-    Ok(run)
-}
-
-/// All pairs, run by run from the empty key, and how many runs there are.
-fn walk(alloc: Global, store: &GlobalStore) -> Result<(u64, Vec<Pair>), Fail> {
-    let mut runs = 0u64;
-    let mut all = Vec::new(alloc);
-    let mut key = KeyBytes::from_vec(Vec::new(alloc));
-    for _ in 0..100_000 {
-        if !is_before_end(&key) {
-            break;
-        }
-        let Run { span, pairs } = run_at(alloc, store, &key)?;
-        for pair in pairs.into_vec() {
-            all.push(pair)?;
-        }
-        runs = runs.saturating_add(1);
-        let Span { hi, .. } = span;
-        key = hi;
-    }
-    Ok((runs, all))
 }
 
 /// A store of one session, 2, of application server 0.
@@ -94,7 +60,8 @@ fn two_thousand_nodes_stand_in_runs_of_a_block(rt: HostRuntime) -> Result<(), Fa
     let alloc = rt.alloc();
     let mut store = opened(alloc)?;
     fill(alloc, &mut store, 2000)?;
-    let (runs, pairs) = walk(alloc, &store)?;
+    let (runs, pairs) = walk(alloc, Store::Global(&store))?;
+    let runs = runs.len();
     assert!(rt; runs >= 25 && runs <= 2000, "{runs} runs");
     assert_eq!(rt; pairs.len(), 2000);
     Ok(())
@@ -105,7 +72,7 @@ fn a_kill_of_many_leaves_is_put_back(rt: HostRuntime) -> Result<(), Fail> {
     let alloc = rt.alloc();
     let mut store = opened(alloc)?;
     fill(alloc, &mut store, 1000)?;
-    let (_runs, before) = walk(alloc, &store)?;
+    let (_runs, before) = walk(alloc, Store::Global(&store))?;
     let key = node_key(alloc, &[])?;
     update(alloc, &mut store, 0, 1, Op::Kill { key })?;
     assert_eq!(rt; store.len(), 0);
@@ -117,10 +84,10 @@ fn a_kill_of_many_leaves_is_put_back(rt: HostRuntime) -> Result<(), Fail> {
     };
     let applied = apply(alloc, &mut store, &end)?;
     assert_eq!(rt; applied.spans.as_slice().len(), 1);
-    let (runs, after) = walk(alloc, &store)?;
+    let (runs, after) = walk(alloc, Store::Global(&store))?;
     assert!(rt;
-        runs > 10 && before.as_slice() == after.as_slice(),
-        "{runs} runs"
+        runs.len() > 10 && before.as_slice() == after.as_slice(),
+        "the pairs"
     );
     Ok(())
 }
@@ -314,49 +281,46 @@ fn random_entry(alloc: Global, store: &GlobalStore, number: u64) -> Result<Entry
 struct Compared {
     store: GlobalStore,
     order: OrderCheck,
-    flat: Flat,
+    plain: PlainStore,
     listed: Listed,
 }
 
-/// Whether the walk over all runs gives the pairs of the map.
+/// Whether the walk over all runs gives the pairs of the plain store.
 fn same_pairs(alloc: Global, compared: &Compared) -> Result<bool, Fail> {
-    let (_runs, pairs) = walk(alloc, &compared.store)?;
-    if pairs.len() != compared.flat.pairs.len() {
-        return Ok(false);
-    }
-    for (pair, (key, value)) in pairs.as_slice().iter().zip(compared.flat.pairs.iter()) {
-        if pair.key != *key || pair.value != *value {
-            return Ok(false);
-        }
-    }
-    Ok(true)
+    let (_runs, pairs) = walk(alloc, Store::Global(&compared.store))?;
+    let (_runs, plain) = walk(alloc, Store::Plain(&compared.plain))?;
+    Ok(pairs.as_slice() == plain.as_slice() && pairs.len() == compared.plain.len())
 }
 
 /// Whether the store does what the others do with an entry.
 fn same_step(alloc: Global, compared: &mut Compared, entry: &Entry) -> Result<bool, Fail> {
-    let (spans, sum) = compared.flat.apply(alloc, entry)?;
+    if !entry_fits(alloc, entry)? {
+        return Ok(false);
+    }
+    let plain = compared.plain.apply(alloc, entry)?;
     let applied = apply(alloc, &mut compared.store, entry)?;
-    compared.listed.push(entry, sum)?;
+    compared.listed.push(entry, plain.sum)?;
     Ok(
-        applied.sum == sum
-            && applied.spans.as_slice() == spans.as_slice()
-            && compared.store.len() == compared.flat.pairs.len(),
+        applied.sum == plain.sum
+            && applied.spans.as_slice() == plain.spans.as_slice()
+            && compared.store.len() == compared.plain.len(),
     )
 }
 
-/// Whether the value of a node is the same.
+/// Whether the value of a node is the same, and what stands below it.
 fn same_value(compared: &Compared, key: &KeyBytes) -> bool {
-    compared.store.get(key) == compared.flat.pairs.get(key)
+    compared.store.get(key) == compared.plain.get(key)
+        && compared.store.shape(key) == compared.plain.shape(key)
 }
 
 #[test]
-fn a_store_does_what_a_map_with_logs_does(rt: HostRuntime) -> Result<(), Fail> {
+fn a_store_does_what_the_plain_store_does(rt: HostRuntime) -> Result<(), Fail> {
     let alloc = rt.alloc();
     for seed in 0..3 {
         let mut compared = Compared {
             store: GlobalStore::new(alloc)?,
             order: OrderCheck::new(alloc),
-            flat: Flat::new(alloc),
+            plain: PlainStore::new(alloc),
             listed: Listed::new(alloc),
         };
         let mut number = seed;
