@@ -1,3 +1,16 @@
 pub mod AsksShort
 pub mod EndLanes
 pub mod AsksServer
+pub mod AsksEnds
+pub mod AsksSites
+pub mod AsksNews
+pub mod EndPuts
+pub mod EndChanges
+pub mod LaneTakes
+pub mod FreshAsks
+pub mod AsksBegin
+pub mod AsksApps
+pub mod LockStages
+pub mod LockTurns
+pub mod LockRefusals
+pub mod AsksJobs

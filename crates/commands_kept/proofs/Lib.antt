@@ -1,1 +1,3 @@
 pub mod CommandsShort
+pub mod CommandsJobs
+pub mod CommandsApps

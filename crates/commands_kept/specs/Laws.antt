@@ -5,11 +5,13 @@ use Rattle.plain_orders.specs.declared.layout.Layout.{Layout}
 use Rattle.plain_orders.specs.declared.entry.Entry.{Entry}
 use Rattle.plain_runs.specs.Run.{IsRun}
 use Rattle.app_job.specs.Sites.{Site as Target}
+use Rattle.app_job.specs.declared.command.Command.{Command}
+use Rattle.app_rules.specs.declared.app_in.AppIn.{AppIn}
 use Rattle.data_rules.specs.declared.data_in.DataIn.{DataIn}
 use Rattle.cluster_runs.specs.declared.move_outs.MoveOuts.{MoveOuts}
-use Rattle.cluster_runs.specs.declared.moves.Move.TheVariants.{Begin, Server}
-use Rattle.cluster_runs.specs.CoresState.{CoresState}
-use Rattle.cluster_runs.specs.Goes.{BeginGoes, DieGoes, HaltGoes, LookGoes, ServerGoes, TickGoes}
+use Rattle.cluster_runs.specs.declared.moves.Move.TheVariants.{App, Begin, Server, Step}
+use Rattle.cluster_runs.specs.CoresState.{CoresState, app_of_job}
+use Rattle.cluster_runs.specs.Goes.{AppGoes, BeginGoes, DieGoes, HaltGoes, JobGoes, LookGoes, ServerGoes, TickGoes}
 use Rattle.cluster_runs.specs.Machine.{Machine}
 use Rattle.cluster_runs.specs.Mirrors.{Mirrors}
 use Rattle.cluster_runs.specs.Moves.{Allowed, LookedMay}
@@ -45,3 +47,14 @@ LooksKeepCommands = (l : Layout) (c : CoresState) (m : Machine) (app job line : 
 abbrev pub TicksKeepCommands : Type 0
 TicksKeepCommands = (l : Layout) (m new : Machine) (now : ℕ) (outs : MoveOuts) (written : List Act)
     → Holds l m → TickGoes m now outs written new → CommandsHold new
+
+-- And each step of a job's command.
+abbrev pub JobsKeepCommands : Type 0
+JobsKeepCommands = (l : Layout) (c : CoresState) (m : Machine) (job now line : ℕ) (command : Command) (outs : MoveOuts) (written : List Act) (new : Machine)
+    → Holds l m → IsRun l m.trail → Mirrors c m → Allowed c (Step job now line command)
+    → JobGoes m (app_of_job m.layout job) job now line command outs written new → CommandsHold new
+
+-- And each input of an application server.
+abbrev pub InputsKeepCommands : Type 0
+InputsKeepCommands = (l : Layout) (c : CoresState) (m : Machine) (app now : ℕ) (input : AppIn) (outs : MoveOuts) (written : List Act) (new : Machine)
+    → Holds l m → IsRun l m.trail → Mirrors c m → Allowed c (App app now input) → AppGoes m app now input outs written new → CommandsHold new

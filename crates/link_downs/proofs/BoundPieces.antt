@@ -75,7 +75,7 @@ dropped_waits q None b none = none
 dropped_waits q (Some n) b none = waits_left q (is_reply_elsewhere (says_on n)) b.state.replies ∙ ap (filter (is_reply_elsewhere (says_on n))) none
 
 -- what a Close makes of the connections
-parts_conns : (s : ℕ) (cause : ShutCause) (o : Option ℕ) (r : ℕ) (b : Sofar) → Differ b.state.conns → ((n : ℕ) → o ≡ Some n → (role_at n b.state.conns ≡ Some (Bound r)))
+pub parts_conns : (s : ℕ) (cause : ShutCause) (o : Option ℕ) (r : ℕ) (b : Sofar) → Differ b.state.conns → ((n : ℕ) → o ≡ Some n → (role_at n b.state.conns ≡ Some (Bound r)))
     → r ≢ s → ConnsFor s b.state.conns (parts_from cause o r b).state.conns
 parts_conns s cause o r b differ has apart = go cause
   where

@@ -64,7 +64,7 @@ pub record Steady (q s : ℕ) (b c : Sofar) : Type 0 where
   pub put : put_on q c.outs.frames ≡ put_on q b.outs.frames
   pub waits : waiting_on q b.state.replies ≡ [] → waiting_on q c.state.replies ≡ []
 
-pub keeps_steady : (lane : Lane) (q s : ℕ) (in_round : Bool) (b c : Sofar) → Steady q s b c → Keeps lane q s in_round b → Keeps lane q s in_round c
+unfoldable pub keeps_steady : (lane : Lane) (q s : ℕ) (in_round : Bool) (b c : Sofar) → Steady q s b c → Keeps lane q s in_round b → Keeps lane q s in_round c
 keeps_steady lane q s in_round b c x k = record {
   its = x.conn ∙ k.its;
   only = λ n role. k.only n (x.only n role);

@@ -1,38 +1,24 @@
 -- What a step of a data server puts on a connection of which it took the first frame.
-use Rattle.std.proofs.Common.{◌≡◌, ◌≢◌, ◌≤◌, ◌<◌, ◌⊎◌, inl, inr, ◌+◌, ℕ, Bool, true, false, cond, List, [], ◌∷◌, ◌++◌, length, drop, filter, map, Option, Some, None, is_some, refl, sym, ◌∙◌, ap, subst, arith, ◌==◌}
-use Rattle.std.specs.Prelude.{IfSome, IsSomeAnd, not, nat_lt, ◌&&◌, ◌||◌}
-use Rattle.std.specs.List.{AllByRecursion, flat_map, list_all, list_any}
-use Rattle.std.proofs.lemmas.Bool.{eq-eqb, eqb-true, false≢true, ne_eqb, true≢false}
-use Rattle.std.proofs.lemmas.List.{append-nil}
-use Rattle.plain_orders.specs.declared.act.Act.{Act}
-use Rattle.plain_orders.specs.declared.entry.Entry.{Entry}
-use Rattle.plain_orders.specs.declared.layout.Layout.{Layout}
-use Rattle.plain_orders.specs.Entries.{live}
-use Rattle.plain_runs.specs.Plain.{Server, current, order_at}
-use Rattle.plain_runs.specs.Run.{IsRun, after_all, state_after}
-use Rattle.ecp_messages.specs.declared.down.Down.TheVariants as down
+use Rattle.std.proofs.Common.{◌≡◌, ◌≢◌, ◌⊎◌, inl, inr, ℕ, Bool, true, false, cond, List, [], ◌∷◌, filter, map, Option, Some, None, refl, sym, ◌∙◌, ap, subst, ◌==◌}
+use Rattle.std.specs.Prelude.{IsSomeAnd, ◌||◌}
+use Rattle.std.specs.List.{AllByRecursion, list_any}
+use Rattle.std.proofs.lemmas.Bool.{eq-eqb, eqb-true, false≢true, ne_eqb}
+use Rattle.plain_runs.specs.Plain.{Server}
 use Rattle.ecp_messages.specs.declared.down.DownFrame.{DownFrame}
 use Rattle.data_rules.specs.declared.data_in.DataIn.{DataIn}
 use Rattle.data_rules.specs.declared.data_in.DataIn.TheVariants as data_in
 use Rattle.data_rules.specs.declared.down_frames.DownOut.{DownOut}
-use Rattle.data_rules.specs.declared.rows.Reply.{Reply}
-use Rattle.data_rules.specs.declared.rows.Role.{Role}
-use Rattle.data_rules.specs.declared.rows.Role.TheVariants.{New, Waiting, Bound, Closing}
-use Rattle.data_rules.specs.declared.rows.Says.TheVariants.{NewWelcome, EpochWelcome, ResetOf, GrantOf, AnswerOf}
+use Rattle.data_rules.specs.declared.rows.Caller.{Caller}
+use Rattle.data_rules.specs.declared.rows.Role.TheVariants.{Waiting}
 use Rattle.data_rules.specs.DataState.{DataState}
 use Rattle.data_rules.specs.Conns.{role_of}
-use Rattle.data_rules.specs.Puts.{Sofar, says_on}
-use Rattle.cluster_runs.specs.declared.move_outs.MoveOuts.{MoveOuts}
-use Rattle.cluster_runs.specs.declared.moves.Move.TheVariants.{Server as ServerMove}
-use Rattle.cluster_runs.specs.CoresState.{CoresState, Linked}
+use Rattle.cluster_runs.specs.CoresState.{Linked}
 use Rattle.cluster_runs.specs.Connections.{down_of, is_link, is_out_on, link_of}
-use Rattle.cluster_runs.specs.Goes.{ServerGoes, server_site, server_takes}
-use Rattle.cluster_runs.specs.Machine.{Machine, Site}
-use Rattle.cluster_runs.specs.Mirrors.{Mirrors}
-use Rattle.cluster_runs.specs.Moves.{Allowed}
-use Rattle.cluster_runs.specs.Sent.{Connection, FirstTaken, Lane, Place}
-use Rattle.cluster_invariant.specs.Dials.{ConnectionIs, DialsAre, FirstIs, IsLinkedBy, LinkedTo}
-use Rattle.cluster_invariant.specs.Holds.{Holds}
+use Rattle.cluster_runs.specs.Goes.{server_takes}
+use Rattle.cluster_runs.specs.Machine.{Site}
+use Rattle.cluster_runs.specs.Sent.{Connection, FirstTaken}
+use Rattle.cluster_invariant.specs.Dials.{DialsAre, IsLinkedBy, LinkedTo}
+use Rattle.cluster_invariant.specs.Ends.{CallerIs, CallersAre, HelloAlone, is_caller_on}
 use Rattle.cluster_invariant.proofs.Small.{of_some}
 use Rattle.ecp_messages.specs.declared.up.UpFrame.{UpFrame}
 use Rattle.data_ends_kept.proofs.HellosTaken.{FirstFrames, link_after, not_first}
@@ -108,3 +94,19 @@ link_each v x dead dials input first a n c f it at link fresh m = go (same_or m 
         ap (λ (i : ℕ). is_link a n (link_of (server_takes input x) i)) same ∙ ap (is_link a n) (link_takes input x f.conn (record { app = a; dial = n }) fresh link)
         ∙ is_link_itself a n ∙ sym (eq-eqb m f.conn same)
     go (inr differs) = apart differs (is_link a n (link_of (server_takes input x) m)) refl ∙ sym (ne_eqb m f.conn differs)
+
+-- one that a Hello waits on carries no session's messages
+pub waiting_untold : (x : Site) (n : DataState) → CallersAre n x → (q a number : ℕ) (c : Connection) → role_of n q ≡ Some Waiting → link_of x q ≡ Some (record { app = a; dial = number })
+    → (x.end_at a).connection_at number ≡ Some c → c.its ≡ None
+waiting_untold x n callers q a number c role link it = go n.callers (callers.all q role) callers.each
+  where
+    alone : (z : Caller) → CallerIs n x z → z.conn ≡ q → c.its ≡ None
+    alone z is same = (linked_at x z.conn z.app a number HelloAlone c is.linked (ap (link_of x) same ∙ link) it).1.its
+
+    go : (zs : List Caller) → list_any (is_caller_on q) zs ≡ true → AllByRecursion (CallerIs n x) zs → c.its ≡ None
+    go [] some each = absurd (false≢true some)
+    go (z ∷ zs) some each = by (z.conn == q) refl some (λ more. go zs more each.1)
+      where
+        by : (b : Bool) → (z.conn == q) ≡ b → (b || list_any (is_caller_on q) zs) ≡ true → (list_any (is_caller_on q) zs ≡ true → c.its ≡ None) → c.its ≡ None
+        by true same here more = alone z each.0 (eqb-true z.conn q same)
+        by false other rest more = more rest

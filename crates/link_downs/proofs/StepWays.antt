@@ -195,10 +195,10 @@ module _ (l : Layout) (c : CoresState) (m : Machine) (server now : ℕ) (input :
     lane : Lane
     lane = lane_of s
 
-    was : WindowIs (window_of goes.node s) (lane_of s).down (lane_of s).down_taken (lane_of s).up_taken
+    pub was : WindowIs (window_of goes.node s) (lane_of s).down (lane_of s).down_taken (lane_of s).up_taken
     was = node.windows.each s ((ends.hold l c m server now input outs written new h run shows allowed goes).bound q s bound).0
 
-    at_old : Keeps (lane_of s) q s (is_some goes.node.round) (begun goes.node)
+    unfoldable pub at_old : Keeps (lane_of s) q s (is_some goes.node.round) (begun goes.node)
     at_old = record {
       its = ((ends.hold l c m server now input outs written new h run shows allowed goes).bound q s bound).1;
       only = λ n role. one n (sym ((ends.hold l c m server now input outs written new h run shows allowed goes).bound n s role).1

@@ -1,3 +1,5 @@
+ghost use Rattle.std.specs.Prelude.{◌≡◌, IfOk};
+
 use crate::nodes::{node_key, value_of};
 use crate::runs::{Store, walk};
 use folded_store::PlainStore;
@@ -24,7 +26,9 @@ const AB: &[u8] = b"AB\x00";
 
 const B: &[u8] = b"B\x00";
 
-fn key(alloc: Global, bytes: &[u8]) -> Result<KeyBytes, AllocError> {
+fn key(alloc: Global, bytes: &[u8]) -> Result<KeyBytes, AllocError>
+    ensures { IfOk result (λ key. key ≡ bytes.now) }
+{
     Ok(KeyBytes::from_vec(Vec::from_slice(alloc, bytes)?))
 }
 
