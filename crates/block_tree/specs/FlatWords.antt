@@ -20,7 +20,7 @@ AreShort m = AllByRecursion IsShort m
 abbrev pub size_between : Map → List ℕ → List ℕ → ℕ
 size_between m lo hi = size (within m (record { lo = lo; hi = hi }))
 
--- The last of the pairs that were walked over, with its bytes: the run that begins at a key holds so many bytes before it, and fits a block that ends at it.
+-- The last of the pairs that were walked over, with its bytes: the run that begins at a key holds at most so many bytes before it, and fits a block that ends at it.
 pub record IsEdge (m rest : Map) (lo : List ℕ) (before : ℕ) (edge : List ℕ) (bytes : ℕ) : Type 0 where
   pub front : Map
   pub value : List ℕ

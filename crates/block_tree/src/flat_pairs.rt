@@ -16,8 +16,8 @@ use std::marker::Model;
 use std::ops::Bound;
 use subscript_keys::{KeyBytes, Pairs, Run, Span, ValueBytes};
 
-/// Pairs that each call cuts anew, from their front, into runs that take as many of them as fit a block. Contracts see them
-/// as the list, which rises by the keys.
+/// Pairs that each call of `run_for` cuts anew, from their front, into runs that take as many of them as fit a block.
+/// Contracts see them as the list of an ordered map.
 #[derive(Drop)]
 pub struct FlatPairs {
     pairs: BTreeMap<KeyBytes, ValueBytes>,

@@ -8,6 +8,8 @@
 //! Contracts see a `BlockTree` as the map, a list of pairs that rises by the keys. They say nothing of the leaves but what
 //! a run says: it is true of the map, covers the key and fits a block. No clause says that leaves are halved when they
 //! are full or joined when they are half empty, nor how long a call takes.
+//!
+//! `PairTable` is what a store asks of its pairs, and `FlatPairs` the same without leaves.
 #![tactic(auto)]
 
 mod block_tree;

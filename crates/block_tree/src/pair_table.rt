@@ -12,7 +12,7 @@ use subscript_keys::{KeyBytes, Pairs, Run, Span, ValueBytes};
 
 /// The pairs of a store, cut into runs.
 pub trait PairTable: Drop {
-    /// The list of the pairs, which rises by their keys.
+    /// The list of the pairs. A tree's rises by their keys, as its own `len` says.
     ghost pairs: { Self → Map };
 
     /// How many pairs there are.

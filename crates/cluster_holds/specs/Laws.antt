@@ -13,7 +13,7 @@ use Rattle.cluster_runs.specs.Moves.{Allowed}
 use Rattle.cluster_runs.specs.Reached.{Reached}
 use Rattle.cluster_invariant.specs.Holds.{Holds}
 
--- Each move keeps the whole invariant, where the trail after it is a run.
+-- Each move keeps the whole invariant, where the trail before it and after it is a run.
 abbrev pub MovesKeepHolds : Type 0
 MovesKeepHolds = (l : Layout) (c : CoresState) (m : Machine) (move : Move) (outs : MoveOuts) (written : List Act) (new : Machine)
     → Holds l m → IsRun l m.trail → IsRun l new.trail → Mirrors c m → Allowed c move → Goes m move outs written new → Holds l new
