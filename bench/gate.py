@@ -110,7 +110,10 @@ def times_line(took):
         return "Which crate takes how many minutes wasn't measured for this page (`bench/gate.py watch`)."
     what = "of a crate its proofs, its must-fail edits and the proofs of its tests"
     if "clock" not in took:
-        return f"The processor minutes are those of several runs, each of what was new: {what}."
+        return (
+            f"The processor minutes are those of several runs, each of what was new: {what}. "
+            f"The last row adds up those of the crates that have a time."
+        )
     return (
         f"The processor minutes are those of one run: {what}, and in the last row also what belongs to no crate. "
         f"It took {minutes(took['clock'])} minutes by the clock."

@@ -1,5 +1,5 @@
 -- Open transactions by their places.
-use Rattle.std.proofs.Common.{◌≡◌, ◌∙◌, ◌<◌, ◌+◌, ℕ, zero, suc, Bool, true, false, not, cond, if◌then◌else◌, ◌||◌, List, [], ◌∷◌, ◌++◌, length, get_or, set, map, Some, None, refl, sym, ap, ap₂, append_assoc, arith, nat_eq, subst, slice_index_or, slice_set}
+use Rattle.std.proofs.Common.{◌≡◌, ◌≢◌, ◌∙◌, ◌<◌, ◌+◌, ℕ, zero, suc, Bool, true, false, not, cond, if◌then◌else◌, ◌||◌, List, [], ◌∷◌, ◌++◌, length, get_or, set, map, Some, None, refl, sym, ap, ap₂, append_assoc, arith, nat_eq, subst, slice_index_or, slice_set}
 use Rattle.std.specs.List.{filter, list_any, position, position_from, remove}
 use Rattle.std.proofs.lemmas.Iterator.Adapters.{position_from-zero}
 use Rattle.subscript_keys.specs.declared.span.Span.{Span}
@@ -65,6 +65,14 @@ module _ (s j t : ℕ) where
       go true e more = absurd (cc)
       go false e more = let r = more e in (r.0, ap (λ ys. x ∷ ys) r.1)
 
+  -- so where something is to be put back, it is open
+  pub open_if_some : (ts : List Transaction) → undo_in s j t ts ≢ [] → is_begun s j t ts ≡ true
+  open_if_some ts some = go (is_begun s j t ts) refl
+    where
+      go : (b : Bool) → is_begun s j t ts ≡ b → is_begun s j t ts ≡ true
+      go true e = e
+      go false e = absurd (some (not_open ts e).0)
+
   -- an item more in the one at a place
   pub added_at : (u : Undo) (i : ℕ) (ts : List Transaction) (d : Transaction) → IsFirstAt (is_it s j t) i ts → undo_added s j t u ts ≡ set ts i (with_undo u (get_or ts i d))
   added_at u i [] d h = absurd h
@@ -119,6 +127,12 @@ module _ (session : ℕ) where
       go : (b : Bool) → (if b then Some x.undo else first_undo session ts) ≡ None → (first_undo session ts ≡ None → without_first session ts ≡ ts) → (if b then ts else x ∷ without_first session ts) ≡ x ∷ ts
       go true e more = absurd (cc)
       go false e more = ap (λ ys. x ∷ ys) (more e)
+
+  -- where one is found later, one was open at first
+  pub found_at_first : (ts v : List Transaction) (us : List Undo) → first_undo session ts ≡ Some us → (first_undo session v ≡ None → ts ≡ v) → first_undo session v ≢ None
+  found_at_first ts v us first still none =
+      let same : ts ≡ v = still none in
+      absurd (cc)
 
   -- else it undoes the latest begun first, and is then the Close of the others
   pub close_step : (ts : List Transaction) (us : List Undo) (m : Map) → first_undo session ts ≡ Some us

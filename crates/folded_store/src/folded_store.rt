@@ -1,4 +1,4 @@
-ghost use Rattle.std.specs.Prelude.{◌≡◌, ◌≤◌, [], Some, OnOk, IfOk, IfSome, IsTrue, true, length, filter, map};
+ghost use Rattle.std.specs.Prelude.{◌≡◌, ◌≢◌, ◌≤◌, [], Some, None, OnOk, OnErr, IfOk, IfSome, IsTrue, true, length, filter, map};
 ghost use Rattle.std.specs.Option.{option_copied};
 ghost use Rattle.std.specs.List.{list_any};
 ghost use Rattle.std.specs.declared.cmp.Ordering.TheVariants.{Less};
@@ -16,7 +16,7 @@ ghost use Rattle.end_words.specs.Runs.{covers, pairs_of};
 ghost use Rattle.block_bytes.specs.Blocks.{block_bytes, IsBlockRun};
 ghost use Rattle.block_tree.specs.TreeWords.{end_of_keys, all_keys, FitsOneBlock};
 ghost use Rattle.folded_store.specs.Limits.{EntryFits};
-ghost use Rattle.folded_store.specs.Transactions.{is_of};
+ghost use Rattle.folded_store.specs.Transactions.{is_of, first_undo, IsOutside};
 
 use crate::begun::Begun;
 use crate::changing::remove_node;
@@ -173,12 +173,13 @@ impl<P: PairTable> FoldedStore<P> {
         self.begun.count(session)
     }
 
-    /// Takes one entry more. Out of memory, a part of it may be done.
+    /// Takes one entry more. Out of memory, one outside transactions changes nothing, and of another a part may be done.
     pub fn apply(&mut self, alloc: Global, entry: &Entry) -> Result<Applied, AllocError>
         requires { EntryFits entry.now }
         ensures next { OnOk result (self.new ≡ fold_step self.old entry.now) }
         ensures spans { IfOk result (λ applied. applied.spans ≡ entry_spans self.old entry.now) }
         ensures sum { IfOk result (λ applied. applied.sum ≡ entry_sum self.old.pairs entry.now) }
+        ensures err { OnErr result (IsOutside self.old.begun entry.now → self.new ≡ self.old) }
     {
         match entry {
             Entry::Epoch { .. } | Entry::Opened { .. } => Ok(without_sum(Spans::new(alloc))),
@@ -220,6 +221,7 @@ impl<P: PairTable> FoldedStore<P> {
     fn close(&mut self, alloc: Global, session: u64) -> Result<Spans, AllocError>
         ensures next { OnOk result (self.new ≡ fold_step self.old (Closed session)) }
         ensures spans { IfOk result (λ spans. spans ≡ session_spans session self.old.begun) }
+        ensures some { OnErr result (first_undo session self.old.begun ≢ None) }
     {
         let mut spans = Spans::new(alloc);
         while let Some(undo) = self.begun.end_latest(session) {
@@ -236,6 +238,7 @@ impl<P: PairTable> FoldedStore<P> {
         ensures begun { OnOk result (self.new.begun ≡ ended name.session name.job name.txn self.old.begun) }
         ensures spans { IfOk result (λ spans. spans
             ≡ map undo_span (undo_in name.session name.job name.txn self.old.begun)) }
+        ensures some { OnErr result (is_begun name.session name.job name.txn self.old.begun ≡ true) }
     {
         let undo = self.begun.end(alloc, name);
         let mut spans = Spans::new(alloc);
@@ -243,13 +246,15 @@ impl<P: PairTable> FoldedStore<P> {
         Ok(spans)
     }
 
-    /// Does an operation, and notes what its transaction would put back. Out of memory, a part of it may be done.
+    /// Does an operation, and notes what its transaction would put back. Out of memory, a part of it may be done, but outside
+    /// transactions nothing changes.
     fn update(&mut self, alloc: Global, name: TransactionName, op: &Op) -> Result<Sum, AllocError>
         requires { OpMay name.txn op.now }
         ensures pairs { OnOk result (self.new.pairs ≡ op_after self.old.pairs op.now) }
         ensures begun { OnOk result (self.new.begun
             ≡ noted name.session name.job name.txn (undo_of_op self.old.pairs op.now) self.old.begun) }
         ensures sum { IfOk result (λ sum. sum ≡ op_sum self.old.pairs op.now) }
+        ensures err { OnErr result (name.txn ≡ 0 → self.new ≡ self.old) }
     {
         match op {
             Op::Set { key, value } => {
@@ -277,6 +282,7 @@ impl<P: PairTable> FoldedStore<P> {
         ensures pairs { OnOk result (self.new.pairs ≡ put self.old.pairs key.now value.now) }
         ensures begun { OnOk result (self.new.begun ≡ noted name.session name.job name.txn
             (Some (OldValue key.now (value_at self.old.pairs key.now))) self.old.begun) }
+        ensures err { OnErr result (name.txn ≡ 0 → self.new ≡ self.old) }
     {
         let node = key.clone()?;
         let text = value.clone()?;
@@ -303,6 +309,7 @@ impl<P: PairTable> FoldedStore<P> {
         ensures pairs { OnOk result (self.new.pairs ≡ remove_under self.old.pairs key.now) }
         ensures begun { OnOk result (self.new.begun ≡ noted name.session name.job name.txn
             (Some (OldPairs key.now (pairs_under self.old.pairs key.now))) self.old.begun) }
+        ensures err { OnErr result (name.txn ≡ 0 → self.new ≡ self.old) }
     {
         let pairs = remove_node(alloc, &mut self.pairs, key)?;
         if name.txn == 0 {
@@ -333,6 +340,7 @@ impl<P: PairTable> FoldedStore<P> {
         ensures sum { IfOk result (λ sum. sum ≡ sum_with (value_at self.old.pairs key.now) amount) }
         ensures pairs { IfOk result (λ sum. self.new.pairs ≡ with_sum self.old.pairs key.now sum) }
         ensures begun { OnOk result (self.new.begun ≡ self.old.begun) }
+        ensures err { OnErr result (self.new ≡ self.old) }
     {
         let sum = self.sum(key, amount);
         if let Sum::Whole(number) = sum {

@@ -2,10 +2,11 @@
 //!
 //! Contracts see a `FoldedStore` as the `Folded` of the entries that it took: the map of the pairs, and the open
 //! transactions, the latest begun first. `apply` takes any entry whose key and value are within their limits, and is one
-//! step of the fold; it tells exactly the spans that the entry changed, and an increment's sum. `run_for` is the table's. Over
+//! step of the fold; it tells exactly the spans of what the entry does or undoes, and an increment's sum. `run_for` is the table's. Over
 //! the tree of blocks it is the store of a data server, and over a flat list the `PlainStore`.
 //!
-//! Out of memory in the middle of an entry a part of it may be done: no clause says which, and such a store is to be let go.
+//! Out of memory, an entry outside transactions changes nothing. Of one in an open transaction, or of the end of one, a part may
+//! be done: no clause says which, and such a store is to be let go.
 #![tactic(auto)]
 
 mod begun;

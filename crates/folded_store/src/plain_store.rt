@@ -1,4 +1,4 @@
-ghost use Rattle.std.specs.Prelude.{◌≡◌, ◌≤◌, true, length, OnOk, IfOk, IfSome};
+ghost use Rattle.std.specs.Prelude.{◌≡◌, ◌≤◌, true, length, OnOk, OnErr, IfOk, IfSome};
 ghost use Rattle.std.specs.Option.{option_copied};
 ghost use Rattle.std.specs.declared.cmp.Ordering.TheVariants.{Less};
 ghost use Rattle.subscript_keys.specs.Key.{IsKey, IsSub};
@@ -10,6 +10,7 @@ ghost use Rattle.end_words.specs.Runs.{covers, pairs_of};
 ghost use Rattle.block_bytes.specs.Blocks.{block_bytes, IsBlockRun};
 ghost use Rattle.block_tree.specs.TreeWords.{end_of_keys, all_keys, FitsOneBlock};
 ghost use Rattle.folded_store.specs.Limits.{EntryFits};
+ghost use Rattle.folded_store.specs.Transactions.{IsOutside};
 
 use crate::folded_store::FoldedStore;
 use block_tree::FlatPairs;
@@ -93,12 +94,13 @@ impl PlainStore {
         self.folded.run_for(key)
     }
 
-    /// Takes one entry more. Out of memory, a part of it may be done.
+    /// Takes one entry more. Out of memory, one outside transactions changes nothing, and of another a part may be done.
     pub fn apply(&mut self, alloc: Global, entry: &Entry) -> Result<Applied, AllocError>
         requires { EntryFits entry.now }
         ensures next { OnOk result (self.new ≡ fold_step self.old entry.now) }
         ensures spans { IfOk result (λ applied. applied.spans ≡ entry_spans self.old entry.now) }
         ensures sum { IfOk result (λ applied. applied.sum ≡ entry_sum self.old.pairs entry.now) }
+        ensures err { OnErr result (IsOutside self.old.begun entry.now → self.new ≡ self.old) }
     {
         self.folded.apply(alloc, entry)
     }

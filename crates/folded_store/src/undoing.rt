@@ -1,4 +1,4 @@
-ghost use Rattle.std.specs.Prelude.{◌≡◌, ◌++◌, map, IfOk, OnOk};
+ghost use Rattle.std.specs.Prelude.{◌≡◌, ◌≢◌, ◌++◌, [], map, IfOk, OnOk, OnErr};
 ghost use Rattle.plain_orders.specs.Fold.{undone, all_undone};
 ghost use Rattle.plain_orders.specs.Spans.{undo_span};
 ghost use Rattle.folded_store.specs.Limits.{MapFits, UndoFits, UndosFit};
@@ -25,7 +25,7 @@ fn undo_item<P: PairTable>(alloc: Global, pairs: &mut P, item: UndoItem) -> Resu
 }
 
 /// Puts all items of a transaction back, the newest first, and adds the spans in which they change something. Out of
-/// memory, a part of them is put back.
+/// memory, a part of them is put back; of no item, it takes no memory.
 pub fn undo_all<P: PairTable>(
     alloc: Global,
     pairs: &mut P,
@@ -37,6 +37,7 @@ pub fn undo_all<P: PairTable>(
     ensures ok { OnOk result (P.pairs pairs.new ≡ all_undone (P.pairs pairs.old) undo) }
     ensures spans { OnOk result (spans.new ≡ spans.old ++ map undo_span undo) }
     ensures fits { MapFits (P.pairs pairs.new) }
+    ensures some { OnErr result (undo ≢ []) }
 {
     let mut undo = undo;
     while let Some(item) = undo.pop() {

@@ -2,11 +2,21 @@ use global_store::{GlobalStore, OwedItem};
 use plain_orders::{Entry, Op, Sum};
 use std::alloc::{AllocError, Global};
 
-/// The entries so far with their sums, to be looked through.
+/// What entries so far say of a session.
+#[derive(Drop)]
+struct Row {
+    session: u64,
+    app: u8,
+    count: u64,
+    closed_at: Option<u64>,
+}
+
+/// The entries so far with their sums, to be looked through, and a row of each session.
 #[derive(Drop)]
 pub struct Listed {
-    pub entries: Vec<Entry>,
-    pub sums: Vec<Sum>,
+    entries: Vec<Entry>,
+    sums: Vec<Sum>,
+    rows: Vec<Row>,
 }
 
 /// The session and running number of an item.
@@ -32,92 +42,58 @@ fn owed_item(entry: &Entry) -> Option<OwedItem> {
     }
 }
 
+impl Row {
+    /// Whether the store says of the session what the row says.
+    fn agrees(&self, store: &GlobalStore) -> bool {
+        let live = self.closed_at.is_none();
+        store.closed_at(self.session) == self.closed_at
+            && store.count(self.session) == self.count
+            && store.is_live(self.session) == live
+            && store.app_of(self.session) == Some(self.app)
+            && store.live_sessions().contains(&self.session) == live
+            && (store.live_session(self.app) == Some(self.session)) == live
+    }
+}
+
 impl Listed {
     pub fn new(alloc: Global) -> Listed {
         Listed {
             entries: Vec::new(alloc),
             sums: Vec::new(alloc),
+            rows: Vec::new(alloc),
         }
     }
 
     pub fn push(&mut self, entry: &Entry, sum: Sum) -> Result<(), AllocError> {
         self.entries.push(entry.clone()?)?;
         self.sums.push(sum)?;
+        if let Entry::Opened { session, app } = entry {
+            self.rows.push(Row {
+                session: *session,
+                app: *app,
+                count: 0,
+                closed_at: None,
+            })?;
+        }
+        let at = self.entries.len() as u64;
+        for row in self.rows.iter_mut() {
+            match (item_of(entry), entry) {
+                (Some((session, w)), _) if session == row.session => row.count = w,
+                (_, Entry::Closed { session }) if *session == row.session => {
+                    row.closed_at = Some(at);
+                }
+                _ => {}
+            }
+        }
         Ok(())
     }
 
-    fn count(&self, session: u64) -> u64 {
-        let mut count = 0;
-        for entry in &self.entries {
-            if let Some((its, w)) = item_of(entry) {
-                if its == session && w > count {
-                    count = w;
-                }
-            }
-        }
-        count
-    }
-
-    /// Whether the Close of a session stands at this place, the first being at 1.
-    fn is_close_at(&self, session: u64, at: u64) -> bool {
-        if at == 0 {
-            return false;
-        }
-        match self.entries.get(at as usize - 1) {
-            Some(Entry::Closed { session: its }) => *its == session,
-            _ => false,
-        }
-    }
-
-    fn is_closed(&self, session: u64) -> bool {
-        self.entries.iter().any(|entry| match entry {
-            Entry::Closed { session: its } => *its == session,
-            _ => false,
-        })
-    }
-
-    fn app_of(&self, session: u64) -> Option<u8> {
-        let mut found = None;
-        for entry in &self.entries {
-            if let Entry::Opened { session: its, app } = entry {
-                if *its == session {
-                    found = Some(*app);
-                }
-            }
-        }
-        found
-    }
-
-    /// Whether the store says of each session what the list says, and of one that was not opened.
+    /// Whether the store says of each session what the list says, of one that was not opened, and of what is owed.
     pub fn agrees(&self, store: &GlobalStore) -> bool {
-        for entry in &self.entries {
-            if let Entry::Opened { session, .. } = entry {
-                if !self.agrees_on(store, *session) {
-                    return false;
-                }
-            }
-        }
-        self.agrees_on(store, 1) && self.agrees_on_owed(store)
-    }
-
-    /// Whether the store says of a session what the list says.
-    fn agrees_on(&self, store: &GlobalStore, session: u64) -> bool {
-        let app = self.app_of(session);
-        let closed = self.is_closed(session);
-        let live = app.is_some() && !closed;
-        let place_agrees = match store.closed_at(session) {
-            None => !closed,
-            Some(at) => self.is_close_at(session, at),
-        };
-        place_agrees
-            && store.count(session) == self.count(session)
-            && store.is_live(session) == live
-            && store.app_of(session) == app
-            && store.live_sessions().contains(&session) == live
-            && match app {
-                None => true,
-                Some(app) => (store.live_session(app) == Some(session)) == live,
-            }
+        store.count(1) == 0
+            && !store.is_live(1)
+            && self.rows.iter().all(|row| row.agrees(store))
+            && self.agrees_on_owed(store)
     }
 
     /// Whether the store says what the list says of what items of live sessions are owed.

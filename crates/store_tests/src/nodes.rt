@@ -1,7 +1,7 @@
 ghost use Rattle.std.specs.Prelude.{◌≤◌};
 
 use std::alloc::{AllocError, Global};
-use subscript_keys::{Decimal, KEY_LIMIT, KeyBytes, Sub, ValueBytes, put_sub};
+use subscript_keys::{Decimal, KEY_LIMIT, KeyBytes, Sub, ValueBytes, put_sub, take_sub};
 
 /// A running number behind this one.
 pub fn next_number(number: u64) -> u64 {
@@ -27,6 +27,21 @@ fn put_number(alloc: Global, to: &mut Vec<u8>, number: u64) -> Result<(), AllocE
         None => Ok(()),
         Some(number) => put_sub(to, &Sub::Num(number)),
     }
+}
+
+/// The subscript that stands first in these bytes.
+pub fn sub_of(alloc: Global, bytes: &[u8]) -> Result<Option<Sub>, AllocError> {
+    match take_sub(alloc, bytes)? {
+        None => Ok(None),
+        Some((sub, _rest)) => Ok(Some(sub)),
+    }
+}
+
+/// The bytes of a number as a subscript.
+pub fn sub_bytes(alloc: Global, number: u64) -> Result<Vec<u8>, AllocError> {
+    let mut bytes = Vec::new(alloc);
+    put_number(alloc, &mut bytes, number)?;
+    Ok(bytes)
 }
 
 /// The bytes of the key of `^g`, of `^g(A)` or of `^g(A,B)`, and so on.

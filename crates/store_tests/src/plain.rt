@@ -1,13 +1,13 @@
 ghost use Rattle.std.specs.Prelude.{◌≡◌, IfOk};
 
-use crate::nodes::{node_key, value_of};
-use crate::runs::{Store, walk};
+use crate::nodes::{node_key, sub_of, value_of};
+use crate::runs::{Store, next_sub, walk};
 use folded_store::PlainStore;
 use global_store::entry_fits;
 use plain_orders::{Applied, Entry, Op, Sum};
 use std::alloc::{AllocError, Global};
 use std::test::Fail;
-use subscript_keys::{KeyBytes, Sub, ValueBytes, decode, take_sub};
+use subscript_keys::{KeyBytes, ValueBytes};
 
 /// What an update does to the node of its row.
 #[derive(Clone, Copy)]
@@ -32,18 +32,34 @@ fn key(alloc: Global, bytes: &[u8]) -> Result<KeyBytes, AllocError>
     Ok(KeyBytes::from_vec(Vec::from_slice(alloc, bytes)?))
 }
 
-fn apply(alloc: Global, store: &mut PlainStore, op: Op) -> Result<Applied, Fail> {
-    let entry = Entry::Update {
-        session: 2,
-        w: 1,
-        job: 0,
-        txn: 0,
-        op,
-    };
-    if !entry_fits(alloc, &entry)? {
+fn apply(alloc: Global, store: &mut PlainStore, entry: &Entry) -> Result<Applied, Fail> {
+    if !entry_fits(alloc, entry)? {
         return Err(Fail::from("an entry is past the limits"));
     }
-    Ok(store.apply(alloc, &entry)?)
+    Ok(store.apply(alloc, entry)?)
+}
+
+/// An update of a job of session 2, in its transaction of this number.
+fn update(job: u16, txn: u32, op: Op) -> Entry {
+    Entry::Update {
+        session: 2,
+        w: 1,
+        job,
+        txn,
+        op,
+    }
+}
+
+fn op_of(alloc: Global, node: &[u8], change: Change) -> Result<Op, AllocError> {
+    let key = key(alloc, node)?;
+    Ok(match change {
+        Change::Set(text) => Op::Set {
+            key,
+            value: ValueBytes::from_vec(Vec::from_slice(alloc, text.as_bytes())?),
+        },
+        Change::Kill => Op::Kill { key },
+        Change::Add(amount) => Op::Add { key, amount },
+    })
 }
 
 fn make_change(
@@ -52,16 +68,8 @@ fn make_change(
     node: &[u8],
     change: Change,
 ) -> Result<Applied, Fail> {
-    let key = key(alloc, node)?;
-    let op = match change {
-        Change::Set(text) => Op::Set {
-            key,
-            value: ValueBytes::from_vec(Vec::from_slice(alloc, text.as_bytes())?),
-        },
-        Change::Kill => Op::Kill { key },
-        Change::Add(amount) => Op::Add { key, amount },
-    };
-    apply(alloc, store, op)
+    let entry = update(0, 0, op_of(alloc, node, change)?);
+    apply(alloc, store, &entry)
 }
 
 fn holds(alloc: Global, store: &PlainStore, node: &[u8], want: &str) -> Result<bool, AllocError> {
@@ -103,29 +111,64 @@ fn a_plain_store_answers_what_was_set_killed_and_incremented(rt: HostRuntime) ->
     Ok(())
 }
 
-/// The subscript that stands in these bytes.
-fn sub(alloc: Global, bytes: &[u8]) -> Result<Option<Sub>, AllocError> {
-    match take_sub(alloc, bytes)? {
-        None => Ok(None),
-        Some((sub, _rest)) => Ok(Some(sub)),
-    }
+/// What a job does in its first transaction.
+#[derive(Clone, Copy)]
+enum Doing {
+    Changes(&'static [u8], Change),
+    Commits,
+    RollsBack,
+    IsClosed,
 }
 
-/// The subscript after the one that these bytes are, or the first.
-fn next(
-    alloc: Global,
-    store: &PlainStore,
-    parent: &[u8],
-    behind: &[u8],
-) -> Result<Option<Sub>, Fail> {
-    let Ok(_node) = decode(alloc, parent) else {
-        return Err(Fail::from("no node has this key"));
-    };
-    let parent = key(alloc, parent)?;
-    match take_sub(alloc, behind)? {
-        None => Ok(store.next_sub(alloc, &parent, None)?),
-        Some((sub, _rest)) => Ok(store.next_sub(alloc, &parent, Some(&sub))?),
+fn entry_of(alloc: Global, job: u16, doing: Doing) -> Result<Entry, AllocError> {
+    Ok(match doing {
+        Doing::Changes(node, change) => update(job, 1, op_of(alloc, node, change)?),
+        Doing::Commits => Entry::Commit {
+            session: 2,
+            w: 1,
+            job,
+            txn: 1,
+        },
+        Doing::RollsBack => Entry::Rollback {
+            session: 2,
+            w: 1,
+            job,
+            txn: 1,
+        },
+        Doing::IsClosed => Entry::Closed { session: 2 },
+    })
+}
+
+#[test]
+fn a_plain_store_undoes_the_newest_first(rt: HostRuntime) -> Result<(), Fail> {
+    let alloc = rt.alloc();
+    let mut store = PlainStore::new(alloc);
+    make_change(alloc, &mut store, A, Change::Set("0"))?;
+    let rows = [
+        (0, Doing::Changes(A, Change::Set("1")), 1, "1", "none"),
+        (0, Doing::Changes(A_1, Change::Set("2")), 1, "1", "2"),
+        (1, Doing::Changes(A_1, Change::Set("3")), 1, "1", "3"),
+        (0, Doing::Changes(A, Change::Kill), 1, "none", "none"),
+        (0, Doing::Changes(A, Change::Set("4")), 1, "4", "none"),
+        (0, Doing::RollsBack, 4, "0", "none"),
+        (0, Doing::RollsBack, 0, "0", "none"),
+        (1, Doing::Commits, 0, "0", "none"),
+        (1, Doing::RollsBack, 0, "0", "none"),
+        (0, Doing::Changes(A, Change::Set("5")), 1, "5", "none"),
+        (1, Doing::Changes(A, Change::Set("6")), 1, "6", "none"),
+        (0, Doing::Changes(A_1, Change::Set("7")), 1, "6", "7"),
+        (1, Doing::Changes(A, Change::Kill), 1, "none", "none"),
+        (0, Doing::IsClosed, 4, "0", "none"),
+        (0, Doing::IsClosed, 0, "0", "none"),
+    ];
+    for (job, doing, spans, at_a, at_a_1) in rows {
+        let entry = entry_of(alloc, job, doing)?;
+        let applied = apply(alloc, &mut store, &entry)?;
+        assert_eq!(rt; applied.spans.as_slice().len(), spans);
+        assert_eq!(rt; holds(alloc, &store, A, at_a)?, true);
+        assert_eq!(rt; holds(alloc, &store, A_1, at_a_1)?, true);
     }
+    Ok(())
 }
 
 #[test]
@@ -177,7 +220,8 @@ fn a_plain_store_answers_what_stands_below_a_node(rt: HostRuntime) -> Result<(),
         (B, b"", b""),
     ];
     for (parent, behind, want) in rows {
-        assert_eq!(rt; next(alloc, &store, parent, behind)?, sub(alloc, want)?);
+        let found = next_sub(alloc, Store::Plain(&store), &key(alloc, parent)?, behind)?;
+        assert_eq!(rt; found, sub_of(alloc, want)?);
     }
     Ok(())
 }
@@ -187,15 +231,15 @@ fn a_plain_store_cuts_its_list_where_a_block_is_full(rt: HostRuntime) -> Result<
     let alloc = rt.alloc();
     let mut store = PlainStore::new(alloc);
     let mut filled = 0u64;
-    // A pair takes 4 bytes, 10 of its key and 150 of its value. A block has 8192 bytes: 7 for its lengths, its two edges, which are
-    // empty or FF at the ends of all keys and else 10 bytes long, and so 49 pairs up to the first edge.
+    // A pair takes 4 bytes, 10 of its key and 150 of its value. A block has at most 8192 bytes: 7, its two edges, which are
+    // empty or FF at the ends of all keys and else 10 bytes long, and its pairs; so 49 pairs fit up to the first edge.
     for (many, want) in [(49, &[49][..]), (50, &[49, 1][..]), (81, &[49, 32][..])] {
         for number in filled..many {
             let op = Op::Set {
                 key: node_key(alloc, &[number / 9 + 1, number % 9 + 1])?,
                 value: value_of(alloc, 150)?,
             };
-            apply(alloc, &mut store, op)?;
+            apply(alloc, &mut store, &update(0, 0, op))?;
         }
         filled = many;
         let (runs, pairs) = walk(alloc, Store::Plain(&store))?;

@@ -1,4 +1,4 @@
-use Rattle.std.proofs.Common.{◌≡◌, ◌++◌, map, length}
+use Rattle.std.proofs.Common.{◌≡◌, ◌++◌, [], map, length}
 use Rattle.plain_orders.specs.Fold.{all_undone}
 use Rattle.plain_orders.specs.Spans.{undo_span}
 use Rattle.folded_store.specs.Limits.{MapFits, UndosFit}
@@ -10,6 +10,7 @@ invariant-loop-item g l = record {
   fits : MapFits (g.P.PairTable.pairs l.pairs);
   left : UndosFit l.undo;
   same : all_undone (g.P.PairTable.pairs l.pairs) l.undo ≡ all_undone (g.P.PairTable.pairs l.initial.pairs) l.initial.undo;
+  none : l.initial.undo ≡ [] → l.undo ≡ [];
   told : l.spans ++ map undo_span l.undo ≡ l.initial.spans ++ map undo_span l.initial.undo;
 }
 

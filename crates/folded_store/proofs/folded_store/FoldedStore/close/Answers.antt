@@ -4,7 +4,7 @@ use Rattle.plain_orders.specs.PairMap.{Map}
 use Rattle.plain_orders.specs.Fold.{Transaction, Folded}
 use Rattle.folded_store.specs.Limits.{BegunFits}
 use Rattle.folded_store.specs.Transactions.{first_undo}
-use Rattle.folded_store.proofs.BegunLemmas.{close_done, none_goes, undone_still, told_still, open_still, fewer_left}
+use Rattle.folded_store.proofs.BegunLemmas.{close_done, found_at_first, none_goes, undone_still, told_still, open_still, fewer_left}
 use Rattle.folded_store.proofs.FitLemmas.{first_fits, rest_fits}
 use Rattle.folded_store.proofs.folded_store.FoldedStore.close.Goals as goal
 
@@ -30,6 +30,7 @@ loop-undo-preserved g c =
         begun = subst BegunFits (sym c.in-Some.ensures.rest) (rest_fits s ts c.loop-undo.invariant.fits.begun);
       };
       pairs = undone_still s ts c.end_latest.new.self c.in-Some.undo (g.P.PairTable.pairs c.loop-undo.self-inside.pairs) (g.P.PairTable.pairs c.undo_all.new.pairs) c.loop-undo.spans c.undo_all.new.spans first c.in-Some.ensures.rest c.in_ok-undo_all.ensures.ok c.in_ok-undo_all.ensures.spans ∙ c.loop-undo.invariant.pairs;
+      none = λ h. absurd (found_at_first s ts c.self.inside.begun c.in-Some.undo first c.loop-undo.invariant.none h);
       told = told_still s ts c.end_latest.new.self c.in-Some.undo (g.P.PairTable.pairs c.loop-undo.self-inside.pairs) (g.P.PairTable.pairs c.undo_all.new.pairs) c.loop-undo.spans c.undo_all.new.spans first c.in-Some.ensures.rest c.in_ok-undo_all.ensures.ok c.in_ok-undo_all.ensures.spans ∙ c.loop-undo.invariant.told;
       begun = open_still s ts c.end_latest.new.self c.in-Some.undo (g.P.PairTable.pairs c.loop-undo.self-inside.pairs) (g.P.PairTable.pairs c.undo_all.new.pairs) c.loop-undo.spans c.undo_all.new.spans first c.in-Some.ensures.rest c.in_ok-undo_all.ensures.ok c.in_ok-undo_all.ensures.spans ∙ c.loop-undo.invariant.begun;
     }
