@@ -1,1 +1,7 @@
 pub mod HoldFacts
+pub mod Turns
+pub mod OverRows
+pub mod HoldSteps
+pub mod HoldRuns
+pub mod LeftHolds
+pub mod LaterHolds
