@@ -1,5 +1,6 @@
 -- What is said of each hold and of each request that was given up, but for what needs an induction of its own.
-use Rattle.std.proofs.Common.{◌≡◌, ℕ, suc, ◌≤◌, ◌+◌, List, [], ◌∷◌, length, take, refl, sym, ap, ◌∙◌, Bool, true, false, arith, ◌||◌, Option, Some, None, slice_get}
+use Rattle.std.proofs.Common.{◌≡◌, ℕ, suc, ◌≤◌, ◌+◌, List, [], ◌∷◌, length, take, refl, sym, ap, ◌∙◌, Bool, true, false, arith, ◌||◌, Option, Some}
+use Rattle.std.proofs.Common.{None, slice_get}
 use Rattle.std.specs.Prelude.{is_some, IfSome}
 use Rattle.std.proofs.lemmas.Bool.{eqb-true, or_from}
 use Rattle.std.proofs.lemmas.List.{length-take-le}
@@ -17,14 +18,17 @@ use Rattle.plain_runs.proofs.HoldRows.{sent_facts}
 use Rattle.plain_runs.proofs.LockRows.{HoldOf, QuitKept, each_at, locks}
 use Rattle.plain_runs.proofs.LockLaws.{locks_kept}
 use Rattle.plain_runs.proofs.Issued.{PlacedAt, PlacedFrom, issued_kept, placed-take}
-use Rattle.hold_laws.specs.HoldLaws.{EachHold, EachQuit, TouchedIsMet, AnsweredIsSynced, SentIsBehindOpen, GivenIsIssued, ReleasedIsClosed, KeptIsClosed, QuitIsMet, QuitIsIssued}
+use Rattle.hold_laws.specs.HoldLaws.{EachHold, EachQuit, TouchedIsMet, AnsweredIsSynced, SentIsBehindOpen, GivenIsIssued, ReleasedIsClosed}
+use Rattle.hold_laws.specs.HoldLaws.{KeptIsClosed, QuitIsMet, QuitIsIssued}
 
 -- what each hold keeps
-pub hold_kept : (l : Layout) (acts : List Act) (d : ℕ) → IsRun l acts → (i : ℕ) (h : Hold) → IsHold (server_after l acts d) i h → HoldOf (locks (server_after l acts d)) h
+pub hold_kept : (l : Layout) (acts : List Act) (d : ℕ) → IsRun l acts → (i : ℕ) (h : Hold) → IsHold (server_after l acts d) i h
+    → HoldOf (locks (server_after l acts d)) h
 hold_kept l acts d run i h is = each_at (HoldOf (locks (server_after l acts d))) (server_after l acts d).holds i h (locks_kept l acts d run).holds is
 
 -- what each request that was given up keeps
-quit_kept : (l : Layout) (acts : List Act) (d : ℕ) → IsRun l acts → (i : ℕ) (q : Quitted) → slice_get (server_after l acts d).quits i ≡ Some q → QuitKept (server_after l acts d).session_at q
+quit_kept : (l : Layout) (acts : List Act) (d : ℕ) → IsRun l acts → (i : ℕ) (q : Quitted) → slice_get (server_after l acts d).quits i ≡ Some q
+    → QuitKept (server_after l acts d).session_at q
 quit_kept l acts d run i q is = each_at (QuitKept (server_after l acts d).session_at) (server_after l acts d).quits i q (locks_kept l acts d run).quits is
 
 pub touched_is_met : EachHold TouchedIsMet
@@ -62,7 +66,8 @@ open_entry k (Commit session w job txn) s p o = absurd (cc (o))
 open_entry k (Rollback session w job txn) s p o = absurd (cc (o))
 
 -- an opened session's Open stands in its place
-open_from : (k : ℕ) (es : List Entry) (s : ℕ) → PlacedFrom k es → opens es s ≡ true → (i : ℕ) × (app : ℕ) × (slice_get es i ≡ Some (Opened s app)) × (s ≡ k + i + 1)
+open_from : (k : ℕ) (es : List Entry) (s : ℕ) → PlacedFrom k es → opens es s ≡ true
+    → (i : ℕ) × (app : ℕ) × (slice_get es i ≡ Some (Opened s app)) × (s ≡ k + i + 1)
 open_from k [] s p o = absurd (cc (o))
 open_from k (x ∷ es) s p o = go (is_open s x) refl (λ h. open_from (k + 1) es s p.1 h) o
   where

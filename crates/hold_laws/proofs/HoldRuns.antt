@@ -3,9 +3,9 @@ use Rattle.std.proofs.Common.{◌≡◌, ℕ, List, [], ◌∷◌, ◌++◌, ref
 use Rattle.std.specs.Prelude.{IsSomeAnd}
 use Rattle.std.proofs.lemmas.List.{append-nil}
 use Rattle.plain_orders.specs.declared.act.Act.{Act}
-use Rattle.plain_orders.specs.declared.act.Act.TheVariants.{Opened, Enter, Synced, Shut, Release, Met, Told, Back, Crash, Issue, Read, Grant, Granted, GiveUp, Quit}
-use Rattle.plain_orders.specs.declared.act.Act.TheVariants.{Free, Counted, NotWhole, Range, Committed, RolledBack, Reached, Level, Done, Refused, Broke, Mended}
-use Rattle.plain_orders.specs.declared.act.Act.TheVariants.{Tick, Lose, Died}
+use Rattle.plain_orders.specs.declared.act.Act.TheVariants.{Opened, Enter, Synced, Shut, Release, Met, Told, Back, Crash, Issue, Read}
+use Rattle.plain_orders.specs.declared.act.Act.TheVariants.{Grant, Granted, GiveUp, Quit, Free, Counted, NotWhole, Range, Committed, RolledBack}
+use Rattle.plain_orders.specs.declared.act.Act.TheVariants.{Reached, Level, Done, Refused, Broke, Mended, Tick, Lose, Died}
 use Rattle.plain_orders.specs.declared.refused.Refused.{Refused as Refusal}
 use Rattle.plain_orders.specs.declared.refused.Refused.TheVariants.{NoTransaction, TooDeep, RollbackOnly, LockTimeout, Network}
 use Rattle.plain_orders.specs.declared.causes.Loss.{Loss}
@@ -67,7 +67,8 @@ row_marks l p (Back d) may e = at_put MarkSteps p.server_at d _ marks_same (back
 row_marks l p (Crash d kept) may e = at_put MarkSteps p.server_at d _ marks_same (crash_marks p.clock l.times.round (p.server_at d) kept may) e
 row_marks l p (Issue job line d w item) may e =
     at_put MarkSteps p.server_at d _ marks_same
-    (session_marks (p.server_at d) (issues (p.server_at d) (app_of l job) (record { item = item; txn = txn_of (p.job_at job) item; job = job; line = line })) refl refl
+    (session_marks (p.server_at d)
+    (issues (p.server_at d) (app_of l job) (record { item = item; txn = txn_of (p.job_at job) item; job = job; line = line })) refl refl
     (issued_grows (p.server_at d) (pair_session (p.server_at d) (app_of l job))
     (λ m. record m { issued = m.issued ++ (record { item = item; txn = txn_of (p.job_at job) item; job = job; line = line }) ∷ [] })
     (λ m. ((record { item = item; txn = txn_of (p.job_at job) item; job = job; line = line }) ∷ [], refl)))) e
@@ -93,7 +94,8 @@ row_marks l p (Lose app d loss) may e = lost_marks l p app d loss e
 row_marks l p (Died app) may e = marks_same (p.server_at e)
 
 run_marks : (l : Layout) (p : Plain) (acts : List Act) → RunFrom l p acts → ((d : ℕ) → PairsKept (p.server_at d).session_at (p.server_at d).pair_at)
-    → ((d : ℕ) → OrdersKept (facet (p.server_at d))) → ((d : ℕ) → LocksKept (locks (p.server_at d))) → ((d : ℕ) → MarksKept (locks (p.server_at d)) (p.server_at d).turns)
+    → ((d : ℕ) → OrdersKept (facet (p.server_at d))) → ((d : ℕ) → LocksKept (locks (p.server_at d)))
+    → ((d : ℕ) → MarksKept (locks (p.server_at d)) (p.server_at d).turns)
     → (e : ℕ) → MarksKept (locks ((after_all l p acts).server_at e)) ((after_all l p acts).server_at e).turns
 run_marks l p [] run pairs os ls ms e = ms e
 run_marks l p (a ∷ acts) run pairs os ls ms e =

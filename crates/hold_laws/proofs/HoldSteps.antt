@@ -13,7 +13,8 @@ use Rattle.plain_orders.specs.declared.mode.Mode.{Mode}
 use Rattle.plain_orders.specs.Entries.{count, last_epoch}
 use Rattle.plain_orders.specs.Own.{Issued}
 use Rattle.plain_runs.specs.Plain.{Server, Session, Hold, Quitted, issued_in, pair_session, with_session}
-use Rattle.plain_runs.specs.Holds.{answered_hold, freed_hold, given_up, hold_after_back, hold_after_crash, is_asked, is_kept, is_lock, is_of, is_same_given, is_sent, is_sent_at, new_hold, released_hold}
+use Rattle.plain_runs.specs.Holds.{answered_hold, freed_hold, given_up, hold_after_back, hold_after_crash, is_asked, is_kept, is_lock, is_of}
+use Rattle.plain_runs.specs.Holds.{is_same_given, is_sent, is_sent_at, new_hold, released_hold}
 use Rattle.plain_runs.specs.OrderRows.{BackMay, CrashMay, EnterMay, OpenedMay, SyncedMay, came_back, crashed, due_of, entered, opened_with, saved}
 use Rattle.plain_runs.specs.EndRows.{MetMay, met_by}
 use Rattle.plain_runs.specs.LockRows.{FreeMay, first_given, first_quit, frees, given_now, given_quit, gives_up, granted, grants, is_quit, quits, releases}
@@ -23,7 +24,8 @@ use Rattle.plain_runs.proofs.Lists.{any_take, both_ways, is_open, live_has, none
 use Rattle.plain_runs.proofs.HoldRows.{IssuedGrows, issued_of, sent_facts}
 use Rattle.plain_runs.proofs.LockRows.{HoldOf, Locks, LocksKept, each_first, each_last, each_map, each_push, locks}
 use Rattle.hold_laws.proofs.OverRows.{OverWhereGone, over_back, over_crash, over_freed, over_grows}
-use Rattle.hold_laws.proofs.Turns.{bit, give_first, give_last, in_holds, in_holds-push, in_quits, quits_filter, quits_push, quits_taken, times, turns_first, turns_map}
+use Rattle.hold_laws.proofs.Turns.{bit, give_first, give_last, in_holds, in_holds-push, in_quits, quits_filter, quits_push, quits_taken, times}
+use Rattle.hold_laws.proofs.Turns.{turns_first, turns_map}
 
 abbrev pub OverOf : Locks → Hold → Type 0
 OverOf v h = OverWhereGone v.order v.synced v.due v.session_at h
@@ -49,11 +51,13 @@ each_with P Q R f [] p q = tt
 each_with P Q R f (h ∷ hs) p q = (f h p.0 q.0, each_with P Q R f hs p.1 q.1)
 
 -- fewer turns
-fewer : (hs ks : List Hold) (qs rs : List Quitted) (turns : ℕ) → ((n : ℕ) → in_holds n ks + in_quits n rs ≤ in_holds n hs + in_quits n qs) → TurnsOnce hs qs turns → TurnsOnce ks rs turns
+fewer : (hs ks : List Hold) (qs rs : List Quitted) (turns : ℕ) → ((n : ℕ) → in_holds n ks + in_quits n rs ≤ in_holds n hs + in_quits n qs)
+    → TurnsOnce hs qs turns → TurnsOnce ks rs turns
 fewer hs ks qs rs turns f k = record { once = λ n. omega (arith, f n, k.once n); below = λ n low. omega (arith, f n, k.below n low) }
 
 -- one more, which is the next
-one_more : (hs ks : List Hold) (qs rs : List Quitted) (turns : ℕ) → ((n : ℕ) → in_holds n ks + in_quits n rs ≤ in_holds n hs + in_quits n qs + bit (eqb turns n)) → TurnsOnce hs qs turns → TurnsOnce ks rs (turns + 1)
+one_more : (hs ks : List Hold) (qs rs : List Quitted) (turns : ℕ)
+    → ((n : ℕ) → in_holds n ks + in_quits n rs ≤ in_holds n hs + in_quits n qs + bit (eqb turns n)) → TurnsOnce hs qs turns → TurnsOnce ks rs (turns + 1)
 one_more hs ks qs rs turns f k = record {
   once = λ n. once n (eqb turns n) refl;
   below = λ n low. below n low (eqb turns n) refl;
@@ -87,7 +91,8 @@ pub entry_marks : (s t : Server) (e : Entry) → locks t ≡ record (locks s) { 
 entry_marks s t e same turns o k m =
     subst (MarksKept (locks t)) (sym turns)
     (subst (λ (v : Locks). MarksKept v s.turns) (sym same)
-    (grown (locks s) (record (locks s) { order = s.order ++ e ∷ [] }) s.turns (e ∷ []) refl (omega arith) (λ x. x) (λ n. issued_same (s.session_at n)) refl refl o.within k m))
+    (grown (locks s) (record (locks s) { order = s.order ++ e ∷ [] }) s.turns (e ∷ []) refl (omega arith) (λ x. x)
+    (λ n. issued_same (s.session_at n)) refl refl o.within k m))
 
 pub enter_marks : (l : Layout) (clock : ℕ) (s : Server) (x : Entry) → EnterMay l clock s x → MarkSteps s (entered s x)
 enter_marks l clock s (Epoch number) may = absurd may
@@ -98,17 +103,21 @@ enter_marks l clock s (Commit session w job txn) may = entry_marks s (entered s 
 enter_marks l clock s (Rollback session w job txn) may = entry_marks s (entered s (Rollback session w job txn)) (Rollback session w job txn) refl refl
 
 pub saved_marks : (s : Server) (n : ℕ) → SyncedMay s n → MarkSteps s (saved s n)
-saved_marks s n may o k m = grown (locks s) (locks (saved s n)) s.turns [] (sym (append-nil s.order)) may.no_less (λ x. x) (λ i. issued_same (s.session_at i)) refl refl o.within k m
+saved_marks s n may o k m =
+    grown (locks s) (locks (saved s n)) s.turns [] (sym (append-nil s.order)) may.no_less (λ x. x) (λ i. issued_same (s.session_at i)) refl refl o.within k m
 
 -- sessions changed, what was issued in them going on
-pub session_marks : (s t : Server) → locks t ≡ record (locks s) { session_at = t.session_at } → t.turns ≡ s.turns → ((n : ℕ) → IssuedGrows (s.session_at n) (t.session_at n)) → MarkSteps s t
+pub session_marks : (s t : Server) → locks t ≡ record (locks s) { session_at = t.session_at } → t.turns ≡ s.turns
+    → ((n : ℕ) → IssuedGrows (s.session_at n) (t.session_at n)) → MarkSteps s t
 session_marks s t same turns grows o k m =
     subst (MarksKept (locks t)) (sym turns)
     (subst (λ (v : Locks). MarksKept v s.turns) (sym same)
-    (grown (locks s) (record (locks s) { session_at = t.session_at }) s.turns [] (sym (append-nil s.order)) (omega arith) (λ x. x) grows refl refl o.within k m))
+    (grown (locks s) (record (locks s) { session_at = t.session_at }) s.turns [] (sym (append-nil s.order)) (omega arith) (λ x. x)
+    grows refl refl o.within k m))
 
 -- one session changed
-pub issued_grows : (s : Server) (n : ℕ) (f : Session → Session) → ((x : Session) → (more : List Issued) × ((f x).issued ≡ x.issued ++ more)) → (i : ℕ) → IssuedGrows (s.session_at i) ((with_session s n f).session_at i)
+pub issued_grows : (s : Server) (n : ℕ) (f : Session → Session) → ((x : Session) → (more : List Issued) × ((f x).issued ≡ x.issued ++ more)) → (i : ℕ)
+    → IssuedGrows (s.session_at i) ((with_session s n f).session_at i)
 issued_grows s n f more i = at_put IssuedGrows s.session_at n (option_map f (s.session_at n)) issued_same (here (s.session_at n)) i
   where
     here : (o : Option Session) → IssuedGrows o (option_map f o)
@@ -116,8 +125,11 @@ issued_grows s n f more i = at_put IssuedGrows s.session_at n (option_map f (s.s
     here (Some x) = ((λ e. refl), more x)
 
 -- a session more
-pub met_grows : (l : Layout) (s : Server) (app session : ℕ) → MetMay s app session → (n : ℕ) → IssuedGrows (s.session_at n) ((met_by l s app session).session_at n)
-met_grows l s app session may n = at_put IssuedGrows s.session_at session _ issued_same ((λ e. refl), ([], sym (append-nil (issued_of (s.session_at session)) ∙ none_of (s.session_at session) may.fresh))) n
+pub met_grows : (l : Layout) (s : Server) (app session : ℕ) → MetMay s app session → (n : ℕ)
+    → IssuedGrows (s.session_at n) ((met_by l s app session).session_at n)
+met_grows l s app session may n =
+    at_put IssuedGrows s.session_at session _ issued_same
+    ((λ e. refl), ([], sym (append-nil (issued_of (s.session_at session)) ∙ none_of (s.session_at session) may.fresh))) n
   where
     none_of : (o : Option Session) → is_some o ≡ false → issued_of o ≡ []
     none_of None e = refl
@@ -132,7 +144,8 @@ there_over v h there n g t = absurd (both_ways h.gone g there)
 pub granted_marks : (s : Server) (app job at : ℕ) → MarkSteps s (granted s app job at)
 granted_marks s app job at o k m = record {
   over = each_first (OverOf (locks s)) (is_sent_at (pair_session s app) job at) answered_hold
-      (λ h p _. there_over (locks s) (answered_hold h) (sent_facts h (and_parts (is_sent h) (is_of (pair_session s app) job h && h.at == at) p).0).2) s.holds m.over;
+      (λ h p _. there_over (locks s) (answered_hold h)
+      (sent_facts h (and_parts (is_sent h) (is_of (pair_session s app) job h && h.at == at) p).0).2) s.holds m.over;
   turns = fewer s.holds (granted s app job at).holds s.quits s.quits s.turns
       (λ n. omega (arith, ap (times n) (turns_first (is_sent_at (pair_session s app) job at) answered_hold (λ h. refl) s.holds))) m.turns;
 }
@@ -174,7 +187,8 @@ quit_marks s app job mode key o k m = record {
     new = record { session = pair_session s app; job = job; mode = mode; key = key; given = given_now s (pair_session s app) }
 
     low : (n : ℕ) (b : Bool) → in_holds n (quits s app job mode key).holds ≡ in_holds n s.holds + cond b (bit (eqb s.turns n)) 0
-        → in_holds n (quits s app job mode key).holds + in_quits n (if b then s.quits else s.quits ++ new ∷ []) ≤ in_holds n s.holds + in_quits n s.quits + bit (eqb s.turns n)
+        → in_holds n (quits s app job mode key).holds + in_quits n (if b then s.quits else s.quits ++ new ∷ [])
+        ≤ in_holds n s.holds + in_quits n s.quits + bit (eqb s.turns n)
     low n true e = omega (arith, e)
     low n false e = omega (arith, e, quits_push n s.quits new)
 
@@ -182,15 +196,22 @@ pub release_marks : (s : Server) (session : ℕ) → MarkSteps s (releases s ses
 release_marks s session o k m = record {
   over = each_map (OverOf (locks s)) (OverOf (locks s)) (released_hold session) (λ h x. x) s.holds m.over;
   turns = fewer s.holds (releases s session).holds s.quits (releases s session).quits s.turns
-      (λ n. omega (arith, ap (times n) (turns_map (released_hold session) (λ h. refl) s.holds), quits_filter n (λ (q : Quitted). not (q.session == session)) s.quits)) m.turns;
+      (λ n. omega (arith, ap (times n) (turns_map (released_hold session) (λ h. refl) s.holds), quits_filter n stays s.quits)) m.turns;
 }
+  where
+    stays : Quitted → Bool
+    stays q = not (q.session == session)
 
 pub free_marks : (s : Server) (session job : ℕ) (mode : Mode) (key : List ℕ) → FreeMay s session job mode key → MarkSteps s (frees s session job mode key)
 free_marks s session job mode key may o k m = record {
   over = each_map (OverOf (locks s)) (OverOf (locks s)) (freed_hold (first_given s session job mode key) session job mode key)
       (λ h x. over_freed s.order s.synced s.due s.session_at (first_given s session job mode key) session job mode key h may.entered x) s.holds m.over;
   turns = fewer s.holds (frees s session job mode key).holds s.quits (frees s session job mode key).quits s.turns
-      (λ n. omega (arith, ap (times n) (turns_map (freed_hold (first_given s session job mode key) session job mode key) (λ h. refl) s.holds), quits_filter n stays s.quits)) m.turns;
+      (λ n. omega (
+        arith,
+        ap (times n) (turns_map (freed_hold (first_given s session job mode key) session job mode key) (λ h. refl) s.holds),
+        quits_filter n stays s.quits,
+      )) m.turns;
 }
   where
     stays : Quitted → Bool
@@ -212,9 +233,11 @@ no_quits n = refl
 pub back_marks : (s : Server) → BackMay s → MarkSteps s (came_back s)
 back_marks s may o k m = record {
   over = each_map (HoldOf (locks s)) (OverOf (locks (came_back s))) (hold_after_back s.order)
-      (λ h x. over_back s.order s.synced s.due s.session_at h (order_in_order (facet s) o) may.closes (λ n met. any_take (is_open n) s.synced s.order (k.opened n met))
+      (λ h x. over_back s.order s.synced s.due s.session_at h (order_in_order (facet s) o) may.closes
+      (λ n met. any_take (is_open n) s.synced s.order (k.opened n met))
       (λ n l. eqb-true (count s.order n) (length (issued_in s n)) (live_has s.order _ n may.counted l)) x) s.holds k.holds;
-  turns = fewer s.holds (came_back s).holds s.quits [] s.turns (λ n. omega (arith, no_quits n, ap (times n) (turns_map (hold_after_back s.order) (λ h. refl) s.holds))) m.turns;
+  turns = fewer s.holds (came_back s).holds s.quits [] s.turns
+      (λ n. omega (arith, no_quits n, ap (times n) (turns_map (hold_after_back s.order) (λ h. refl) s.holds))) m.turns;
 }
 
 pub crash_marks : (clock round : ℕ) (s : Server) (kept : ℕ) → CrashMay s kept → MarkSteps s (crashed clock round s kept)

@@ -3,14 +3,15 @@ use Rattle.std.proofs.Common.{◌≡◌, ℕ, List, [], ◌∷◌, map, take, re
 use Rattle.std.specs.Prelude.{is_some, IsSomeAnd}
 use Rattle.std.proofs.lemmas.Bool.{and_parts, not-true}
 use Rattle.plain_orders.specs.declared.act.Act.{Act}
-use Rattle.plain_orders.specs.declared.act.Act.TheVariants.{Opened, Enter, Synced, Shut, Release, Met, Told, Back, Crash, Issue, Read, Grant, Granted, GiveUp, Quit}
-use Rattle.plain_orders.specs.declared.act.Act.TheVariants.{Free, Counted, NotWhole, Range, Committed, RolledBack, Reached, Level, Done, Refused, Broke, Mended}
-use Rattle.plain_orders.specs.declared.act.Act.TheVariants.{Tick, Lose, Died}
+use Rattle.plain_orders.specs.declared.act.Act.TheVariants.{Opened, Enter, Synced, Shut, Release, Met, Told, Back, Crash, Issue, Read}
+use Rattle.plain_orders.specs.declared.act.Act.TheVariants.{Grant, Granted, GiveUp, Quit, Free, Counted, NotWhole, Range, Committed, RolledBack}
+use Rattle.plain_orders.specs.declared.act.Act.TheVariants.{Reached, Level, Done, Refused, Broke, Mended, Tick, Lose, Died}
 use Rattle.plain_orders.specs.declared.layout.Layout.{Layout}
 use Rattle.plain_orders.specs.declared.mode.Mode.{Mode}
 use Rattle.plain_orders.specs.Entries.{live}
 use Rattle.plain_runs.specs.Plain.{Plain, Server, Hold, Given, app_of, pair_session}
-use Rattle.plain_runs.specs.Holds.{answered_hold, freed_hold, given_up, hold_after_back, hold_after_crash, is_asked, is_kept, is_lock, is_of, is_sent, is_sent_at, released_hold}
+use Rattle.plain_runs.specs.Holds.{answered_hold, freed_hold, given_up, hold_after_back, hold_after_crash, is_asked, is_kept, is_lock, is_of, is_sent}
+use Rattle.plain_runs.specs.Holds.{is_sent_at, released_hold}
 use Rattle.plain_runs.specs.LockRows.{first_given, given_now, gives_up, granted, quits}
 use Rattle.plain_runs.specs.Step.{after}
 use Rattle.plain_runs.specs.Run.{after_all}
@@ -144,7 +145,8 @@ granted_goes s app job at =
     (λ h p. later_answered h (sent_facts h (and_parts (is_sent h) (is_of (pair_session s app) job h && h.at == at) p).0).2) s.holds
 
 give_goes : (s : Server) (app job : ℕ) (mode : Mode) (key : List ℕ) → Goes s (gives_up s app job mode key)
-give_goes s app job mode key = follow_last IsLater (is_kept (pair_session s app) job mode key) (given_up (given_now s (pair_session s app))) later_same give s.holds
+give_goes s app job mode key =
+    follow_last IsLater (is_kept (pair_session s app) job mode key) (given_up (given_now s (pair_session s app))) later_same give s.holds
   where
     give : (h : Hold) → is_kept (pair_session s app) job mode key h ≡ true → IsLater h (given_up (given_now s (pair_session s app)) h)
     give h p =
@@ -154,7 +156,8 @@ give_goes s app job mode key = follow_last IsLater (is_kept (pair_session s app)
         later_given (given_now s (pair_session s app)) h (not-true (is_some h.given) b.1) (not-true h.gone c.0)
 
 quit_goes : (s : Server) (app job : ℕ) (mode : Mode) (key : List ℕ) → Goes s (quits s app job mode key)
-quit_goes s app job mode key = follow_first IsLater (is_asked (pair_session s app) job mode key) (given_up (given_now s (pair_session s app))) later_same give s.holds
+quit_goes s app job mode key =
+    follow_first IsLater (is_asked (pair_session s app) job mode key) (given_up (given_now s (pair_session s app))) later_same give s.holds
   where
     give : (h : Hold) → is_asked (pair_session s app) job mode key h ≡ true → IsLater h (given_up (given_now s (pair_session s app)) h)
     give h p =
@@ -169,18 +172,25 @@ row_goes l p (Opened d entries) e = left_goes l p (Opened d entries) e refl
 row_goes l p (Enter d x) e = left_goes l p (Enter d x) e refl
 row_goes l p (Synced d n) e = left_goes l p (Synced d n) e refl
 row_goes l p (Shut d session cause) e = left_goes l p (Shut d session cause) e refl
-row_goes l p (Release d session) e = at_put Goes p.server_at d _ goes_same (map_goes (p.server_at d) (p.server_at d) (released_hold session) (later_released session)) e
+row_goes l p (Release d session) e =
+    at_put Goes p.server_at d _ goes_same (map_goes (p.server_at d) (p.server_at d) (released_hold session) (later_released session)) e
 row_goes l p (Met app d session) e = left_goes l p (Met app d session) e refl
 row_goes l p (Told app d session epoch kept) e = left_goes l p (Told app d session epoch kept) e refl
-row_goes l p (Back d) e = at_put Goes p.server_at d _ goes_same (map_goes (p.server_at d) (p.server_at d) (hold_after_back (p.server_at d).order) (λ h. later_gone h _)) e
-row_goes l p (Crash d kept) e = at_put Goes p.server_at d _ goes_same (map_goes (p.server_at d) (p.server_at d) (hold_after_crash (take kept (p.server_at d).order) kept) (λ h. later_away h (live (take kept (p.server_at d).order) h.session) _)) e
+row_goes l p (Back d) e =
+    at_put Goes p.server_at d _ goes_same (map_goes (p.server_at d) (p.server_at d) (hold_after_back (p.server_at d).order) (λ h. later_gone h _)) e
+row_goes l p (Crash d kept) e =
+    at_put Goes p.server_at d _ goes_same
+    (map_goes (p.server_at d) (p.server_at d) (hold_after_crash (take kept (p.server_at d).order) kept)
+    (λ h. later_away h (live (take kept (p.server_at d).order) h.session) _)) e
 row_goes l p (Issue job line d w item) e = left_goes l p (Issue job line d w item) e refl
 row_goes l p (Read job line d at via question) e = left_goes l p (Read job line d at via question) e refl
 row_goes l p (Grant d session job mode key at) e = at_put Goes p.server_at d _ goes_same (follow_push IsLater later_same (p.server_at d).holds _) e
 row_goes l p (Granted job line d at) e = at_put Goes p.server_at d _ goes_same (granted_goes (p.server_at d) (app_of l job) job at) e
 row_goes l p (GiveUp job line d mode key) e = at_put Goes p.server_at d _ goes_same (give_goes (p.server_at d) (app_of l job) job mode key) e
 row_goes l p (Quit job line d mode key) e = at_put Goes p.server_at d _ goes_same (quit_goes (p.server_at d) (app_of l job) job mode key) e
-row_goes l p (Free d session job mode key) e = at_put Goes p.server_at d _ goes_same (map_goes (p.server_at d) (p.server_at d) (freed_hold (first_given (p.server_at d) session job mode key) session job mode key) (λ h. later_gone h _)) e
+row_goes l p (Free d session job mode key) e =
+    at_put Goes p.server_at d _ goes_same
+    (map_goes (p.server_at d) (p.server_at d) (freed_hold (first_given (p.server_at d) session job mode key) session job mode key) (λ h. later_gone h _)) e
 row_goes l p (Counted job line d at sum) e = left_goes l p (Counted job line d at sum) e refl
 row_goes l p (NotWhole job line d at) e = left_goes l p (NotWhole job line d at) e refl
 row_goes l p (Range job line d at) e = left_goes l p (Range job line d at) e refl

@@ -1,8 +1,8 @@
 -- The acts that leave a server's holds and the requests that were given up.
 use Rattle.std.proofs.Common.{ℕ, refl}
-use Rattle.plain_orders.specs.declared.act.Act.TheVariants.{Opened, Enter, Synced, Shut, Release, Met, Told, Back, Crash, Issue, Read, Grant, Granted, GiveUp, Quit}
-use Rattle.plain_orders.specs.declared.act.Act.TheVariants.{Free, Counted, NotWhole, Range, Committed, RolledBack, Reached, Level, Done, Refused, Broke, Mended}
-use Rattle.plain_orders.specs.declared.act.Act.TheVariants.{Tick, Lose, Died}
+use Rattle.plain_orders.specs.declared.act.Act.TheVariants.{Opened, Enter, Synced, Shut, Release, Met, Told, Back, Crash, Issue, Read}
+use Rattle.plain_orders.specs.declared.act.Act.TheVariants.{Grant, Granted, GiveUp, Quit, Free, Counted, NotWhole, Range, Committed, RolledBack}
+use Rattle.plain_orders.specs.declared.act.Act.TheVariants.{Reached, Level, Done, Refused, Broke, Mended, Tick, Lose, Died}
 use Rattle.plain_orders.specs.declared.refused.Refused.{Refused as Refusal}
 use Rattle.plain_orders.specs.declared.refused.Refused.TheVariants.{NoTransaction, TooDeep, RollbackOnly, LockTimeout, Network}
 use Rattle.plain_orders.specs.declared.causes.Loss.{Loss}
@@ -53,11 +53,13 @@ others_leave_holds l p (Synced d n) e off = at_put SameHolds p.server_at d _ sam
 others_leave_holds l p (Shut d session cause) e off = at_put SameHolds p.server_at d _ same_holds (record { holds = refl; quits = refl; turns = refl }) e
 others_leave_holds l p (Release d session) e off = absurd (cc (off))
 others_leave_holds l p (Met app d session) e off = at_put SameHolds p.server_at d _ same_holds (record { holds = refl; quits = refl; turns = refl }) e
-others_leave_holds l p (Told app d session epoch kept) e off = at_put SameHolds p.server_at d _ same_holds (record { holds = refl; quits = refl; turns = refl }) e
+others_leave_holds l p (Told app d session epoch kept) e off =
+    at_put SameHolds p.server_at d _ same_holds (record { holds = refl; quits = refl; turns = refl }) e
 others_leave_holds l p (Back d) e off = absurd (cc (off))
 others_leave_holds l p (Crash d kept) e off = absurd (cc (off))
 others_leave_holds l p (Issue job line d w item) e off = at_put SameHolds p.server_at d _ same_holds (record { holds = refl; quits = refl; turns = refl }) e
-others_leave_holds l p (Read job line d at via question) e off = at_put SameHolds p.server_at d _ same_holds (record { holds = refl; quits = refl; turns = refl }) e
+others_leave_holds l p (Read job line d at via question) e off =
+    at_put SameHolds p.server_at d _ same_holds (record { holds = refl; quits = refl; turns = refl }) e
 others_leave_holds l p (Grant d session job mode key at) e off = absurd (cc (off))
 others_leave_holds l p (Granted job line d at) e off = absurd (cc (off))
 others_leave_holds l p (GiveUp job line d mode key) e off = absurd (cc (off))

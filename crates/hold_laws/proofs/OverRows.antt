@@ -78,8 +78,8 @@ freed_facts first session job mode key h e = go (binds h && (is_of session job h
         (g.0, g.1, f.0, f.1, g.2)
 
 -- a hold that is freed
-pub over_freed : (o : List Entry) (d : ℕ) (due : Option ℕ) (ses : ℕ → Option Session) (first : Option Given) (session job : ℕ) (mode : Mode) (key : List ℕ) (h : Hold)
-    → all_stand o session job 0 (take (given_before first) (issued_of (ses session))) ≡ true
+pub over_freed : (o : List Entry) (d : ℕ) (due : Option ℕ) (ses : ℕ → Option Session) (first : Option Given) (session job : ℕ) (mode : Mode)
+    (key : List ℕ) (h : Hold) → all_stand o session job 0 (take (given_before first) (issued_of (ses session))) ≡ true
     → OverWhereGone o d due ses h → OverWhereGone o d due ses (freed_hold first session job mode key h)
 over_freed o d due ses first session job mode key h all old n g t = go (or_cases h.gone (is_same_given (given_hold session job mode key h) first) g)
   where

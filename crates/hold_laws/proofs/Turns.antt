@@ -1,5 +1,6 @@
 -- How often a turn stands among those of holds and of requests that were given up.
-use Rattle.std.proofs.Common.{◌≡◌, ℕ, ◌≤◌, ◌<◌, ◌+◌, List, [], ◌∷◌, ◌++◌, map, refl, sym, ap, ◌∙◌, Bool, true, false, cond, eqb, ◌||◌, ◌⊎◌, inl, inr, arith, Option, Some, None}
+use Rattle.std.proofs.Common.{◌≡◌, ℕ, ◌≤◌, ◌<◌, ◌+◌, List, [], ◌∷◌, ◌++◌, map, refl, sym, ap, ◌∙◌, Bool, true, false, cond, eqb, ◌||◌, ◌⊎◌, inl, inr}
+use Rattle.std.proofs.Common.{arith, Option, Some, None}
 use Rattle.std.specs.Prelude.{is_some}
 use Rattle.std.specs.List.{list_any, filter, AllByRecursion, IsDistinct}
 use Rattle.std.specs.Option.{option_map}
@@ -36,9 +37,11 @@ in_holds-cons n h hs = times-append n (turn_in h.given) (hold_turns hs)
 -- holds that keep when they were given up
 pub turns_map : (f : Hold → Hold) → ((h : Hold) → (f h).given ≡ h.given) → (hs : List Hold) → hold_turns (map f hs) ≡ hold_turns hs
 turns_map f same [] = refl
-turns_map f same (h ∷ hs) = ap (λ (o : Option Given). turn_in o ++ hold_turns (map f hs)) (same h) ∙ ap (λ (ts : List ℕ). turn_in h.given ++ ts) (turns_map f same hs)
+turns_map f same (h ∷ hs) =
+    ap (λ (o : Option Given). turn_in o ++ hold_turns (map f hs)) (same h) ∙ ap (λ (ts : List ℕ). turn_in h.given ++ ts) (turns_map f same hs)
 
-pub turns_first : (p : Hold → Bool) (f : Hold → Hold) → ((h : Hold) → (f h).given ≡ h.given) → (hs : List Hold) → hold_turns (change_first p f hs) ≡ hold_turns hs
+pub turns_first : (p : Hold → Bool) (f : Hold → Hold) → ((h : Hold) → (f h).given ≡ h.given) → (hs : List Hold)
+    → hold_turns (change_first p f hs) ≡ hold_turns hs
 turns_first p f same [] = refl
 turns_first p f same (h ∷ hs) = go (p h) (turns_first p f same hs)
   where
@@ -76,7 +79,8 @@ give_first n p g none (h ∷ hs) = go (p h) refl (give_first n p g none hs)
         → in_holds n (cond b (given_up g h ∷ hs) (h ∷ change_first p (given_up g) hs)) ≡ in_holds n (h ∷ hs) + cond (b || list_any p hs) (bit (eqb g.turn n)) 0
     go true is e = give_one n g h hs (none h is)
     go false is e =
-        let long : in_holds n (h ∷ change_first p (given_up g) hs) ≡ times n (turn_in h.given) + in_holds n (change_first p (given_up g) hs) = in_holds-cons n h (change_first p (given_up g) hs) in
+        let long : in_holds n (h ∷ change_first p (given_up g) hs) ≡ times n (turn_in h.given) + in_holds n (change_first p (given_up g) hs)
+        = in_holds-cons n h (change_first p (given_up g) hs) in
         let short : in_holds n (h ∷ hs) ≡ times n (turn_in h.given) + in_holds n hs = in_holds-cons n h hs in
         omega (arith, e, long, short)
 
@@ -87,9 +91,11 @@ give_last n p g none [] = refl
 give_last n p g none (h ∷ hs) = go (list_any p hs) (p h) refl (give_last n p g none hs)
   where
     go : (c b : Bool) → p h ≡ b → in_holds n (change_last p (given_up g) hs) ≡ in_holds n hs + cond c (bit (eqb g.turn n)) 0
-        → in_holds n (cond c (h ∷ change_last p (given_up g) hs) (cond b (given_up g h ∷ hs) (h ∷ hs))) ≡ in_holds n (h ∷ hs) + cond (b || c) (bit (eqb g.turn n)) 0
+        → in_holds n (cond c (h ∷ change_last p (given_up g) hs) (cond b (given_up g h ∷ hs) (h ∷ hs)))
+        ≡ in_holds n (h ∷ hs) + cond (b || c) (bit (eqb g.turn n)) 0
     go true b is e =
-        let long : in_holds n (h ∷ change_last p (given_up g) hs) ≡ times n (turn_in h.given) + in_holds n (change_last p (given_up g) hs) = in_holds-cons n h (change_last p (given_up g) hs) in
+        let long : in_holds n (h ∷ change_last p (given_up g) hs) ≡ times n (turn_in h.given) + in_holds n (change_last p (given_up g) hs)
+        = in_holds-cons n h (change_last p (given_up g) hs) in
         let short : in_holds n (h ∷ hs) ≡ times n (turn_in h.given) + in_holds n hs = in_holds-cons n h hs in
         let all : in_holds n (h ∷ change_last p (given_up g) hs) ≡ in_holds n (h ∷ hs) + bit (eqb g.turn n) = omega (arith, e, long, short) in
         either b all
@@ -122,7 +128,8 @@ quits_taken n p [] = refl
 quits_taken n p (q ∷ qs) = go (p q) (quits_taken n p qs)
   where
     go : (b : Bool) → times n (turn_in (option_map (λ (x : Quitted). x.given) (first_quit p qs))) + in_quits n (drop_quit p qs) ≡ in_quits n qs
-        → times n (turn_in (option_map (λ (x : Quitted). x.given) (cond b (Some q) (first_quit p qs)))) + in_quits n (cond b qs (q ∷ drop_quit p qs)) ≡ in_quits n (q ∷ qs)
+        → times n (turn_in (option_map (λ (x : Quitted). x.given) (cond b (Some q) (first_quit p qs)))) + in_quits n (cond b qs (q ∷ drop_quit p qs))
+        ≡ in_quits n (q ∷ qs)
     go true e = omega arith
     go false e = omega (arith, e)
 

@@ -1,9 +1,9 @@
 -- What acts make of a server's holds and of the requests that were given up.
 use Rattle.std.specs.Prelude.{◌≡◌, ℕ, Bool, true, false, List, slice_get, is_some, IsSomeAnd}
 use Rattle.plain_orders.specs.declared.act.Act.{Act}
-use Rattle.plain_orders.specs.declared.act.Act.TheVariants.{Opened, Enter, Synced, Shut, Release, Met, Told, Back, Crash, Issue, Read, Grant, Granted, GiveUp, Quit}
-use Rattle.plain_orders.specs.declared.act.Act.TheVariants.{Free, Counted, NotWhole, Range, Committed, RolledBack, Reached, Level, Done, Refused, Broke, Mended}
-use Rattle.plain_orders.specs.declared.act.Act.TheVariants.{Tick, Lose, Died}
+use Rattle.plain_orders.specs.declared.act.Act.TheVariants.{Opened, Enter, Synced, Shut, Release, Met, Told, Back, Crash, Issue, Read}
+use Rattle.plain_orders.specs.declared.act.Act.TheVariants.{Grant, Granted, GiveUp, Quit, Free, Counted, NotWhole, Range, Committed, RolledBack}
+use Rattle.plain_orders.specs.declared.act.Act.TheVariants.{Reached, Level, Done, Refused, Broke, Mended, Tick, Lose, Died}
 use Rattle.plain_orders.specs.declared.layout.Layout.{Layout}
 use Rattle.plain_runs.specs.Plain.{Plain, Server, Hold}
 use Rattle.plain_runs.specs.Run.{after_all}
