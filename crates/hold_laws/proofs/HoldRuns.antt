@@ -1,5 +1,5 @@
 -- Along a run: holds that are gone are over, and no two turns are the same.
-use Rattle.std.proofs.Common.{◌≡◌, ℕ, List, [], ◌∷◌, ◌++◌, refl, subst, sym, arith, Option, Some, inl, inr}
+use Rattle.std.proofs.Common.{◌≡◌, ℕ, ◌+◌, ◌≤◌, List, [], ◌∷◌, ◌++◌, refl, subst, sym, arith, Option, Some, inl, inr}
 use Rattle.std.specs.Prelude.{IsSomeAnd}
 use Rattle.std.proofs.lemmas.List.{append-nil}
 use Rattle.plain_orders.specs.declared.act.Act.{Act}
@@ -27,9 +27,10 @@ use Rattle.plain_runs.proofs.Pairs.{PairsKept, row_pairs}
 use Rattle.plain_runs.proofs.HoldRows.{issued_of}
 use Rattle.plain_runs.proofs.LockRows.{LocksKept, each_at, locks}
 use Rattle.plain_runs.proofs.LockLaws.{row_locks, start_locks}
-use Rattle.hold_laws.specs.HoldLaws.{EachHold, EachServer, GoneIsOver, IsOver, TurnsAreBelow, TurnsDiffer, hold_turns, quit_turns}
+use Rattle.hold_laws.specs.HoldLaws.{EachHold, EachServer, GoneIsOver, IsOver, QuitsInOrder, TurnsAreBelow, TurnsDiffer, TurnsTell, hold_turns, quit_turns}
+use Rattle.hold_laws.proofs.QuitsRise.{rise_at}
 use Rattle.hold_laws.proofs.OverRows.{OverIn}
-use Rattle.hold_laws.proofs.Turns.{below_none, distinct_once, times-append}
+use Rattle.hold_laws.proofs.Turns.{below_none, distinct_once, hold_once, holds_once, in_holds, in_quits, quit_once, quits_once, times-append}
 use Rattle.hold_laws.proofs.HoldSteps.{MarkSteps, MarksKept, OverOf, back_marks, crash_marks, enter_marks, entry_marks, free_marks, give_marks, grant_marks}
 use Rattle.hold_laws.proofs.HoldSteps.{granted_marks, issued_grows, marks_same, met_grows, opened_marks, quit_marks, release_marks, saved_marks, session_marks}
 
@@ -105,7 +106,7 @@ run_marks l p (a ∷ acts) run pairs os ls ms e =
 pub marks_kept : (l : Layout) (acts : List Act) (d : ℕ) → IsRun l acts → MarksKept (locks (server_after l acts d)) (server_after l acts d).turns
 marks_kept l acts d run =
     run_marks l start acts run (λ e. record { met = λ a n h. absurd (cc (h)) }) start_kept start_locks
-    (λ e. record { over = tt; turns = record { once = λ n. omega arith; below = λ n low. omega arith } }) d
+    (λ e. record { over = tt; turns = record { once = λ n. omega arith; below = λ n low. omega arith }; rise = tt }) d
 
 pub gone_is_over : EachHold GoneIsOver
 gone_is_over l acts d run i h is due gone touch = go (each_at (OverOf (locks s)) s.holds i h (marks_kept l acts d run).over is due gone touch)
@@ -135,3 +136,22 @@ turns_differ l acts d run =
   where
     s : Server
     s = server_after l acts d
+
+pub quits_in_order : EachServer QuitsInOrder
+quits_in_order l acts d run i j q r at there low =
+    rise_at (server_after l acts d).quits (server_after l acts d).turns i j q r (marks_kept l acts d run).rise at there low
+
+pub turns_tell : EachServer TurnsTell
+turns_tell l acts d run = record {
+  holds = λ i j h k g o at there is other e.
+      holds_once o.turn s.holds i j h k g o (omega (arith, once o.turn)) at there is other e refl;
+  quits = λ i j q r at there e. quits_once r.given.turn s.quits i j q r (omega (arith, once r.given.turn)) at there e refl;
+  apart = λ i j h g q at is there e.
+      omega (arith, once g.turn, hold_once g.turn s.holds i h g at is refl, quit_once g.turn s.quits j q there (sym e));
+}
+  where
+    s : Server
+    s = server_after l acts d
+
+    once : (n : ℕ) → in_holds n s.holds + in_quits n s.quits ≤ 1
+    once = (marks_kept l acts d run).turns.once

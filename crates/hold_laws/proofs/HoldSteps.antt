@@ -24,6 +24,7 @@ use Rattle.plain_runs.proofs.Lists.{any_take, both_ways, is_open, live_has, none
 use Rattle.plain_runs.proofs.HoldRows.{IssuedGrows, issued_of, sent_facts}
 use Rattle.plain_runs.proofs.LockRows.{HoldOf, Locks, LocksKept, each_first, each_last, each_map, each_push, locks}
 use Rattle.hold_laws.proofs.OverRows.{OverWhereGone, over_back, over_crash, over_freed, over_grows}
+use Rattle.hold_laws.proofs.QuitsRise.{QuitsRise, rise_drop, rise_filter, rise_push, rise_up}
 use Rattle.hold_laws.proofs.Turns.{bit, give_first, give_last, in_holds, in_holds-push, in_quits, quits_filter, quits_push, quits_taken, times}
 use Rattle.hold_laws.proofs.Turns.{turns_first, turns_map}
 
@@ -38,6 +39,7 @@ pub record TurnsOnce (hs : List Hold) (qs : List Quitted) (turns : ℕ) : Type 0
 pub record MarksKept (v : Locks) (next : ℕ) : Type 0 where
   pub over : Each (OverOf v) v.holds
   pub turns : TurnsOnce v.holds v.quits next
+  pub rise : QuitsRise v.quits next
 
 abbrev pub MarkSteps : Server → Server → Type 0
 MarkSteps s t = OrdersKept (facet s) → LocksKept (locks s) → MarksKept (locks s) s.turns → MarksKept (locks t) t.turns
@@ -81,6 +83,7 @@ grown s t turns more o low due grows qs hs within k m = record {
       (each_with (HoldOf s) (OverOf s) (OverWhereGone (s.order ++ more) t.synced t.due t.session_at)
       (λ h. over_grows s.order more s.synced t.synced s.due t.due s.session_at t.session_at h within low due grows) s.holds k.holds m.over));
   turns = subst (λ (rs : List Quitted). TurnsOnce t.holds rs turns) (sym qs) (subst (λ (ks : List Hold). TurnsOnce ks s.quits turns) (sym hs) m.turns);
+  rise = subst (λ (rs : List Quitted). QuitsRise rs turns) (sym qs) m.rise;
 }
 
 issued_same : (o : Option Session) → IssuedGrows o o
@@ -148,6 +151,7 @@ granted_marks s app job at o k m = record {
       (sent_facts h (and_parts (is_sent h) (is_of (pair_session s app) job h && h.at == at) p).0).2) s.holds m.over;
   turns = fewer s.holds (granted s app job at).holds s.quits s.quits s.turns
       (λ n. omega (arith, ap (times n) (turns_first (is_sent_at (pair_session s app) job at) answered_hold (λ h. refl) s.holds))) m.turns;
+  rise = m.rise;
 }
 
 pub give_marks : (s : Server) (app job : ℕ) (mode : Mode) (key : List ℕ) → MarkSteps s (gives_up s app job mode key)
@@ -157,6 +161,7 @@ give_marks s app job mode key o k m = record {
   turns = one_more s.holds (gives_up s app job mode key).holds s.quits s.quits s.turns
       (λ n. low n (list_any (is_kept (pair_session s app) job mode key) s.holds)
       (give_last n (is_kept (pair_session s app) job mode key) (given_now s (pair_session s app)) (λ h p. (facts h p).0) s.holds)) m.turns;
+  rise = rise_up s.quits s.turns (s.turns + 1) (omega arith) m.rise;
 }
   where
     facts : (h : Hold) → is_kept (pair_session s app) job mode key h ≡ true → (is_some h.given ≡ false) × (h.gone ≡ false)
@@ -178,6 +183,7 @@ quit_marks s app job mode key o k m = record {
   turns = one_more s.holds (quits s app job mode key).holds s.quits (quits s app job mode key).quits s.turns
       (λ n. low n (list_any (is_asked (pair_session s app) job mode key) s.holds)
       (give_first n (is_asked (pair_session s app) job mode key) (given_now s (pair_session s app)) (λ h p. (facts h p).1) s.holds)) m.turns;
+  rise = rise (list_any (is_asked (pair_session s app) job mode key) s.holds);
 }
   where
     facts : (h : Hold) → is_asked (pair_session s app) job mode key h ≡ true → (h.answered ≡ false) × (is_some h.given ≡ false) × (h.gone ≡ false)
@@ -185,6 +191,10 @@ quit_marks s app job mode key o k m = record {
 
     new : Quitted
     new = record { session = pair_session s app; job = job; mode = mode; key = key; given = given_now s (pair_session s app) }
+
+    rise : (b : Bool) → QuitsRise (if b then s.quits else s.quits ++ new ∷ []) (s.turns + 1)
+    rise true = rise_up s.quits s.turns (s.turns + 1) (omega arith) m.rise
+    rise false = rise_push s.quits new m.rise
 
     low : (n : ℕ) (b : Bool) → in_holds n (quits s app job mode key).holds ≡ in_holds n s.holds + cond b (bit (eqb s.turns n)) 0
         → in_holds n (quits s app job mode key).holds + in_quits n (if b then s.quits else s.quits ++ new ∷ [])
@@ -197,6 +207,7 @@ release_marks s session o k m = record {
   over = each_map (OverOf (locks s)) (OverOf (locks s)) (released_hold session) (λ h x. x) s.holds m.over;
   turns = fewer s.holds (releases s session).holds s.quits (releases s session).quits s.turns
       (λ n. omega (arith, ap (times n) (turns_map (released_hold session) (λ h. refl) s.holds), quits_filter n stays s.quits)) m.turns;
+  rise = rise_filter stays s.quits s.turns m.rise;
 }
   where
     stays : Quitted → Bool
@@ -212,6 +223,7 @@ free_marks s session job mode key may o k m = record {
         ap (times n) (turns_map (freed_hold (first_given s session job mode key) session job mode key) (λ h. refl) s.holds),
         quits_filter n stays s.quits,
       )) m.turns;
+  rise = rise_filter stays s.quits s.turns m.rise;
 }
   where
     stays : Quitted → Bool
@@ -222,6 +234,7 @@ grant_marks s session job mode key at o k m = record {
   over = each_push (OverOf (locks s)) s.holds new m.over (there_over (locks s) new refl);
   turns = fewer s.holds (grants s session job mode key at).holds s.quits (grants s session job mode key at).quits s.turns
       (λ n. omega (arith, in_holds-push n s.holds new, quits_taken n (is_quit session job mode key) s.quits)) m.turns;
+  rise = rise_drop (is_quit session job mode key) s.quits s.turns m.rise;
 }
   where
     new : Hold
@@ -238,6 +251,7 @@ back_marks s may o k m = record {
       (λ n l. eqb-true (count s.order n) (length (issued_in s n)) (live_has s.order _ n may.counted l)) x) s.holds k.holds;
   turns = fewer s.holds (came_back s).holds s.quits [] s.turns
       (λ n. omega (arith, no_quits n, ap (times n) (turns_map (hold_after_back s.order) (λ h. refl) s.holds))) m.turns;
+  rise = tt;
 }
 
 pub crash_marks : (clock round : ℕ) (s : Server) (kept : ℕ) → CrashMay s kept → MarkSteps s (crashed clock round s kept)
@@ -247,10 +261,12 @@ crash_marks clock round s kept may o k m = record {
       may.no_less may.within k.opened (λ e n. none_live (take kept s.order) clock round e n) x) s.holds k.holds;
   turns = fewer s.holds (crashed clock round s kept).holds s.quits [] s.turns
       (λ n. omega (arith, no_quits n, ap (times n) (turns_map (hold_after_crash (take kept s.order) kept) (λ h. refl) s.holds))) m.turns;
+  rise = tt;
 }
 
 pub opened_marks : (clock round : ℕ) (s : Server) (entries : List Entry) → OpenedMay s entries → MarkSteps s (opened_with clock round s entries)
 opened_marks clock round s entries may o k m = record {
   over = subst (Each (OverOf (locks (opened_with clock round s entries)))) (sym (k.fresh may.fresh)) tt;
   turns = m.turns;
+  rise = m.rise;
 }

@@ -1,5 +1,6 @@
 pub mod HoldFacts
 pub mod Turns
+pub mod QuitsRise
 pub mod OverRows
 pub mod HoldSteps
 pub mod HoldRuns

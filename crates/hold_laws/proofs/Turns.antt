@@ -1,6 +1,7 @@
 -- How often a turn stands among those of holds and of requests that were given up.
 use Rattle.std.proofs.Common.{◌≡◌, ℕ, ◌≤◌, ◌<◌, ◌+◌, List, [], ◌∷◌, ◌++◌, map, refl, sym, ap, ◌∙◌, Bool, true, false, cond, eqb, ◌||◌, ◌⊎◌, inl, inr}
-use Rattle.std.proofs.Common.{arith, Option, Some, None}
+use Rattle.std.proofs.Common.{zero, suc, slice_get, arith, Option, Some, None}
+use Rattle.std.proofs.lemmas.Option.{same_Some}
 use Rattle.std.specs.Prelude.{is_some}
 use Rattle.std.specs.List.{list_any, filter, AllByRecursion, IsDistinct}
 use Rattle.std.specs.Option.{option_map}
@@ -163,3 +164,47 @@ below_none n (x ∷ xs) f = (go (cases_lt x n), below_none n xs (λ k high. omeg
     go : (x < n) ⊎ (n ≤ x) → x < n
     go (inl low) = low
     go (inr high) = absurd (omega (arith, f x high, one x))
+
+-- where a turn stands
+
+in_turn : (n : ℕ) (o : Option Given) (g : Given) → o ≡ Some g → g.turn ≡ n → 1 ≤ times n (turn_in o)
+in_turn n None g is e = absurd (cc (is))
+in_turn n (Some x) g is e =
+    let same : x.turn ≡ n = ap (λ (y : Given). y.turn) (same_Some x g is) ∙ e in
+    let here : bit (eqb x.turn n) ≡ 1 = ap bit (eq-eqb x.turn n same) in
+    omega (arith, here)
+
+pub hold_once : (n : ℕ) (hs : List Hold) (i : ℕ) (h : Hold) (g : Given) → slice_get hs i ≡ Some h → h.given ≡ Some g → g.turn ≡ n → 1 ≤ in_holds n hs
+hold_once n [] i h g at is e = absurd (cc (at))
+hold_once n (x ∷ hs) zero h g at is e =
+    let here : x.given ≡ Some g = ap (λ (y : Hold). y.given) (same_Some x h at) ∙ is in omega (arith, in_holds-cons n x hs, in_turn n x.given g here e)
+hold_once n (x ∷ hs) (suc i) h g at is e = omega (arith, in_holds-cons n x hs, hold_once n hs i h g at is e)
+
+pub holds_once : (n : ℕ) (hs : List Hold) (i j : ℕ) (h k : Hold) (g o : Given) → in_holds n hs ≤ 1 → slice_get hs i ≡ Some h → slice_get hs j ≡ Some k
+    → h.given ≡ Some g → k.given ≡ Some o → g.turn ≡ n → o.turn ≡ n → i ≡ j
+holds_once n [] i j h k g o low at there is other e f = absurd (cc (at))
+holds_once n (x ∷ hs) zero zero h k g o low at there is other e f = refl
+holds_once n (x ∷ hs) zero (suc j) h k g o low at there is other e f =
+    let here : x.given ≡ Some g = ap (λ (y : Hold). y.given) (same_Some x h at) ∙ is in
+    absurd (omega (arith, low, in_holds-cons n x hs, in_turn n x.given g here e, hold_once n hs j k o there other f))
+holds_once n (x ∷ hs) (suc i) zero h k g o low at there is other e f =
+    let here : x.given ≡ Some o = ap (λ (y : Hold). y.given) (same_Some x k there) ∙ other in
+    absurd (omega (arith, low, in_holds-cons n x hs, in_turn n x.given o here f, hold_once n hs i h g at is e))
+holds_once n (x ∷ hs) (suc i) (suc j) h k g o low at there is other e f =
+    ap suc (holds_once n hs i j h k g o (omega (arith, low, in_holds-cons n x hs)) at there is other e f)
+
+in_quit : (n : ℕ) (x q : Quitted) → x ≡ q → q.given.turn ≡ n → bit (eqb x.given.turn n) ≡ 1
+in_quit n x q is e = ap bit (eq-eqb x.given.turn n (ap (λ (y : Quitted). y.given.turn) is ∙ e))
+
+pub quit_once : (n : ℕ) (qs : List Quitted) (i : ℕ) (q : Quitted) → slice_get qs i ≡ Some q → q.given.turn ≡ n → 1 ≤ in_quits n qs
+quit_once n [] i q at e = absurd (cc (at))
+quit_once n (x ∷ qs) zero q at e = omega (arith, in_quit n x q (same_Some x q at) e)
+quit_once n (x ∷ qs) (suc i) q at e = omega (arith, quit_once n qs i q at e)
+
+pub quits_once : (n : ℕ) (qs : List Quitted) (i j : ℕ) (q r : Quitted) → in_quits n qs ≤ 1 → slice_get qs i ≡ Some q → slice_get qs j ≡ Some r
+    → q.given.turn ≡ n → r.given.turn ≡ n → i ≡ j
+quits_once n [] i j q r low at there e f = absurd (cc (at))
+quits_once n (x ∷ qs) zero zero q r low at there e f = refl
+quits_once n (x ∷ qs) zero (suc j) q r low at there e f = absurd (omega (arith, low, in_quit n x q (same_Some x q at) e, quit_once n qs j r there f))
+quits_once n (x ∷ qs) (suc i) zero q r low at there e f = absurd (omega (arith, low, in_quit n x r (same_Some x r there) f, quit_once n qs i q at e))
+quits_once n (x ∷ qs) (suc i) (suc j) q r low at there e f = ap suc (quits_once n qs i j q r (omega (arith, low)) at there e f)

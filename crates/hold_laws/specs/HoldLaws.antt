@@ -1,6 +1,6 @@
 -- Laws over every run of the plain machine, on its holds and on what was given up.
 use Rattle.std.specs.Prelude.{◌≡◌, ◌⊎◌, ℕ, true, false, ◌<◌, ◌≤◌, List, [], ◌∷◌, ◌++◌, length, take, map, Option, Some, None, slice_get, is_some}
-use Rattle.std.specs.Prelude.{nat_eq, IfSome, IsSomeAnd}
+use Rattle.std.specs.Prelude.{◌≢◌, nat_eq, IfSome, IsSomeAnd}
 use Rattle.std.specs.List.{flat_map, AllByRecursion, IsDistinct}
 use Rattle.plain_orders.specs.declared.act.Act.{Act}
 use Rattle.plain_orders.specs.declared.entry.Entry.{Entry}
@@ -35,7 +35,7 @@ TouchedIsMet v h = touched h ≡ true → is_some (v.session_at h.session) ≡ t
 abbrev pub AnsweredIsSynced : Server → Hold → Type 0
 AnsweredIsSynced v h = h.answered ≡ true → h.at ≤ v.synced
 
--- a number within the order, and no lower than its session's, where the session's Open stands
+-- a session's Open stands at the session's number, and another number is within the order and no lower
 pub record IsBehindOpen (es : List Entry) (session at : ℕ) : Type 0 where
   pub app : ℕ
   pub opened : entry_at es session ≡ Some (Opened session app)
@@ -104,3 +104,13 @@ TurnsAreBelow v = AllByRecursion (λ n. n < v.turns) (turns_given v)
 -- No two of them are the same.
 abbrev pub TurnsDiffer : Server → Type 0
 TurnsDiffer v = IsDistinct nat_eq (turns_given v)
+
+-- So the turn of a hold or of a request tells its place, and whether it is a hold.
+pub record TurnsTell (v : Server) : Type 0 where
+  pub holds : (i j : ℕ) (h k : Hold) (g o : Given) → IsHold v i h → IsHold v j k → h.given ≡ Some g → k.given ≡ Some o → g.turn ≡ o.turn → i ≡ j
+  pub quits : (i j : ℕ) (q r : Quitted) → slice_get v.quits i ≡ Some q → slice_get v.quits j ≡ Some r → q.given.turn ≡ r.given.turn → i ≡ j
+  pub apart : (i j : ℕ) (h : Hold) (g : Given) (q : Quitted) → IsHold v i h → h.given ≡ Some g → slice_get v.quits j ≡ Some q → g.turn ≢ q.given.turn
+
+-- Requests that were given up stand in the order of their turns.
+abbrev pub QuitsInOrder : Server → Type 0
+QuitsInOrder v = (i j : ℕ) (q r : Quitted) → slice_get v.quits i ≡ Some q → slice_get v.quits j ≡ Some r → i < j → q.given.turn < r.given.turn

@@ -1,6 +1,6 @@
 ghost use Rattle.hold_laws.specs.HoldLaws.{EachHold, EachQuit, EachServer};
 ghost use Rattle.hold_laws.specs.HoldLaws.{AnsweredIsSynced, GivenIsIssued, GoneIsOver, KeptIsClosed, ReleasedIsClosed, SentIsBehindOpen, TouchedIsMet};
-ghost use Rattle.hold_laws.specs.HoldLaws.{QuitIsIssued, QuitIsMet, TurnsAreBelow, TurnsDiffer};
+ghost use Rattle.hold_laws.specs.HoldLaws.{QuitIsIssued, QuitIsMet, QuitsInOrder, TurnsAreBelow, TurnsDiffer, TurnsTell};
 ghost use Rattle.hold_laws.specs.HoldChanges.{HoldsStay, OthersLeaveHolds};
 
 /// The session of a hold that was answered or given up was met. The number of an answered one is synced, that of a sent one
@@ -27,10 +27,13 @@ pub fn each_quit_fits_its_session()
     ensures before { EachQuit QuitIsIssued }
 {}
 
-/// No two holds or requests were given up at the same turn, and none at one that didn't come yet.
+/// No two holds or requests were given up at the same turn, and none at one that didn't come yet; the requests stand in the
+/// order of their turns.
 pub fn no_two_turns_are_the_same()
     ensures differ { EachServer TurnsDiffer }
+    ensures tell { EachServer TurnsTell }
     ensures below { EachServer TurnsAreBelow }
+    ensures ordered { EachServer QuitsInOrder }
 {}
 
 /// A hold keeps its place, its holder, lock and number, and what was once so of it stays: that it was answered, given up,
