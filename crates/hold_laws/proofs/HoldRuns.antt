@@ -27,7 +27,7 @@ use Rattle.plain_runs.proofs.Pairs.{PairsKept, row_pairs}
 use Rattle.plain_runs.proofs.HoldRows.{issued_of}
 use Rattle.plain_runs.proofs.LockRows.{LocksKept, each_at, locks}
 use Rattle.plain_runs.proofs.LockLaws.{row_locks, start_locks}
-use Rattle.hold_laws.specs.HoldLaws.{EachHold, EachServer, GoneIsOver, IsOver, QuitsInOrder, TurnsAreBelow, TurnsDiffer, TurnsTell, hold_turns, quit_turns}
+use Rattle.hold_laws.specs.HoldLaws.{EachHold, EachServer, GoneIsGiven, GoneIsOver, IsOver, QuitsInOrder, TurnsAreBelow, TurnsDiffer, TurnsTell, hold_turns, quit_turns}
 use Rattle.hold_laws.proofs.QuitsRise.{rise_at}
 use Rattle.hold_laws.proofs.OverRows.{OverIn}
 use Rattle.hold_laws.proofs.Turns.{below_none, distinct_once, hold_once, holds_once, in_holds, in_quits, quit_once, quits_once, times-append}
@@ -108,8 +108,12 @@ marks_kept l acts d run =
     run_marks l start acts run (λ e. record { met = λ a n h. absurd (cc (h)) }) start_kept start_locks
     (λ e. record { over = tt; turns = record { once = λ n. omega arith; below = λ n low. omega arith }; rise = tt }) d
 
+pub gone_is_given : EachHold GoneIsGiven
+gone_is_given l acts d run i h is =
+    (each_at (OverOf (locks (server_after l acts d))) (server_after l acts d).holds i h (marks_kept l acts d run).over is).0
+
 pub gone_is_over : EachHold GoneIsOver
-gone_is_over l acts d run i h is due gone touch = go (each_at (OverOf (locks s)) s.holds i h (marks_kept l acts d run).over is due gone touch)
+gone_is_over l acts d run i h is due gone touch = go ((each_at (OverOf (locks s)) s.holds i h (marks_kept l acts d run).over is).1 due gone touch)
   where
     s : Server
     s = server_after l acts d

@@ -1,5 +1,5 @@
 -- What each row makes of a server's holds, of the requests that were given up there and of their turns.
-use Rattle.std.proofs.Common.{◌≡◌, ℕ, ◌≤◌, ◌+◌, List, [], ◌∷◌, ◌++◌, length, take, refl, subst, sym, ap, ◌∙◌, Bool, true, false, cond}
+use Rattle.std.proofs.Common.{◌≡◌, ℕ, ◌≤◌, ◌+◌, List, [], ◌∷◌, ◌++◌, map, length, take, refl, subst, sym, ap, ◌∙◌, Bool, true, false, cond}
 use Rattle.std.proofs.Common.{eqb, if◌then◌else◌, arith, ◌&&◌, not, ◌==◌, Option, Some, None}
 use Rattle.std.specs.Prelude.{is_some}
 use Rattle.std.specs.List.{list_any}
@@ -23,13 +23,13 @@ use Rattle.plain_runs.proofs.Orders.{Each, OrdersKept, facet, order_in_order}
 use Rattle.plain_runs.proofs.Lists.{any_take, both_ways, is_open, live_has, none_live}
 use Rattle.plain_runs.proofs.HoldRows.{IssuedGrows, issued_of, sent_facts}
 use Rattle.plain_runs.proofs.LockRows.{HoldOf, Locks, LocksKept, each_first, each_last, each_map, each_push, locks}
-use Rattle.hold_laws.proofs.OverRows.{OverWhereGone, over_back, over_crash, over_freed, over_grows}
+use Rattle.hold_laws.proofs.OverRows.{GivenWhereGone, OverWhereGone, given_back, given_crash, given_freed, over_back, over_crash, over_freed, over_grows}
 use Rattle.hold_laws.proofs.QuitsRise.{QuitsRise, rise_drop, rise_filter, rise_push, rise_up}
 use Rattle.hold_laws.proofs.Turns.{bit, give_first, give_last, in_holds, in_holds-push, in_quits, quits_filter, quits_push, quits_taken, times}
 use Rattle.hold_laws.proofs.Turns.{turns_first, turns_map}
 
 abbrev pub OverOf : Locks → Hold → Type 0
-OverOf v h = OverWhereGone v.order v.synced v.due v.session_at h
+OverOf v h = GivenWhereGone h × OverWhereGone v.order v.synced v.due v.session_at h
 
 -- each turn stands at most once, and none that didn't come yet
 pub record TurnsOnce (hs : List Hold) (qs : List Quitted) (turns : ℕ) : Type 0 where
@@ -51,6 +51,10 @@ marks_same s o k m = m
 each_with : (P Q R : Hold → Type 0) → ((h : Hold) → P h → Q h → R h) → (hs : List Hold) → Each P hs → Each Q hs → Each R hs
 each_with P Q R f [] p q = tt
 each_with P Q R f (h ∷ hs) p q = (f h p.0 q.0, each_with P Q R f hs p.1 q.1)
+
+each_map_with : (P Q R : Hold → Type 0) (f : Hold → Hold) → ((h : Hold) → P h → Q h → R (f h)) → (hs : List Hold) → Each P hs → Each Q hs → Each R (map f hs)
+each_map_with P Q R f step [] p q = tt
+each_map_with P Q R f step (h ∷ hs) p q = (step h p.0 q.0, each_map_with P Q R f step hs p.1 q.1)
 
 -- fewer turns
 fewer : (hs ks : List Hold) (qs rs : List Quitted) (turns : ℕ) → ((n : ℕ) → in_holds n ks + in_quits n rs ≤ in_holds n hs + in_quits n qs)
@@ -79,9 +83,9 @@ grown : (s t : Locks) (turns : ℕ) (more : List Entry) → t.order ≡ s.order 
     → LocksKept s → MarksKept s turns → MarksKept t turns
 grown s t turns more o low due grows qs hs within k m = record {
   over = subst (Each (OverOf t)) (sym hs)
-      (subst (λ (es : List Entry). Each (OverWhereGone es t.synced t.due t.session_at) s.holds) (sym o)
-      (each_with (HoldOf s) (OverOf s) (OverWhereGone (s.order ++ more) t.synced t.due t.session_at)
-      (λ h. over_grows s.order more s.synced t.synced s.due t.due s.session_at t.session_at h within low due grows) s.holds k.holds m.over));
+      (subst (λ (es : List Entry). Each (λ h. GivenWhereGone h × OverWhereGone es t.synced t.due t.session_at h) s.holds) (sym o)
+      (each_with (HoldOf s) (OverOf s) (λ h. GivenWhereGone h × OverWhereGone (s.order ++ more) t.synced t.due t.session_at h)
+      (λ h x y. (y.0, over_grows s.order more s.synced t.synced s.due t.due s.session_at t.session_at h within low due grows x y.1)) s.holds k.holds m.over));
   turns = subst (λ (rs : List Quitted). TurnsOnce t.holds rs turns) (sym qs) (subst (λ (ks : List Hold). TurnsOnce ks s.quits turns) (sym hs) m.turns);
   rise = subst (λ (rs : List Quitted). QuitsRise rs turns) (sym qs) m.rise;
 }
@@ -142,7 +146,7 @@ met_grows l s app session may n =
 
 -- a hold that is there is over where it is gone
 there_over : (v : Locks) (h : Hold) → h.gone ≡ false → OverOf v h
-there_over v h there n g t = absurd (both_ways h.gone g there)
+there_over v h there = ((λ g. absurd (both_ways h.gone g there)), λ n g. absurd (both_ways h.gone g there))
 
 pub granted_marks : (s : Server) (app job at : ℕ) → MarkSteps s (granted s app job at)
 granted_marks s app job at o k m = record {
@@ -216,7 +220,10 @@ release_marks s session o k m = record {
 pub free_marks : (s : Server) (session job : ℕ) (mode : Mode) (key : List ℕ) → FreeMay s session job mode key → MarkSteps s (frees s session job mode key)
 free_marks s session job mode key may o k m = record {
   over = each_map (OverOf (locks s)) (OverOf (locks s)) (freed_hold (first_given s session job mode key) session job mode key)
-      (λ h x. over_freed s.order s.synced s.due s.session_at (first_given s session job mode key) session job mode key h may.entered x) s.holds m.over;
+      (λ h x. (
+        given_freed (first_given s session job mode key) session job mode key h x.0,
+        over_freed s.order s.synced s.due s.session_at (first_given s session job mode key) session job mode key h may.entered x.1,
+      )) s.holds m.over;
   turns = fewer s.holds (frees s session job mode key).holds s.quits (frees s session job mode key).quits s.turns
       (λ n. omega (
         arith,
@@ -245,20 +252,26 @@ no_quits n = refl
 
 pub back_marks : (s : Server) → BackMay s → MarkSteps s (came_back s)
 back_marks s may o k m = record {
-  over = each_map (HoldOf (locks s)) (OverOf (locks (came_back s))) (hold_after_back s.order)
-      (λ h x. over_back s.order s.synced s.due s.session_at h (order_in_order (facet s) o) may.closes
-      (λ n met. any_take (is_open n) s.synced s.order (k.opened n met))
-      (λ n l. eqb-true (count s.order n) (length (issued_in s n)) (live_has s.order _ n may.counted l)) x) s.holds k.holds;
+  over = each_map_with (HoldOf (locks s)) (OverOf (locks s)) (OverOf (locks (came_back s))) (hold_after_back s.order)
+      (λ h x y. (given_back s.order h y.0, over h x y.0)) s.holds k.holds m.over;
   turns = fewer s.holds (came_back s).holds s.quits [] s.turns
       (λ n. omega (arith, no_quits n, ap (times n) (turns_map (hold_after_back s.order) (λ h. refl) s.holds))) m.turns;
   rise = tt;
 }
+  where
+    over : (h : Hold) → HoldOf (locks s) h → GivenWhereGone h → OverWhereGone s.order s.synced None s.session_at (hold_after_back s.order h)
+    over h x given =
+        over_back s.order s.synced s.due s.session_at h (order_in_order (facet s) o) may.closes (λ n met. any_take (is_open n) s.synced s.order (k.opened n met))
+        (λ n l. eqb-true (count s.order n) (length (issued_in s n)) (live_has s.order _ n may.counted l)) x given
 
 pub crash_marks : (clock round : ℕ) (s : Server) (kept : ℕ) → CrashMay s kept → MarkSteps s (crashed clock round s kept)
 crash_marks clock round s kept may o k m = record {
-  over = each_map (HoldOf (locks s)) (OverOf (locks (crashed clock round s kept))) (hold_after_crash (take kept s.order) kept)
-      (λ h x. over_crash s.order s.synced s.due (due_of (take kept s.order) clock round) s.session_at kept (Epoch (last_epoch (take kept s.order) + 1)) h
-      may.no_less may.within k.opened (λ e n. none_live (take kept s.order) clock round e n) x) s.holds k.holds;
+  over = each_map_with (HoldOf (locks s)) (OverOf (locks s)) (OverOf (locks (crashed clock round s kept))) (hold_after_crash (take kept s.order) kept)
+      (λ h x y. (
+        given_crash (take kept s.order) kept h y.0,
+        over_crash s.order s.synced s.due (due_of (take kept s.order) clock round) s.session_at kept (Epoch (last_epoch (take kept s.order) + 1)) h
+            may.no_less may.within k.opened (λ e n. none_live (take kept s.order) clock round e n) x,
+      )) s.holds k.holds m.over;
   turns = fewer s.holds (crashed clock round s kept).holds s.quits [] s.turns
       (λ n. omega (arith, no_quits n, ap (times n) (turns_map (hold_after_crash (take kept s.order) kept) (λ h. refl) s.holds))) m.turns;
   rise = tt;

@@ -2,9 +2,9 @@
 -- issued before stands in the order.
 use Rattle.std.proofs.Common.{◌≡◌, ℕ, ◌≤◌, List, [], ◌∷◌, ◌++◌, length, take, drop, refl, subst, sym, ap, ◌∙◌, Bool, true, false, ◌==◌}
 use Rattle.std.proofs.Common.{if◌then◌else◌, arith, ◌||◌, ◌&&◌, not, Option, Some, None, ◌⊎◌, inl, inr}
-use Rattle.std.specs.Prelude.{is_some}
+use Rattle.std.specs.Prelude.{is_some, nat_lt}
 use Rattle.std.specs.List.{list_any}
-use Rattle.std.proofs.lemmas.Bool.{eqb-true, and_parts, or_cases, or_from}
+use Rattle.std.proofs.lemmas.Bool.{eqb-true, and_parts, or_cases}
 use Rattle.std.proofs.lemmas.List.{take-append-drop, take-append-le, take-take, length-take, length-take-le}
 use Rattle.std.proofs.lemmas.List.Folds.{list_any-append}
 use Rattle.plain_orders.specs.declared.entry.Entry.{Entry}
@@ -16,10 +16,10 @@ use Rattle.plain_orders.specs.Sessions.{is_close}
 use Rattle.plain_runs.specs.Plain.{Session, Hold, Given}
 use Rattle.plain_runs.specs.Items.{all_stand}
 use Rattle.plain_runs.specs.LockRows.{given_before}
-use Rattle.plain_runs.specs.Holds.{binds, freed_hold, given_hold, hold_after_back, hold_after_crash, is_lock, is_of, is_same_given, touched}
+use Rattle.plain_runs.specs.Holds.{binds, freed_hold, given_hold, hold_after_back, hold_after_crash, is_lock, is_of, is_same_given, is_sent, touched}
 use Rattle.plain_runs.proofs.Numbers.{InOrder, has_counted}
 use Rattle.plain_runs.proofs.Lists.{any_grown, any_wider, both_ways, item_more, opened_closes, opens, is_open, stand_all, stand_more}
-use Rattle.plain_runs.proofs.HoldRows.{HoldKept, IssuedGrows, issued_of, of_facts}
+use Rattle.plain_runs.proofs.HoldRows.{HoldKept, IssuedGrows, issued_of, of_facts, sent_facts}
 
 -- it was given up, and all that its job had issued before stands
 abbrev pub GivenStands : List Entry → List Issued → Hold → Type 0
@@ -29,7 +29,11 @@ GivenStands o issued h = (g : Given) × (h.given ≡ Some g) × (all_stand o h.s
 abbrev pub OverIn : List Entry → ℕ → List Issued → Hold → Type 0
 OverIn o d issued h = (closed_by o h.session d ≡ true) ⊎ GivenStands o issued h
 
--- so it is where it is gone
+-- a hold that is gone and was answered was given up
+abbrev pub GivenWhereGone : Hold → Type 0
+GivenWhereGone h = h.gone ≡ true → h.answered ≡ true → is_some h.given ≡ true
+
+-- one that is gone is over
 abbrev pub OverWhereGone : List Entry → ℕ → Option ℕ → (ℕ → Option Session) → Hold → Type 0
 OverWhereGone o d due ses h = due ≡ None → h.gone ≡ true → touched h ≡ true → OverIn o d (issued_of (ses h.session)) h
 
@@ -78,6 +82,14 @@ freed_facts first session job mode key h e = go (binds h && (is_of session job h
         (g.0, g.1, f.0, f.1, g.2)
 
 -- a hold that is freed
+pub given_freed : (first : Option Given) (session job : ℕ) (mode : Mode) (key : List ℕ) (h : Hold)
+    → GivenWhereGone h → GivenWhereGone (freed_hold first session job mode key h)
+given_freed first session job mode key h old g a = go (or_cases h.gone (is_same_given (given_hold session job mode key h) first) g)
+  where
+    go : (h.gone ≡ true) ⊎ (is_same_given (given_hold session job mode key h) first ≡ true) → is_some h.given ≡ true
+    go (inl e) = old e a
+    go (inr e) = ap is_some (freed_facts first session job mode key h e).1
+
 pub over_freed : (o : List Entry) (d : ℕ) (due : Option ℕ) (ses : ℕ → Option Session) (first : Option Given) (session job : ℕ) (mode : Mode)
     (key : List ℕ) (h : Hold) → all_stand o session job 0 (take (given_before first) (issued_of (ses session))) ≡ true
     → OverWhereGone o d due ses h → OverWhereGone o d due ses (freed_hold first session job mode key h)
@@ -117,28 +129,30 @@ closed_synced o s d none c = go (or_cases (closed_by o s d) (list_any (closes s)
     go (inr x) = absurd (both_ways (list_any (closes s) (drop d o)) x (close_of s (drop d o) none))
 
 -- the round is over
-pub over_back : (o : List Entry) (d : ℕ) (due : Option ℕ) (ses : ℕ → Option Session) (h : Hold) → InOrder o → list_any is_close (drop d o) ≡ false
-    → ((n : ℕ) → is_some (ses n) ≡ true → opens o n ≡ true) → ((n : ℕ) → live o n ≡ true → count o n ≡ length (issued_of (ses n)))
-    → HoldKept o d due ses h → OverWhereGone o d None ses (hold_after_back o h)
-over_back o d due ses h numbered none opened whole k n g t = by_live (live o h.session) refl
+pub given_back : (o : List Entry) (h : Hold) → GivenWhereGone h → GivenWhereGone (hold_after_back o h)
+given_back o h old g a = go (or_cases h.gone (live o h.session && (binds h && (not h.answered || is_some h.given))) g)
   where
-    leaves : Bool
-    leaves = live o h.session && (binds h && (not h.answered || is_some h.given))
-
-    -- one that was answered and goes now was given up
-    kept : is_some h.given ≡ false → h.answered ≡ true → (h.gone ≡ true) ⊎ (leaves ≡ true) → closed_by o h.session d ≡ true
-    kept a b (inl e) = k.ended e b a
-    kept a b (inr e) =
+    go : (h.gone ≡ true) ⊎ ((live o h.session && (binds h && (not h.answered || is_some h.given))) ≡ true) → is_some h.given ≡ true
+    go (inl e) = old e a
+    go (inr e) =
         let x = and_parts (live o h.session) (binds h && (not h.answered || is_some h.given)) e in
         let y = and_parts (binds h) (not h.answered || is_some h.given) x.1 in
-        absurd (both_ways (is_some h.given) (subst (λ (b : Bool). (not b || is_some h.given) ≡ true) b y.1) a)
+        subst (λ (b : Bool). (not b || is_some h.given) ≡ true) a y.1
 
-    answered : is_some h.given ≡ false → (b : Bool) → h.answered ≡ b → h.answered ≡ true
-    answered a true e = e
-    answered a false e = absurd (both_ways (touched h) t (or_from h.answered (is_some h.given) e a))
+pub over_back : (o : List Entry) (d : ℕ) (due : Option ℕ) (ses : ℕ → Option Session) (h : Hold) → InOrder o → list_any is_close (drop d o) ≡ false
+    → ((n : ℕ) → is_some (ses n) ≡ true → opens o n ≡ true) → ((n : ℕ) → live o n ≡ true → count o n ≡ length (issued_of (ses n)))
+    → HoldKept o d due ses h → GivenWhereGone h → OverWhereGone o d None ses (hold_after_back o h)
+over_back o d due ses h numbered none opened whole k old n g t = by_live (live o h.session) refl
+  where
+    given : is_some h.given ≡ true
+    given = go (or_cases h.answered (is_some h.given) t)
+      where
+        go : (h.answered ≡ true) ⊎ (is_some h.given ≡ true) → is_some h.given ≡ true
+        go (inl a) = given_back o h old g a
+        go (inr e) = e
 
     by_given : (r : Option Given) → h.given ≡ r → live o h.session ≡ true → OverIn o d (issued_of (ses h.session)) h
-    by_given None is l = let a : is_some h.given ≡ false = ap is_some is in inl (kept a (answered a h.answered refl) (or_cases h.gone leaves g))
+    by_given None is l = absurd (both_ways (is_some h.given) given (ap is_some is))
     by_given (Some x) is l =
         inr (
           x,
@@ -152,6 +166,13 @@ over_back o d due ses h numbered none opened whole k n g t = by_live (live o h.s
     by_live false l = inl (closed_synced o h.session d none (opened_closes o h.session (opened h.session (k.met t)) l))
 
 -- a crash
+pub given_crash : (es : List Entry) (kept : ℕ) (h : Hold) → GivenWhereGone h → GivenWhereGone (hold_after_crash es kept h)
+given_crash es kept h old g a = go (or_cases h.gone (is_sent h && nat_lt kept h.at) g)
+  where
+    go : (h.gone ≡ true) ⊎ ((is_sent h && nat_lt kept h.at) ≡ true) → is_some h.given ≡ true
+    go (inl e) = old e a
+    go (inr e) = absurd (both_ways h.answered a (sent_facts h (and_parts (is_sent h) (nat_lt kept h.at) e).0).0)
+
 pub over_crash : (o : List Entry) (d : ℕ) (due due' : Option ℕ) (ses : ℕ → Option Session) (kept : ℕ) (e : Entry) (h : Hold) → d ≤ kept → kept ≤ length o
     → ((n : ℕ) → is_some (ses n) ≡ true → opens (take d o) n ≡ true) → (due' ≡ None → (n : ℕ) → live (take kept o) n ≡ false)
     → HoldKept o d due ses h → OverWhereGone (take kept o ++ e ∷ []) kept due' ses (hold_after_crash (take kept o) kept h)

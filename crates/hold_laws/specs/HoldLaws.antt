@@ -54,7 +54,11 @@ GivenIsIssued v h = IfSome h.given (λ (g : Given). g.before ≤ length (issued_
 abbrev pub ReleasedIsClosed : Server → Hold → Type 0
 ReleasedIsClosed v h = h.in_force ≡ false → h.gone ≡ false → closed_by v.order h.session v.synced ≡ true
 
--- So it is where a hold is gone that was answered and not given up.
+-- A hold that is gone and was answered was given up.
+abbrev pub GoneIsGiven : Server → Hold → Type 0
+GoneIsGiven v h = h.gone ≡ true → h.answered ≡ true → is_some h.given ≡ true
+
+-- So where a hold is gone that was answered and not given up, a Close of its session is synced, there being none.
 abbrev pub KeptIsClosed : Server → Hold → Type 0
 KeptIsClosed v h = h.gone ≡ true → h.answered ≡ true → is_some h.given ≡ false → closed_by v.order h.session v.synced ≡ true
 

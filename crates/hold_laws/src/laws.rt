@@ -1,5 +1,5 @@
 ghost use Rattle.hold_laws.specs.HoldLaws.{EachHold, EachQuit, EachServer};
-ghost use Rattle.hold_laws.specs.HoldLaws.{AnsweredIsSynced, GivenIsIssued, GoneIsOver, KeptIsClosed, ReleasedIsClosed, SentIsBehindOpen, TouchedIsMet};
+ghost use Rattle.hold_laws.specs.HoldLaws.{AnsweredIsSynced, GivenIsIssued, GoneIsGiven, GoneIsOver, KeptIsClosed, ReleasedIsClosed, SentIsBehindOpen, TouchedIsMet};
 ghost use Rattle.hold_laws.specs.HoldLaws.{QuitIsIssued, QuitIsMet, QuitsInOrder, TurnsAreBelow, TurnsDiffer, TurnsTell};
 ghost use Rattle.hold_laws.specs.HoldChanges.{HoldsStay, OthersLeaveHolds};
 
@@ -12,11 +12,12 @@ pub fn each_hold_fits_its_session()
     ensures before { EachHold GivenIsIssued }
 {}
 
-/// Where a hold is no longer in force, or gone though it was answered and not given up, a Close of its session is synced.
-/// While no round is due, this is so of each that is gone and was answered or given up, or all that its job had issued in its
-/// session before it was given up stands in the order.
+/// Where a hold is there and no longer in force, a Close of its session is synced. One that is gone was given up, or never
+/// answered. While no round is due, a Close of its session is synced where it was answered or given up, or all that its job had
+/// issued in its session before stands in the order.
 pub fn what_ended_is_over()
     ensures released { EachHold ReleasedIsClosed }
+    ensures given { EachHold GoneIsGiven }
     ensures kept { EachHold KeptIsClosed }
     ensures gone { EachHold GoneIsOver }
 {}
