@@ -2,6 +2,7 @@
 use Rattle.std.proofs.Common.{◌≡◌, ℕ, suc, ◌≤◌, ◌+◌, List, [], ◌∷◌, length, take, refl, sym, ap, ◌∙◌, Bool, true, false, arith, ◌||◌, Option, Some}
 use Rattle.std.proofs.Common.{None, slice_get}
 use Rattle.std.specs.Prelude.{is_some, IfSome}
+use Rattle.std.specs.List.{AllByRecursion}
 use Rattle.std.proofs.lemmas.Bool.{eqb-true, or_from}
 use Rattle.std.proofs.lemmas.List.{length-take-le}
 use Rattle.plain_orders.specs.declared.act.Act.{Act}
@@ -20,6 +21,11 @@ use Rattle.plain_runs.proofs.LockLaws.{locks_kept}
 use Rattle.plain_runs.proofs.Issued.{PlacedAt, PlacedFrom, issued_kept, placed-take}
 use Rattle.hold_laws.specs.HoldLaws.{EachHold, EachQuit, TouchedIsMet, AnsweredIsSynced, SentIsBehindOpen, GivenIsIssued, ReleasedIsClosed}
 use Rattle.hold_laws.specs.HoldLaws.{KeptIsClosed, QuitIsMet, QuitIsIssued}
+
+-- what holds at each place holds of each
+pub each_by_place : {X : Type 0} (P : X → Type 0) (xs : List X) → ((i : ℕ) (x : X) → slice_get xs i ≡ Some x → P x) → AllByRecursion P xs
+each_by_place P [] f = tt
+each_by_place P (x ∷ xs) f = (f 0 x refl, each_by_place P xs (λ i y is. f (suc i) y is))
 
 -- what each hold keeps
 pub hold_kept : (l : Layout) (acts : List Act) (d : ℕ) → IsRun l acts → (i : ℕ) (h : Hold) → IsHold (server_after l acts d) i h

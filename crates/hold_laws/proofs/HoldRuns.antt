@@ -27,7 +27,8 @@ use Rattle.plain_runs.proofs.Pairs.{PairsKept, row_pairs}
 use Rattle.plain_runs.proofs.HoldRows.{issued_of}
 use Rattle.plain_runs.proofs.LockRows.{LocksKept, each_at, locks}
 use Rattle.plain_runs.proofs.LockLaws.{row_locks, start_locks}
-use Rattle.hold_laws.specs.HoldLaws.{EachHold, EachServer, GoneIsGiven, GoneIsOver, IsOver, QuitsInOrder, TurnsAreBelow, TurnsDiffer, TurnsTell, hold_turns, quit_turns}
+use Rattle.hold_laws.specs.HoldLaws.{EachHold, EachServer, GoneIsGiven, GoneIsOver, IsOver, QuitsInOrder, TurnsAreBelow}
+use Rattle.hold_laws.specs.HoldLaws.{TurnsDiffer, TurnsTell, hold_turns, quit_turns}
 use Rattle.hold_laws.proofs.QuitsRise.{rise_at}
 use Rattle.hold_laws.proofs.OverRows.{OverIn}
 use Rattle.hold_laws.proofs.Turns.{below_none, distinct_once, hold_once, holds_once, in_holds, in_quits, quit_once, quits_once, times-append}

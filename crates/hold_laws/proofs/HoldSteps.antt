@@ -261,7 +261,8 @@ back_marks s may o k m = record {
   where
     over : (h : Hold) → HoldOf (locks s) h → GivenWhereGone h → OverWhereGone s.order s.synced None s.session_at (hold_after_back s.order h)
     over h x given =
-        over_back s.order s.synced s.due s.session_at h (order_in_order (facet s) o) may.closes (λ n met. any_take (is_open n) s.synced s.order (k.opened n met))
+        over_back s.order s.synced s.due s.session_at h (order_in_order (facet s) o) may.closes
+        (λ n met. any_take (is_open n) s.synced s.order (k.opened n met))
         (λ n l. eqb-true (count s.order n) (length (issued_in s n)) (live_has s.order _ n may.counted l)) x given
 
 pub crash_marks : (clock round : ℕ) (s : Server) (kept : ℕ) → CrashMay s kept → MarkSteps s (crashed clock round s kept)

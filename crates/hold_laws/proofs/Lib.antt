@@ -6,3 +6,4 @@ pub mod HoldSteps
 pub mod HoldRuns
 pub mod LeftHolds
 pub mod LaterHolds
+pub mod HoldExamples

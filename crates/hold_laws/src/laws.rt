@@ -1,5 +1,6 @@
 ghost use Rattle.hold_laws.specs.HoldLaws.{EachHold, EachQuit, EachServer};
-ghost use Rattle.hold_laws.specs.HoldLaws.{AnsweredIsSynced, GivenIsIssued, GoneIsGiven, GoneIsOver, KeptIsClosed, ReleasedIsClosed, SentIsBehindOpen, TouchedIsMet};
+ghost use Rattle.hold_laws.specs.HoldLaws.{AnsweredIsSynced, GivenIsIssued, GoneIsGiven, GoneIsOver, KeptIsClosed};
+ghost use Rattle.hold_laws.specs.HoldLaws.{ReleasedIsClosed, SentIsBehindOpen, TouchedIsMet};
 ghost use Rattle.hold_laws.specs.HoldLaws.{QuitIsIssued, QuitIsMet, QuitsInOrder, TurnsAreBelow, TurnsDiffer, TurnsTell};
 ghost use Rattle.hold_laws.specs.HoldChanges.{HoldsStay, OthersLeaveHolds};
 
