@@ -1,0 +1,3 @@
+pub mod HoldLaws
+pub mod HoldChanges
+pub mod HoldExamples
