@@ -4,6 +4,7 @@ use Rattle.std.specs.Cmp.Lexicographic.{pointwise}
 use Rattle.std.specs.List.{find, list_any, flat_map, AllByRecursion}
 use Rattle.plain_orders.specs.declared.mode.Mode.{Mode}
 use Rattle.plain_orders.specs.Entries.{live}
+use Rattle.plain_orders.specs.Ordered.{KeyMay}
 use Rattle.plain_runs.specs.Plain.{Plain, Server, Hold}
 use Rattle.plain_runs.specs.Holds.{binds, is_asked, is_kept, is_lock as is_hold_lock, is_mode, is_of, is_sent, is_sent_at}
 use Rattle.recovery_round.specs.RoundWords.{Round}
@@ -113,8 +114,15 @@ abbrev pub GrantStays : ℕ → Down → Type 0
 GrantStays stays (Grant front ticket at) = (at ≤ front.n) × (at ≤ stays)
 GrantStays stays m = ⊤
 
+-- an Ask is for a name that may be locked, and a claim is of one hold at least
+abbrev pub LockMay : Up → Type 0
+LockMay (Ask ticket job mode key) = KeyMay key
+LockMay (Claim job mode number at key) = 0 < number
+LockMay m = ⊤
+
 -- in one order
 pub record LaneLocks (stays : ℕ) (lane : Lane) : Type 0 where
+  pub may : AllByRecursion LockMay lane.up
   pub once : cancels_once lane.up ≡ true
   pub grants : AllByRecursion (GrantStays stays) lane.down
 
@@ -226,6 +234,7 @@ HomeIf v lane s is_home n = is_home ≡ true → n.round ≡ None → live n.ord
 -- The locks of an end, by the lane of its session in the order that it is told of, and by whether that is the current one.
 pub record EndLocks (v : Server) (node : Option DataState) (is_home : Bool) (lane : Lane) (s : Session) : Type 0 where
   pub held : HeldIs v s.number s.held
+  pub keys : AllByRecursion (λ a. KeyMay a.key) s.asks
   pub one_sent : (job : ℕ) → count_of (is_sent_to s.number job) v.holds ≤ 1
   pub grants : AllByRecursion (AskGranted v node is_home lane s.number) s.asks
   pub home : IfSome node (HomeIf v lane s is_home)
