@@ -144,6 +144,18 @@ def given_up_as_it_is_freed(s):
     s.save()
 
 
+def given_up_twice(s):
+    s.holds()
+    s.waits()
+    s.step(1, 2, s.lock(some(1)))
+    s.tick(20)
+    s.step(1, 2, s.lock(some(1)))
+    s.step(0, 5, Con('Unlock', (s.site(), Con('Exclusive'), True)))
+    s.take_up(0)
+    for _ in range(3): s.take_up(1)
+    s.save()
+
+
 def freed_and_cut(s):
     s.holds()
     kept = len(s.k.c.f['orders'][0].a[0])
@@ -160,7 +172,7 @@ def freed_and_cut(s):
 
 
 SCRIPTS = [sent, taken, held, closed_before_its_claim, closed_behind_its_claim, given_up_waiting, closed_asking, closed_waiting, given_up_as_it_is_freed,
-           freed_and_cut]
+           given_up_twice, freed_and_cut]
 
 
 def main():

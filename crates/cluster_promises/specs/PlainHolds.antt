@@ -1,6 +1,6 @@
 -- The holds of a plain server against its order and its sessions.
-use Rattle.std.specs.Prelude.{◌≡◌, ◌<◌, ◌≤◌, ◌⊎◌, ℕ, Bool, true, false, ◌&&◌, not, List, [], ◌∷◌, ◌++◌, drop, take, length, Option, Some, None, is_some, IfSome}
-use Rattle.std.specs.List.{list_any, flat_map, AllByRecursion}
+use Rattle.std.specs.Prelude.{◌≡◌, ◌<◌, ◌≤◌, ◌⊎◌, ℕ, Bool, true, false, ◌&&◌, not, List, [], ◌∷◌, ◌++◌, drop, take, length, Option, Some, None, is_some, IfSome, nat_lt}
+use Rattle.std.specs.List.{list_any, list_all, flat_map, AllByRecursion}
 use Rattle.plain_orders.specs.Entries.{closed_by, closes, live}
 use Rattle.plain_orders.specs.Sessions.{app_in}
 use Rattle.plain_runs.specs.Plain.{Server, Hold, Given, Quitted, issued_in}
@@ -60,11 +60,21 @@ quit_turn q = q.given.turn ∷ []
 abbrev pub turns_of : Server → List ℕ
 turns_of v = flat_map hold_turn v.holds ++ flat_map quit_turn v.quits
 
+-- a request was given up before another
+abbrev pub is_earlier : Quitted → Quitted → Bool
+is_earlier q r = nat_lt q.given.turn r.given.turn
+
+-- requests stand in the order in which they were given up
+abbrev pub are_in_turn : List Quitted → Bool
+are_in_turn [] = true
+are_in_turn (q ∷ qs) = list_all (is_earlier q) qs && are_in_turn qs
+
 -- What each run of the plain machine has. It isn't carried.
 pub record PlainHolds (v : Server) : Type 0 where
   pub apart : are_apart v.holds ≡ true
   pub holds : AllByRecursion (HoldIs v) v.holds
   pub quits : AllByRecursion (QuitIs v) v.quits
+  pub in_turn : are_in_turn v.quits ≡ true
   pub turns : all_differ (turns_of v) ≡ true
   pub below : AllByRecursion (λ t. t < v.turns) (turns_of v)
 
