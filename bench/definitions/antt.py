@@ -909,6 +909,7 @@ def digits_of(base, n):
     return out
 
 
+built('sum_by', 2)(lambda f, xs: sum(call(f, x) for x in xs))
 built('digits_of', 2)(digits_of)
 built('flat_map', 2)(lambda f, xs: tuple([y for x in xs for y in call(f, x)]))
 

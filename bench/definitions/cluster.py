@@ -14,6 +14,8 @@ AT = {
     'Accounted': 'Rattle.cluster_runs.specs.Accounted',
     'Awaited': 'Rattle.cluster_runs.specs.Awaited',
     'Holds': 'Rattle.cluster_invariant.specs.Holds',
+    'HoldLaws': 'Rattle.cluster_promises.specs.PlainHolds',
+    'LocksHold': 'Rattle.cluster_promises.specs.Locks',
     'Logs': 'Rattle.cluster_runs.specs.Logs',
     'Reached': 'Rattle.cluster_runs.specs.Reached',
     'Wire': 'Rattle.cluster_runs.specs.Wire',

@@ -252,11 +252,11 @@ def invariant(k):
     p = state_after(k.l, trail)
     most = max(len(ap(p.f['server_at'], s).f['past']) for s in range(k.l.f['servers']))
     every = sorted({s for of_server in k.sessions.values() for s in of_server})
-    d.update({'session': every + [0], 'k': range(most + 2), 'i': range(most + 2), 'before': d['number']})
+    d.update({'session': every + [0], 'k': range(most + 2), 'i': range(most + 2), 'before': d['number'], 'Lock': locks_in(k) + [NO_LOCK]})
     del antt.FAILS[:]
-    try: ok = ask(of('Holds', 'Holds')(k.l, k.m))
+    try: ok = ask(of('Holds', 'Holds')(k.l, k.m)) and locks_hold(k, p)
     finally:
-        for n in ('session', 'k', 'i', 'before'): d.pop(n, None)
+        for n in ('session', 'k', 'i', 'before', 'Lock'): d.pop(n, None)
     return None if ok else 'the invariant: %s' % '; '.join(antt.FAILS[:14])
 
 
@@ -285,6 +285,14 @@ def locks_in(k):
         if a.n in ('Grant', 'Free'): found[a.a[2], a.a[3].n, a.a[4]] = a.a[3]
         if a.n in ('GiveUp', 'Quit'): found[a.a[0], a.a[3].n, a.a[4]] = a.a[3]
     return [Rec({'job': j, 'mode': m, 'key': key}) for (j, _, key), m in found.items()]
+
+
+NO_LOCK = Rec({'job': 0, 'mode': Con('Exclusive'), 'key': ()})
+
+
+def locks_hold(k, p):
+    """Whether the locks of both ends are the plain machine's, and each plain server's holds are as they should."""
+    return ask(of('LocksHold', 'LocksHold')(p, k.m)) and all(ask(of('HoldLaws', 'PlainHolds')(ap(p.f['server_at'], d))) for d in range(k.l.f['servers']))
 
 
 def holds(k):

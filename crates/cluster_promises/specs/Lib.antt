@@ -1,0 +1,3 @@
+pub mod PlainHolds
+pub mod LockMarks
+pub mod Locks
