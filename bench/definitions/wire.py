@@ -254,10 +254,18 @@ def invariant(k):
     every = sorted({s for of_server in k.sessions.values() for s in of_server})
     d.update({'session': every + [0], 'k': range(most + 2), 'i': range(most + 2), 'before': d['number']})
     del antt.FAILS[:]
-    try: ok = ask(of('Holds', 'Holds')(k.l, k.m))
+    try: ok = ask(of('Holds', 'Holds')(k.l, k.m)) and promises(k, p)
     finally:
         for n in ('session', 'k', 'i', 'before'): d.pop(n, None)
     return None if ok else 'the invariant: %s' % '; '.join(antt.FAILS[:14])
+
+
+def promises(k, p):
+    """Whether what the cluster owes its jobs holds, of each data server and of the jobs."""
+    def at(d):
+        v, x, is_dead = ap(p.f['server_at'], d), ap(k.m.f['site_at'], d), k.m.f['is_dead_at']
+        return all(ask(of(*word)(v, x, is_dead)) for word in (('Items', 'ItemsHold'), ('Answers', 'AnswersHold')))
+    return all(at(d) for d in range(k.l.f['servers'] + 1)) and ask(of('Jobs', 'JobsHold')(p, k.m))
 
 
 def resets_of(env):
@@ -272,6 +280,7 @@ def front_of(ups, kinds):
     return ups[:n]
 
 
+HINT[('QueueIs', 'acked')] = lambda env: max(deref(env['queue'][0].f['w']) - 1, 0) if len(env['queue']) else len(env['issued'])
 HINT[('ComesBack', 'claims')] = lambda env: front_of(env['ups'], ('Claim',))
 HINT[('ComesBack', 'items')] = lambda env: front_of(env['ups'][len(deref(env['claims'])):], ('Update', 'Add', 'Commit', 'Rollback'))
 HINT[('DownWay', 'ends')] = resets_of

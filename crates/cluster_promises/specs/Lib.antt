@@ -1,0 +1,4 @@
+pub mod Items
+pub mod Truths
+pub mod Answers
+pub mod Jobs
