@@ -254,10 +254,19 @@ def invariant(k):
     every = sorted({s for of_server in k.sessions.values() for s in of_server})
     d.update({'session': every + [0], 'k': range(most + 2), 'i': range(most + 2), 'before': d['number'], 'Lock': locks_in(k) + [NO_LOCK]})
     del antt.FAILS[:]
-    try: ok = ask(of('Holds', 'Holds')(k.l, k.m)) and locks_hold(k, p)
+    try: ok = ask(of('Holds', 'Holds')(k.l, k.m)) and promises(k, p)
     finally:
         for n in ('session', 'k', 'i', 'before', 'Lock'): d.pop(n, None)
     return None if ok else 'the invariant: %s' % '; '.join(antt.FAILS[:14])
+
+
+def promises(k, p):
+    """Whether what the cluster owes its jobs holds, of each data server and of the jobs."""
+    def at(d):
+        v, x, is_dead = ap(p.f['server_at'], d), ap(k.m.f['site_at'], d), k.m.f['is_dead_at']
+        return all(ask(of(*word)(v, x, is_dead)) for word in (('Items', 'ItemsHold'), ('Answers', 'AnswersHold')))
+    of_machine = (('Jobs', 'JobsHold'), ('LocksHold', 'LocksHold'))
+    return all(at(d) for d in range(k.l.f['servers'] + 1)) and all(ask(of(*word)(p, k.m)) for word in of_machine)
 
 
 def resets_of(env):
@@ -272,6 +281,7 @@ def front_of(ups, kinds):
     return ups[:n]
 
 
+HINT[('QueueIs', 'acked')] = lambda env: max(deref(env['queue'][0].f['w']) - 1, 0) if len(env['queue']) else len(env['issued'])
 HINT[('ComesBack', 'claims')] = lambda env: front_of(env['ups'], ('Claim',))
 HINT[('ComesBack', 'items')] = lambda env: front_of(env['ups'][len(deref(env['claims'])):], ('Update', 'Add', 'Commit', 'Rollback'))
 HINT[('DownWay', 'ends')] = resets_of
@@ -288,11 +298,6 @@ def locks_in(k):
 
 
 NO_LOCK = Rec({'job': 0, 'mode': Con('Exclusive'), 'key': ()})
-
-
-def locks_hold(k, p):
-    """Whether the locks of both ends are the plain machine's, and each plain server's holds are as they should."""
-    return ask(of('LocksHold', 'LocksHold')(p, k.m)) and all(ask(of('HoldLaws', 'PlainHolds')(ap(p.f['server_at'], d))) for d in range(k.l.f['servers']))
 
 
 def holds(k):

@@ -1,3 +1,7 @@
-pub mod PlainHolds
+pub mod Truths
+pub mod Items
+pub mod Answers
+pub mod Jobs
+pub mod Forced
 pub mod LockMarks
 pub mod Locks

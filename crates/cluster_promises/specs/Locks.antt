@@ -30,7 +30,7 @@ use Rattle.cluster_runs.specs.Written.{count_of}
 use Rattle.cluster_invariant.specs.Asks.{cancels_ticket}
 use Rattle.cluster_invariant.specs.Words.{is_begun, stays_at}
 use Rattle.cluster_promises.specs.LockMarks.{MarksAgree, cancels_once, is_pending}
-use Rattle.cluster_promises.specs.PlainHolds.{AllForced, is_released}
+use Rattle.cluster_promises.specs.Forced.{AllForced, is_released}
 
 -- the table of a data end
 
