@@ -1,6 +1,7 @@
 -- The example is a run.
-use Rattle.std.proofs.Common.{[], ◌∷◌, ◌++◌, refl, arith}
+use Rattle.std.proofs.Common.{List, [], ◌∷◌, ◌++◌, refl, arith}
 use Rattle.subscript_keys.specs.Key.{IsKey, key_of}
+use Rattle.plain_orders.specs.declared.act.Act.{Act}
 use Rattle.plain_orders.specs.declared.act.Act.TheVariants.{Enter, Grant}
 use Rattle.plain_orders.specs.declared.entry.Entry.TheVariants.{Update}
 use Rattle.plain_orders.specs.declared.mode.Mode.TheVariants.{Exclusive}
@@ -21,7 +22,10 @@ x_may : KeyMay x_node
 x_may = record { is_key = x_key; within = omega arith }
 
 handed_runs : IsRun two_jobs handed_over
-handed_runs = (run_parts two_jobs start handed_over (Grant 0 2 1 Exclusive x_node 3 ∷ taken_over ++ Enter 0 (Update 2 2 0 0 (Set x_node (54 ∷ []))) ∷ []) lock_example.0).0
+handed_runs = (run_parts two_jobs start handed_over later lock_example.0).0
+  where
+    later : List Act
+    later = Grant 0 2 1 Exclusive x_node 3 ∷ taken_over ++ Enter 0 (Update 2 2 0 0 (Set x_node (54 ∷ []))) ∷ []
 
 asked_runs : IsRun two_jobs asked
 asked_runs = run_joined two_jobs start handed_over asking handed_runs (

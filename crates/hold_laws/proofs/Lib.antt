@@ -6,4 +6,5 @@ pub mod HoldSteps
 pub mod HoldRuns
 pub mod LeftHolds
 pub mod LaterHolds
+pub mod OtherHolds
 pub mod HoldExamples

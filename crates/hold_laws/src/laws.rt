@@ -2,7 +2,7 @@ ghost use Rattle.hold_laws.specs.HoldLaws.{EachHold, EachQuit, EachServer};
 ghost use Rattle.hold_laws.specs.HoldLaws.{AnsweredIsSynced, GivenIsIssued, GoneIsGiven, GoneIsOver, KeptIsClosed};
 ghost use Rattle.hold_laws.specs.HoldLaws.{ReleasedIsClosed, SentIsBehindOpen, TouchedIsMet};
 ghost use Rattle.hold_laws.specs.HoldLaws.{QuitIsIssued, QuitIsMet, QuitsInOrder, TurnsAreBelow, TurnsDiffer, TurnsTell};
-ghost use Rattle.hold_laws.specs.HoldChanges.{HoldsStay, OthersLeaveHolds};
+ghost use Rattle.hold_laws.specs.HoldChanges.{HoldsStay, OthersLeaveHolds, OthersStay};
 
 /// The session of a hold that was answered or given up was met. The number of an answered one is synced, that of a sent one
 /// is within the order and behind its session's Open, and what was issued before one was given up was issued.
@@ -44,7 +44,9 @@ pub fn a_hold_keeps_its_place()
     ensures { HoldsStay }
 {}
 
-/// Only a grant and what answers, gives up, frees or releases changes holds, and a crash and the end of a round.
+/// Only a grant and what answers, gives up, frees or releases changes holds, and a crash and the end of a round; and each of
+/// them leaves the holds that aren't its own.
 pub fn other_acts_leave_holds()
-    ensures { OthersLeaveHolds }
+    ensures acts { OthersLeaveHolds }
+    ensures holds { OthersStay }
 {}
