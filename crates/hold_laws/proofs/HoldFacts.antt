@@ -20,7 +20,7 @@ use Rattle.plain_runs.proofs.LockRows.{HoldOf, QuitKept, each_at, locks}
 use Rattle.plain_runs.proofs.LockLaws.{locks_kept}
 use Rattle.plain_runs.proofs.Issued.{PlacedAt, PlacedFrom, issued_kept, placed-take}
 use Rattle.hold_laws.specs.HoldLaws.{EachHold, EachQuit, TouchedIsMet, AnsweredIsSynced, SentIsBehindOpen, GivenIsIssued, ReleasedIsClosed}
-use Rattle.hold_laws.specs.HoldLaws.{KeptIsClosed, QuitIsMet, QuitIsIssued}
+use Rattle.hold_laws.specs.HoldLaws.{QuitIsMet, QuitIsIssued}
 
 -- what holds at each place holds of each
 pub each_by_place : {X : Type 0} (P : X → Type 0) (xs : List X) → ((i : ℕ) (x : X) → slice_get xs i ≡ Some x → P x) → AllByRecursion P xs
@@ -52,9 +52,6 @@ given_is_issued l acts d run i h is = go h.given refl
 
 pub released_is_closed : EachHold ReleasedIsClosed
 released_is_closed l acts d run i h is = (hold_kept l acts d run i h is).closed
-
-pub kept_is_closed : EachHold KeptIsClosed
-kept_is_closed l acts d run i h is = (hold_kept l acts d run i h is).ended
 
 pub quit_is_met : EachQuit QuitIsMet
 quit_is_met l acts d run i q is = (quit_kept l acts d run i q is).met

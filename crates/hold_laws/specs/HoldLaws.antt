@@ -58,10 +58,6 @@ ReleasedIsClosed v h = h.in_force ≡ false → h.gone ≡ false → closed_by v
 abbrev pub GoneIsGiven : Server → Hold → Type 0
 GoneIsGiven v h = h.gone ≡ true → h.answered ≡ true → is_some h.given ≡ true
 
--- So where a hold is gone that was answered and not given up, a Close of its session is synced, there being none.
-abbrev pub KeptIsClosed : Server → Hold → Type 0
-KeptIsClosed v h = h.gone ≡ true → h.answered ≡ true → is_some h.given ≡ false → closed_by v.order h.session v.synced ≡ true
-
 -- A Close of the hold's session is synced, or it was given up and all that its job issued in its session before stands in the order.
 abbrev pub IsOver : Server → Hold → Type 0
 IsOver v h =

@@ -1,5 +1,5 @@
 ghost use Rattle.hold_laws.specs.HoldLaws.{EachHold, EachQuit, EachServer};
-ghost use Rattle.hold_laws.specs.HoldLaws.{AnsweredIsSynced, GivenIsIssued, GoneIsGiven, GoneIsOver, KeptIsClosed};
+ghost use Rattle.hold_laws.specs.HoldLaws.{AnsweredIsSynced, GivenIsIssued, GoneIsGiven, GoneIsOver};
 ghost use Rattle.hold_laws.specs.HoldLaws.{ReleasedIsClosed, SentIsBehindOpen, TouchedIsMet};
 ghost use Rattle.hold_laws.specs.HoldLaws.{QuitIsIssued, QuitIsMet, QuitsInOrder, TurnsAreBelow, TurnsDiffer, TurnsTell};
 ghost use Rattle.hold_laws.specs.HoldChanges.{HoldsStay, OthersLeaveHolds, OthersStay};
@@ -19,7 +19,6 @@ pub fn each_hold_fits_its_session()
 pub fn what_ended_is_over()
     ensures released { EachHold ReleasedIsClosed }
     ensures given { EachHold GoneIsGiven }
-    ensures kept { EachHold KeptIsClosed }
     ensures gone { EachHold GoneIsOver }
 {}
 
