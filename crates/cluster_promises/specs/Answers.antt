@@ -108,12 +108,12 @@ last_from job k found (i ∷ is) = last_from job (k + 1) (if i.job == job then k
 abbrev pub last_of : ℕ → List Issued → ℕ
 last_of job issued = last_from job 0 0 issued
 
--- the Sync with a ticket stands among messages only behind items up to a number, where this was the greatest before
+-- where the Sync with a ticket stands among messages, the items up to a number stand before it; the greatest before all of them was this
 abbrev pub StandsBehind : ℕ → ℕ → ℕ → List Up → Type 0
 StandsBehind ticket last w [] = ⊤
 StandsBehind ticket last w (m ∷ ms) = (is_sync_with ticket m ≡ true → last ≤ w) × StandsBehind ticket last (max w (w_of m)) ms
 
--- a length counts all items up to a number
+-- as many entries count all items of the session up to a number
 abbrev pub Covers : List Entry → ℕ → ℕ → ℕ → Type 0
 Covers es session last at = last ≤ count (take at es) session
 
@@ -138,7 +138,7 @@ pub record SyncedAt (es : List Entry) (stays last : ℕ) (s : Session) (at : ℕ
   pub stays_there : at ≤ stays
   pub covers : Covers es s.number last at
 
--- A Sync that a command waits for, with the greatest number that its job issued: all that is upward of it stands before it, and what answers it
+-- A Sync that a command waits for, with the greatest number that its job issued: upwards it stands behind all these items, and what answers it
 -- covers them.
 pub record SyncIs (es : List Entry) (stays last : ℕ) (lane : Lane) (node : Option DataState) (s : Session) (a : Syncing) : Type 0 where
   pub put : a.put ≡ not s.normal_due
