@@ -15,7 +15,7 @@ use Rattle.plain_orders.specs.declared.sum.Sum.TheVariants.{Nothing, Whole, NotW
 use Rattle.plain_orders.specs.Numbers.{integer_text}
 use Rattle.plain_orders.specs.Fold.{fold, op_after, op_sum, with_sum}
 use Rattle.plain_orders.specs.Own.{op_touches, touches_own, ops_after, value_over}
-use Rattle.plain_orders.specs.PairMap.{Map, key_cmp, value_at}
+use Rattle.plain_orders.specs.PairMap.{Map, key_cmp, value_at, within}
 use Rattle.plain_orders.proofs.Locality.{is_in_span}
 use Rattle.plain_orders.proofs.Values.{its_key, put_value, killed_value, within_value, ops_agree}
 use Rattle.end_words.specs.Runs.{TrueAt, covers, pairs_of}
@@ -108,17 +108,15 @@ module _ (key : List ℕ) where
       go more true is here = ops_agree key (op_after m o) (op_after n o) os (decides m n o changes.0 is)
       go more false is here = more here
 
--- a run that is true has the value of each key that it covers
-pub run_value : (es : List Entry) (n : ℕ) (run : Run) (key : List ℕ) → TrueAt run es n → covers key run ≡ true
-    → value_at (pairs_of run) key ≡ value_at (fold (take n es)).pairs key
-run_value es n run key its covered =
-    ap (λ (m : Map). value_at m key) its ∙ within_value key (fold (take n es)).pairs run.span (is_in_span run.span (key, []) covered)
+-- a run that has a map's pairs of its span has the value of each key that it covers
+pub value_of : (m : Map) (run : Run) (key : List ℕ) → pairs_of run ≡ within m run.span → covers key run ≡ true → value_at (pairs_of run) key ≡ value_at m key
+value_of m run key its covered = ap (λ (x : Map). value_at x key) its ∙ within_value key m run.span (is_in_span run.span (key, []) covered)
 
 pub runs_answer : (es : List Entry) (n : ℕ) (runs : List Run) (run : Run) (ops : List Op) (key : List ℕ)
     → AreTrueAt es n runs → find (covers key) runs ≡ Some run → touches_own ops key ≡ false
     → value_at (pairs_of run) key ≡ value_over (take n es) ops key
 runs_answer es n runs run ops key all found other =
-    run_value es n run key (found_has (λ r. TrueAt r es n) (covers key) runs run all found) (found_passes (covers key) runs run found)
+    value_of (fold (take n es)).pairs run key (found_has (λ r. TrueAt r es n) (covers key) runs run all found) (found_passes (covers key) runs run found)
     ∙ sym (all_elsewhere key (fold (take n es)).pairs ops other)
 
 pub own_decide : (es : List Entry) (ops : List Op) (key : List ℕ) → AllByRecursion IsChange ops → touches_own ops key ≡ true

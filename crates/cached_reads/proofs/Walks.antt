@@ -110,19 +110,20 @@ Went m test start end (Needs key) = Unit {0}
 Went m test start end (Finds run) = FoundIn m test start run
 Went m test start end Ends = NoneIn test m (between start end)
 
+-- a step of a walk, by the run that covers the key
+abbrev pub steps : (Run → Bool) → List ℕ → ℕ → List ℕ → List Run → Option Run → Walk
+steps holds end turns key runs o =
+    elim o [
+      | None ↦ walk (Needs key) runs
+      | Some run ↦
+          (if holds run then walk (Finds run) (used key runs)
+          else (if is_lt (key_cmp run.span.hi end) then walk_from turns holds end run.span.hi (used key runs) else walk Ends (used key runs)))
+    ]
+
 module _ (m : Map) (test : List ℕ × List ℕ → Bool) (holds : Run → Bool) (is : (run : Run) → holds run ≡ list_any test (pairs_of run)) (start end : List ℕ) where
   -- the walk goes on from a run
   abbrev goes : ℕ → List ℕ → List Run → Run → Bool → Bool → Walk
   goes turns key runs run b c = if b then walk (Finds run) (used key runs) else (if c then walk_from turns holds end run.span.hi (used key runs) else walk Ends (used key runs))
-
-  abbrev steps : ℕ → List ℕ → List Run → Option Run → Walk
-  steps turns key runs o =
-      elim o [
-        | None ↦ walk (Needs key) runs
-        | Some run ↦
-            (if holds run then walk (Finds run) (used key runs)
-            else (if is_lt (key_cmp run.span.hi end) then walk_from turns holds end run.span.hi (used key runs) else walk Ends (used key runs)))
-      ]
 
   went_on : (turns : ℕ) (key : List ℕ) (runs : List Run) (run : Run)
       → ((k : List ℕ) (rs : List Run) → AllByRecursion (IsOf m) rs → NoneIn test m (between start k) → Went m test start end (walk_from turns holds end k rs).walked)
@@ -156,7 +157,7 @@ module _ (m : Map) (test : List ℕ × List ℕ → Bool) (holds : Run → Bool)
   walk_went (suc turns) key runs all none = go (walk_went turns) (find (covers key) runs) refl
     where
       go : ((k : List ℕ) (rs : List Run) → AllByRecursion (IsOf m) rs → NoneIn test m (between start k) → Went m test start end (walk_from turns holds end k rs).walked)
-          → (o : Option Run) → find (covers key) runs ≡ o → Went m test start end (steps turns key runs o).walked
+          → (o : Option Run) → find (covers key) runs ≡ o → Went m test start end (steps holds end turns key runs o).walked
       go more None e = tt
       go more (Some run) e = went_on turns key runs run more all none e (holds run) refl (is_lt (key_cmp run.span.hi end)) refl
 
