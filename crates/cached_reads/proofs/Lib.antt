@@ -5,3 +5,5 @@ pub mod Walks
 pub mod Shapes
 pub mod Nexts
 pub mod Firsts
+pub mod Turns
+pub mod MayCome
