@@ -1,5 +1,6 @@
 -- The first key of a span in the run that a walk found is the first one in the map.
-use Rattle.std.proofs.Common.{◌≡◌, ℕ, suc, Bool, true, false, cond, not, if◌then◌else◌, ◌||◌, List, [], ◌∷◌, length, Option, Some, None, take, filter, refl, sym, ◌∙◌, ap, subst}
+use Rattle.std.proofs.Common.{◌≡◌, ℕ, suc, Bool, true, false, cond, not, if◌then◌else◌, ◌||◌, List, []}
+use Rattle.std.proofs.Common.{◌∷◌, length, Option, Some, None, take, filter, refl, sym, ◌∙◌, ap, subst}
 use Rattle.std.specs.Prelude.{IfSome}
 use Rattle.std.specs.List.{list_any, AllByRecursion}
 use Rattle.std.specs.Ordering.{is_lt, is_gt}
@@ -61,7 +62,9 @@ module _ (start end : List ℕ) where
   past_end key (p ∷ ps) low above = (go (is_in (between start end) p) refl, past_end key ps low above.1)
     where
       go : (b : Bool) → is_in (between start end) p ≡ b → is_in (between start end) p ≡ false
-      go true e = absurd (no_both key p.0 above.0 (lt_le p.0 key (lt_then p.0 end key (and_parts (not (is_gt (key_cmp start p.0))) (is_lt (key_cmp p.0 end)) e).1 low)))
+      go true e =
+          let below : lt p.0 end = (and_parts (not (is_gt (key_cmp start p.0))) (is_lt (key_cmp p.0 end)) e).1 in
+          absurd (no_both key p.0 above.0 (lt_le p.0 key (lt_then p.0 end key below low)))
       go false e = e
 
   -- of pairs from the start on none is before the run
@@ -150,7 +153,8 @@ tells es parent sub is_key form keys Ends went = λ found its. subst (λ o. IsSu
     same : None ≡ next_key (fold es).pairs parent sub
     same =
         sym (next_first parent sub is_key form (fold es).pairs keys
-        ∙ none_first (between (next_start parent sub) (span_hi parent)) (fold es).pairs (none_from (next_start parent sub) (span_hi parent) (fold es).pairs went))
+        ∙ none_first (between (next_start parent sub) (span_hi parent)) (fold es).pairs
+        (none_from (next_start parent sub) (span_hi parent) (fold es).pairs went))
 
 -- So the walk finds the next subscript.
 pub walks_tell_next : (es : List Entry) (n : ℕ) (runs : List Run) (parent : List ℕ) (sub : Option Sub) → IsOrdered es → AreTrueAt es n runs

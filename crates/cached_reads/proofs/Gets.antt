@@ -99,12 +99,14 @@ module _ (key : List ℕ) where
   decides m n (Add k amount) change here = absurd change
 
   -- one of several decides it
-  pub some_decides : (m n : Map) (ops : List Op) → AllByRecursion IsChange ops → touches_own ops key ≡ true → value_at (ops_after m ops) key ≡ value_at (ops_after n ops) key
+  pub some_decides : (m n : Map) (ops : List Op) → AllByRecursion IsChange ops → touches_own ops key ≡ true
+      → value_at (ops_after m ops) key ≡ value_at (ops_after n ops) key
   some_decides m n [] changes here = absurd (false≢true here)
   some_decides m n (o ∷ os) changes here = go (some_decides (op_after m o) (op_after n o) os changes.1) (op_touches key o) refl here
     where
       go : (touches_own os key ≡ true → value_at (ops_after (op_after m o) os) key ≡ value_at (ops_after (op_after n o) os) key)
-          → (b : Bool) → op_touches key o ≡ b → (b || touches_own os key) ≡ true → value_at (ops_after (op_after m o) os) key ≡ value_at (ops_after (op_after n o) os) key
+          → (b : Bool) → op_touches key o ≡ b → (b || touches_own os key) ≡ true
+          → value_at (ops_after (op_after m o) os) key ≡ value_at (ops_after (op_after n o) os) key
       go more true is here = ops_agree key (op_after m o) (op_after n o) os (decides m n o changes.0 is)
       go more false is here = more here
 

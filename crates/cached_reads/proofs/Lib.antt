@@ -7,3 +7,4 @@ pub mod Nexts
 pub mod Firsts
 pub mod Turns
 pub mod MayCome
+pub mod StepsCome

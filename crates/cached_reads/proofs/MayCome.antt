@@ -1,5 +1,6 @@
 -- Each read that a get, a shape or a next writes may come.
-use Rattle.std.proofs.Common.{◌≡◌, inl, inr, ℕ, Bool, true, false, List, [], ◌∷◌, ◌++◌, Option, Some, None, take, refl, sym, ◌∙◌, ap, subst, nat_eq, if◌then◌else◌}
+use Rattle.std.proofs.Common.{◌≡◌, inl, inr, ℕ, Bool, true, false, List, [], ◌∷◌, ◌++◌}
+use Rattle.std.proofs.Common.{Option, Some, None, take, refl, sym, ◌∙◌, ap, subst, nat_eq, if◌then◌else◌}
 use Rattle.std.specs.Prelude.{IfSome}
 use Rattle.std.specs.List.{find, AllByRecursion}
 use Rattle.subscript_keys.specs.declared.run.Run.{Run}
@@ -29,7 +30,8 @@ use Rattle.app_job.specs.Sites.{Site, IsSite}
 use Rattle.app_rules.specs.Issuing.{at_normal, has_own, is_up, own_ops, pair_session, unless_own, uses_if}
 use Rattle.app_rules.specs.JobState.{Work, Turn}
 use Rattle.app_rules.specs.JobStep.{NextsFree, NextsUp}
-use Rattle.app_rules.specs.Reading.{NextsWalked, Walk, Walked, Needs, Finds, Ends, cache_of, caches, found_key, front_n, get_turn, gets_from, gets_own, has_value, holds_below, next_walk, shape_turn, shapes_now, shapes_walked, via_of, walks}
+use Rattle.app_rules.specs.Reading.{NextsWalked, Walk, Walked, Needs, Finds, Ends, cache_of, caches, found_key, front_n, get_turn}
+use Rattle.app_rules.specs.Reading.{gets_from, gets_own, has_value, holds_below, next_walk, shape_turn, shapes_now, shapes_walked, via_of, walks}
 use Rattle.block_cache.specs.CacheWords.{used}
 use Rattle.cached_reads.specs.Laws.{IsChange}
 use Rattle.cached_reads.specs.Reads.{ReadsStand, ReadWritten, WritesRead}
@@ -126,13 +128,16 @@ module _ (v : Server) (app d : ℕ) (w : Work) (s : ReadsStand v app d w) where
   shape_by : (key : List ℕ) → KeyMay key → (b : Bool) → has_own w d ≡ b → WritesRead v app d w (unless_own b (shapes_now d key) w)
   shape_by key node true own = inl refl
   shape_by key node false none =
-      shaped key node (entered none) (walks (holds_below key) (span_hi key) key (cache_of w d)).cache (walks (holds_below key) (span_hi key) key (cache_of w d)).walked
+      shaped key node (entered none) (walks (holds_below key) (span_hi key) key (cache_of w d)).cache
+      (walks (holds_below key) (span_hi key) key (cache_of w d)).walked
       (walks_tell_shapes order (front_n w d) (cache_of w d) key s.ordered s.runs node.is_key)
 
   -- a next, by where its walk ends
-  module _ (parent : Site) (sub : Option Sub) (node : IsKey (asked_key parent.key sub)) (within : IsWithinLimit (asked_key parent.key sub)) (none : behind ≡ []) where
+  module _ (parent : Site) (sub : Option Sub) (node : IsKey (asked_key parent.key sub)) (within : IsWithinLimit (asked_key parent.key sub))
+      (none : behind ≡ []) where
     found : (runs : List Run) (sub_found : Option Sub) → IsNextOn (take (front_n w d) order) parent.key sub sub_found
-        → ReadWritten v app d w (w.ends.outs.acts ++ Read w.job.index w.at.line d (front_n (caches d runs w) d) (via_of w.at) (questions.Next parent.key sub sub_found) ∷ [])
+        → ReadWritten v app d w
+        (w.ends.outs.acts ++ Read w.job.index w.at.line d (front_n (caches d runs w) d) (via_of w.at) (questions.Next parent.key sub sub_found) ∷ [])
     found runs sub_found is =
         from_runs runs (via_of w.at) (questions.Next parent.key sub sub_found)
         (record { result = is; by = not_own w.at; entered = none; node = node; within = within })

@@ -1,5 +1,6 @@
 -- A walk for the next subscript finds the key of the first pair below the parent and behind the subscript.
-use Rattle.std.proofs.Common.{◌≡◌, ℕ, Bool, true, false, not, if◌then◌else◌, ◌&&◌, List, [], ◌∷◌, ◌++◌, length, Option, Some, None, refl, sym, ◌∙◌, ap, subst, nat_lt}
+use Rattle.std.proofs.Common.{◌≡◌, ℕ, Bool, true, false, not, if◌then◌else◌, ◌&&◌, List, [], ◌∷◌}
+use Rattle.std.proofs.Common.{◌++◌, length, Option, Some, None, refl, sym, ◌∙◌, ap, subst, nat_lt}
 use Rattle.std.specs.Prelude.{IfSome}
 use Rattle.std.specs.Ordering.{is_lt, is_gt}
 use Rattle.std.proofs.lemmas.Bool.{false≢true, and_from, and_parts, lt-ltb, ltb-true}
@@ -44,7 +45,9 @@ module _ (parent : List ℕ) (is_key : IsKey parent) where
   -- a pair that is in the parent's span and above the parent is below it
   below_is : (k : List ℕ) → IsKey k → lt parent k → lt k (span_hi parent) → is_below parent k ≡ true
   below_is k key above low =
-      let under : is_under parent k ≡ true = in_under parent k is_key key (is_in_span (between parent (span_hi parent)) (k, []) (and_from (not (is_gt (key_cmp parent k))) (is_lt (key_cmp k (span_hi parent))) (lt_le parent k above) low)) in
+      let inside : is_in (between parent (span_hi parent)) (k, []) ≡ true =
+      and_from (not (is_gt (key_cmp parent k))) (is_lt (key_cmp k (span_hi parent))) (lt_le parent k above) low in
+      let under : is_under parent k ≡ true = in_under parent k is_key key (is_in_span (between parent (span_hi parent)) (k, []) inside) in
       and_from (is_under parent k) (nat_lt (length parent) (length k)) under (lt-ltb (length parent) (length k) (longer parent k under above))
 
   -- one that begins with the parent ends before the parent's span
@@ -92,7 +95,8 @@ module _ (parent : List ℕ) (is_key : IsKey parent) where
       back e =
           let parts = and_parts (not (is_gt (key_cmp (span_hi child) k))) (is_lt (key_cmp k (span_hi parent))) e in
           let above : lt child k = lt_then child (span_hi child) k (lt_more child 0xFF []) parts.0 in
-          let apart : is_under child k ≡ false = no_true (is_under child k) (λ under. no_both k (span_hi child) (ap is_lt (under_in child k child_is key under).to) parts.0) in
+          let apart : is_under child k ≡ false =
+          no_true (is_under child k) (λ under. no_both k (span_hi child) (ap is_lt (under_in child k child_is key under).to) parts.0) in
           and_from (is_below parent k) (is_behind parent (Some sub) k) (below_is k key (parent_below above) parts.1)
           (and_from (is_lt (key_cmp child k)) (not (is_under child k)) above (ap not apart))
         where

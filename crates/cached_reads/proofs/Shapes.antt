@@ -28,7 +28,8 @@ any_of : (test f : List ℕ × List ℕ → Bool) (m : Map) → list_any test (f
 any_of test f [] e = e
 any_of test f (p ∷ ps) e = go (any_of test f ps) (f p) e
   where
-    first : (c : Bool) → (list_any test (filter f ps) ≡ true → list_any test ps ≡ true) → (c || list_any test (filter f ps)) ≡ true → (c || list_any test ps) ≡ true
+    first : (c : Bool) → (list_any test (filter f ps) ≡ true → list_any test ps ≡ true) → (c || list_any test (filter f ps)) ≡ true
+        → (c || list_any test ps) ≡ true
     first true more e = refl
     first false more e = more e
 

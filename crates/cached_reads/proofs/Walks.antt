@@ -120,13 +120,20 @@ steps holds end turns key runs o =
           else (if is_lt (key_cmp run.span.hi end) then walk_from turns holds end run.span.hi (used key runs) else walk Ends (used key runs)))
     ]
 
-module _ (m : Map) (test : List ℕ × List ℕ → Bool) (holds : Run → Bool) (is : (run : Run) → holds run ≡ list_any test (pairs_of run)) (start end : List ℕ) where
+module _ (m : Map) (test : List ℕ × List ℕ → Bool) (holds : Run → Bool) (is : (run : Run) → holds run ≡ list_any test (pairs_of run))
+    (start end : List ℕ) where
+  -- a walk from a key on
+  abbrev Goes : ℕ → List ℕ → List Run → Type 0
+  Goes turns key runs = Went m test start end (walk_from turns holds end key runs).walked
+
   -- the walk goes on from a run
   abbrev goes : ℕ → List ℕ → List Run → Run → Bool → Bool → Walk
-  goes turns key runs run b c = if b then walk (Finds run) (used key runs) else (if c then walk_from turns holds end run.span.hi (used key runs) else walk Ends (used key runs))
+  goes turns key runs run b c =
+      if b then walk (Finds run) (used key runs)
+      else (if c then walk_from turns holds end run.span.hi (used key runs) else walk Ends (used key runs))
 
   went_on : (turns : ℕ) (key : List ℕ) (runs : List Run) (run : Run)
-      → ((k : List ℕ) (rs : List Run) → AllByRecursion (IsOf m) rs → NoneIn test m (between start k) → Went m test start end (walk_from turns holds end k rs).walked)
+      → ((k : List ℕ) (rs : List Run) → AllByRecursion (IsOf m) rs → NoneIn test m (between start k) → Goes turns k rs)
       → AllByRecursion (IsOf m) runs → NoneIn test m (between start key) → find (covers key) runs ≡ Some run
       → (b : Bool) → holds run ≡ b → (c : Bool) → is_lt (key_cmp run.span.hi end) ≡ c → Went m test start end (goes turns key runs run b c).walked
   went_on turns key runs run more all none found true there c e =
@@ -152,11 +159,11 @@ module _ (m : Map) (test : List ℕ × List ℕ → Bool) (holds : Run → Bool)
       go false e = none_to test start run.span.hi end m (not_lt run.span.hi end e) through
 
   pub walk_went : (turns : ℕ) (key : List ℕ) (runs : List Run) → AllByRecursion (IsOf m) runs → NoneIn test m (between start key)
-      → Went m test start end (walk_from turns holds end key runs).walked
+      → Goes turns key runs
   walk_went zero key runs all none = tt
   walk_went (suc turns) key runs all none = go (walk_went turns) (find (covers key) runs) refl
     where
-      go : ((k : List ℕ) (rs : List Run) → AllByRecursion (IsOf m) rs → NoneIn test m (between start k) → Went m test start end (walk_from turns holds end k rs).walked)
+      go : ((k : List ℕ) (rs : List Run) → AllByRecursion (IsOf m) rs → NoneIn test m (between start k) → Goes turns k rs)
           → (o : Option Run) → find (covers key) runs ≡ o → Went m test start end (steps holds end turns key runs o).walked
       go more None e = tt
       go more (Some run) e = went_on turns key runs run more all none e (holds run) refl (is_lt (key_cmp run.span.hi end)) refl
