@@ -1,0 +1,10 @@
+pub mod Orders
+pub mod Fronts
+pub mod Gets
+pub mod Walks
+pub mod Shapes
+pub mod Nexts
+pub mod Firsts
+pub mod Turns
+pub mod MayCome
+pub mod StepsCome

@@ -1,0 +1,4 @@
+pub mod Laws
+pub mod Walks
+pub mod Reads
+pub mod StepReads
