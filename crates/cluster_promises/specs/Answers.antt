@@ -1,21 +1,20 @@
--- Answers and Grants: waiting at a data server, put down to a session, and held at an application end.
-use Rattle.std.specs.Prelude.{◌≡◌, ◌≤◌, ◌+◌, ◌==◌, ◌&&◌, ⊤, ℕ, Bool, true, false, not, max, if◌then◌else◌, List, [], ◌∷◌, take, ℤ, Option, IfSome}
+-- Answers: waiting at a data server, put down to a session, and held at an application end.
+use Rattle.std.specs.Prelude.{◌≡◌, ◌≤◌, ◌+◌, ◌==◌, ⊤, ℕ, Bool, true, false, not, max, if◌then◌else◌, List, [], ◌∷◌, take, ℤ, Option, IfSome}
 use Rattle.std.specs.List.{list_any, AllByRecursion}
 use Rattle.plain_orders.specs.declared.entry.Entry.{Entry}
 use Rattle.plain_orders.specs.Entries.{count}
 use Rattle.plain_orders.specs.Own.{Issued}
-use Rattle.plain_runs.specs.Holds.{is_of, is_lock}
-use Rattle.plain_runs.specs.Plain.{Server, Hold, current, issued_in, order_at}
+use Rattle.plain_runs.specs.Plain.{Server, current, issued_in, order_at}
 use Rattle.ecp_messages.specs.declared.about.About.{About}
 use Rattle.ecp_messages.specs.declared.about.About.TheVariants as about
 use Rattle.ecp_messages.specs.declared.down.Down.{Down}
-use Rattle.ecp_messages.specs.declared.down.Down.TheVariants.{Grant, Answer}
+use Rattle.ecp_messages.specs.declared.down.Down.TheVariants.{Answer}
 use Rattle.ecp_messages.specs.declared.front.Front.{Front}
 use Rattle.ecp_messages.specs.declared.up.Up.{Up}
-use Rattle.ecp_messages.specs.declared.up.Up.TheVariants.{Ask, Sync}
+use Rattle.ecp_messages.specs.declared.up.Up.TheVariants.{Sync}
 use Rattle.data_rules.specs.DataState.{DataState}
 use Rattle.data_rules.specs.declared.rows.Says.{Says}
-use Rattle.data_rules.specs.declared.rows.Says.TheVariants.{GrantOf, AnswerOf}
+use Rattle.data_rules.specs.declared.rows.Says.TheVariants.{AnswerOf}
 use Rattle.app_rules.specs.declared.session_parts.Asked.{Asked}
 use Rattle.app_rules.specs.declared.session_parts.Syncing.{Syncing}
 use Rattle.app_rules.specs.declared.session_parts.Told.{Told}
@@ -36,15 +35,6 @@ abbrev pub AnswersSync : List Up → About → ℕ → Type 0
 AnswersSync ups about.Synced number = list_any (is_sync_with number) ups ≡ true
 AnswersSync ups what number = ⊤
 
--- the message is the Ask of this ticket, and a hold of its job was granted with this number
-abbrev pub is_granted_ask : List Hold → ℕ → ℕ → ℕ → Up → Bool
-is_granted_ask holds session ticket at (Ask t job mode key) = t == ticket && list_any (λ h. is_of session job h && (is_lock mode key h && h.at == at)) holds
-is_granted_ask holds session ticket at m = false
-
--- a Grant is of a hold that was granted to one of these messages
-abbrev pub GrantsHold : List Hold → ℕ → List Up → ℕ → ℕ → Type 0
-GrantsHold holds session ups ticket at = list_any (is_granted_ask holds session ticket at) ups ≡ true
-
 -- at the data end
 
 -- an Answer that waits
@@ -53,50 +43,41 @@ pub record AnswerWaits (es : List Entry) (session : ℕ) (ups : List Up) (until 
   pub is_so : IsTrueOn es session what job number at sum
   pub asked : AnswersSync ups what number
 
--- a Grant that waits
-pub record GrantWaits (holds : List Hold) (session : ℕ) (ups : List Up) (until ticket at : ℕ) : Type 0 where
-  pub place : until ≡ at
-  pub granted : GrantsHold holds session ups ticket at
-
--- such a reply waits until its place is synced
-abbrev pub WaitsToTell : Server → (ℕ → Lane) → DataState → ℕ → Says → Type 0
-WaitsToTell v lane_of n until (GrantOf session ticket at) = GrantWaits v.holds session (ups_taken (lane_of session)) until ticket at
-WaitsToTell v lane_of n until (AnswerOf session what job number at sum) =
+-- it waits until its place is synced
+abbrev pub WaitsToTell : (ℕ → Lane) → DataState → ℕ → Says → Type 0
+WaitsToTell lane_of n until (AnswerOf session what job number at sum) =
     AnswerWaits n.order session (ups_taken (lane_of session)) until what job number at sum
-WaitsToTell v lane_of n until says = ⊤
+WaitsToTell lane_of n until says = ⊤
 
--- what was put down to a session in one order says what is so, at a place that its header counts and that stays
-pub record PutIs (stays at : ℕ) (front : Front) : Type 0 where
+-- An Answer that was put down to a session in one order says what is so, at a place that its header counts and that stays.
+pub record AnswerPut (es : List Entry) (stays session : ℕ) (ups : List Up) (front : Front) (what : About) (job number at : ℕ) (sum : ℤ) : Type 0 where
   pub within : at ≤ front.n
   pub stays_there : at ≤ stays
-
--- an Answer
-pub record AnswerPut (es : List Entry) (stays session : ℕ) (ups : List Up) (front : Front) (what : About) (job number at : ℕ) (sum : ℤ) : Type 0 where
-  pub put : PutIs stays at front
   pub is_so : IsTrueOn es session what job number at sum
   pub asked : AnswersSync ups what number
 
--- a Grant
-pub record GrantPut (holds : List Hold) (stays session : ℕ) (ups : List Up) (front : Front) (ticket at : ℕ) : Type 0 where
-  pub put : PutIs stays at front
-  pub granted : GrantsHold holds session ups ticket at
-
--- each of these
-abbrev pub TellsSo : List Entry → List Hold → ℕ → ℕ → List Up → Down → Type 0
-TellsSo es holds stays session ups (Grant front ticket at) = GrantPut holds stays session ups front ticket at
-TellsSo es holds stays session ups (Answer front what job number at sum) = AnswerPut es stays session ups front what job number at sum
-TellsSo es holds stays session ups m = ⊤
+-- a message that is one is such a one
+abbrev pub TellsSo : List Entry → ℕ → ℕ → List Up → Down → Type 0
+TellsSo es stays session ups (Answer front what job number at sum) = AnswerPut es stays session ups front what job number at sum
+TellsSo es stays session ups m = ⊤
 
 -- what was put down to a session in one order
 abbrev pub LaneAnswers : Server → ℕ → ℕ → Lane → Type 0
-LaneAnswers v session k lane = AllByRecursion (TellsSo (order_at v k) v.holds (stays_at v k) session (ups_taken lane)) lane.down
+LaneAnswers v session k lane = AllByRecursion (TellsSo (order_at v k) (stays_at v k) session (ups_taken lane)) lane.down
 
 -- at the application end
 
--- What an end holds for a command: an Answer that is so in the order that its session is told of, at a place that stays and that its front counts.
+-- an Answer is to a Sync
+abbrev pub is_of_sync : About → Bool
+is_of_sync about.Synced = true
+is_of_sync what = false
+
+-- What an end holds for a command: an Answer about an item that is so in the order that its session is told of, at a place that stays and that
+-- its front counts.
 pub record ToldIs (es : List Entry) (stays : ℕ) (s : Session) (t : Told) : Type 0 where
   pub within : t.at ≤ s.n
   pub stays_there : t.at ≤ stays
+  pub item : is_of_sync t.about ≡ false
   pub is_so : IsTrueOn es s.number t.about t.job t.w t.at t.sum
 
 -- the greatest number of a job's items, where it was this before, behind so many
@@ -178,5 +159,5 @@ EndAnswersOf v x e s = IfSome e.told (λ p.
 -- the answers at one data server
 pub record AnswersHold (v : Server) (x : Site) (is_dead : ℕ → Bool) : Type 0 where
   pub lanes : (session k : ℕ) → k ≤ current v → LaneAnswers v session k (x.lane_at session k)
-  pub node : IfSome x.node (λ n. AllByRecursion (λ r. WaitsToTell v (λ session. x.lane_at session x.past) n r.at r.says) n.replies)
+  pub node : IfSome x.node (λ n. AllByRecursion (λ r. WaitsToTell (λ session. x.lane_at session x.past) n r.at r.says) n.replies)
   pub apps : (app : ℕ) → is_dead app ≡ false → IfSome (x.end_at app).state.session (EndAnswersOf v x (x.end_at app))

@@ -1,6 +1,6 @@
 -- What each job knows, against what the plain machine knows of it.
-use Rattle.std.specs.Prelude.{◌≡◌, ◌<◌, ◌≤◌, ◌-◌, ◌==◌, ◌&&◌, ◌||◌, ⊤, ℕ, Bool, true, false, List, [], map, slice_get, get_or, Some, None, is_some, IfSome, IsSomeAnd}
-use Rattle.std.specs.List.{filter, list_any, AllByRecursion}
+use Rattle.std.specs.Prelude.{◌≡◌, ◌<◌, ◌≤◌, ◌-◌, ◌==◌, ◌&&◌, ◌||◌, ⊤, ℕ, Bool, true, false, List, [], ◌∷◌, map, nat_lt, slice_get, get_or, Some, None, is_some, IfSome, IsSomeAnd}
+use Rattle.std.specs.List.{filter, list_all, list_any, AllByRecursion}
 use Rattle.plain_orders.specs.declared.item.Item.{Item}
 use Rattle.plain_orders.specs.declared.refused.ReasonName.TheVariants.{NoWay}
 use Rattle.plain_orders.specs.Own.{Issued, own}
@@ -33,6 +33,11 @@ use Rattle.cluster_invariant.specs.Words.{is_number}
 abbrev pub is_updated_in : ℕ → ℕ → Updated → Bool
 is_updated_in d session u = u.server == d && u.session == session
 
+-- updates are noted by data server, of each once
+abbrev pub are_by_server : List Updated → Bool
+are_by_server [] = true
+are_by_server (u ∷ us) = list_all (λ o. nat_lt u.server o.server) us && are_by_server us
+
 -- it holds an unlock of this session back
 abbrev pub is_held_back_in : ℕ → ℕ → HeldBack → Bool
 is_held_back_in d session h = h.server == d && h.session == session
@@ -63,7 +68,7 @@ pub record ActedWhere (has_acted : Bool) (job : ℕ) (j : JobState) (d : ℕ) (i
   pub issued_there : list_any (is_issued_by job) issued ≡ true → has_acted ≡ true
 
 -- what the job knew of a data server after its last step, where it knew the session that the pair has: its own Sets and Kills behind the front,
--- and that nothing bars it
+-- and that nothing bars it, if it knew of no loss
 pub record KnewIs (k : PlainKnown) (view : Known) (job : ℕ) (issued : List Issued) (s : Session) : Type 0 where
   pub late : s.normal_due ≡ false → map op_in (filter (is_late s.w) view.late) ≡ own issued job s.w
   pub late_within : AllByRecursion (λ i. i.w ≤ s.issued) view.late
@@ -123,11 +128,16 @@ CommandIssued servers job j p command = ⊤
 
 -- an attempt that failed since the command's first step is news
 abbrev pub FailureIsNews : PlainKnown → AppEnd → ℕ → Type 0
-FailureIsNews k e before = before < e.failed → list_any (is_reason NoWay) k.news ≡ true
+FailureIsNews k e failed = failed < e.failed → list_any (is_reason NoWay) k.news ≡ true
+
+-- an end of a transaction was put to one of these data servers
+abbrev pub is_put_to : List ℕ → Ended → Bool
+is_put_to servers e = list_any (λ d. d == e.server) servers
 
 -- A command that waits. One that began outside of transactions is outside of them still.
 pub record CommandIs (p : Plain) (m : Machine) (app job : ℕ) (j : JobState) (command : Command) (g : Progress) : Type 0 where
   pub issued : CommandIssued p.server_at job j g command
+  pub ends : IfSome g.ends (AllByRecursion (λ e. is_put_to g.servers e ≡ true))
   pub level : g.level ≡ 0 → j.level ≡ 0
   pub news : AllByRecursion (λ d. FailureIsNews ((p.server_at d).known_at job) (end_state m app d) (get_or g.failed d 0))
       (servers_of command j g)
@@ -146,6 +156,7 @@ pub record JobIs (p : Plain) (m : Machine) (app job : ℕ) (j : JobState) (x : J
   pub positive : 0 < j.level → 0 < j.txn
   -- it has only to roll back where updates of its transaction were lost
   pub flag : is_rollback_only (app_state m app) j ≡ x.rollback_only
+  pub by_server : are_by_server j.updates ≡ true
   pub servers : (d : ℕ) → JobAt (p.server_at d) (end_state m app d) x job j (known_at (m.view_at job) d) d
   pub begun : BegunIs p m app job j (m.begun_at job)
 

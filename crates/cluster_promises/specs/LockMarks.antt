@@ -13,6 +13,7 @@ use Rattle.cluster_runs.specs.Accounted.{w_of}
 use Rattle.cluster_runs.specs.Locks.{ask_with}
 use Rattle.cluster_runs.specs.Sent.{Lane, ups_taken}
 use Rattle.cluster_invariant.specs.Asks.{asks_ticket, cancels_ticket}
+use Rattle.cluster_promises.specs.Items.{greatest_of}
 
 -- A lock of a job that was given up: whether before it was granted, and how many items were issued in its session before.
 pub record Mark : Type 0 where
@@ -85,15 +86,10 @@ abbrev pub words_in : List Up → (ℕ → Bool) → ℕ → List Up → List Ma
 words_in ups is_open before [] = []
 words_in ups is_open before (m ∷ ms) = word_of ups is_open before m ++ words_in ups is_open (max before (w_of m)) ms
 
--- the greatest number of an item among messages, where it was this before
-abbrev pub last_item : ℕ → List Up → ℕ
-last_item w [] = w
-last_item w (m ∷ ms) = last_item (max w (w_of m)) ms
-
 -- what the messages of a session free that weren't taken
 abbrev pub words_of : Lane → List Request → ℕ → List Mark
 words_of lane requests session =
-    words_in lane.up (is_pending lane requests session) (last_item lane.front.w (ups_taken lane)) (drop lane.up_taken lane.up)
+    words_in lane.up (is_pending lane requests session) (greatest_of lane.front.w (ups_taken lane)) (drop lane.up_taken lane.up)
 
 -- The Unlocks and Cancels on their way are what was given up, one by one: for the same lock of the same job, a request or a hold, and behind
 -- the items that were issued before.

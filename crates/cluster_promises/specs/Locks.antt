@@ -38,7 +38,7 @@ use Rattle.cluster_promises.specs.Forced.{AllForced, is_released}
 abbrev pub is_forced : ℕ → Lock → Hold → Bool
 is_forced session l h = binds h && (is_of session l.job h && is_hold_lock l.mode l.key h)
 
--- so is one that was answered and not given up
+-- the hold is in force, was answered and wasn't given up
 abbrev pub is_claimed : ℕ → Lock → Hold → Bool
 is_claimed session l h = h.in_force && is_kept session l.job l.mode l.key h
 
@@ -93,7 +93,7 @@ IsKnown l session taken (Ask ticket job mode key) =
     → find (is_ticket session ticket) (l.requests ++ l.granted) ≡ Some (request_of session ticket job mode key)
 IsKnown l session taken m = ⊤
 
--- a Grant that waits says the length at which it was granted
+-- a Grant that waits says the length at which it was granted, which is within the order
 abbrev pub GrantWaits : ℕ → ℕ → Says → Type 0
 GrantWaits n at (GrantOf session ticket number) = (number ≡ at) × (number ≤ n)
 GrantWaits n at says = ⊤
@@ -243,9 +243,14 @@ pub record EndLocks (v : Server) (node : Option DataState) (is_home : Bool) (lan
 abbrev pub LocksOf : Server → Site → End → Session → Type 0
 LocksOf v x e s = IfSome e.told (λ p. EndLocks v x.node (p.order == x.past) (x.lane_at s.number p.order) s)
 
+-- the session of a hold was met
+abbrev pub IsOfMet : Server → Hold → Type 0
+IsOfMet v h = is_some (v.session_at h.session) ≡ true
+
 -- the locks of one data server
 pub record SiteLocks (v : Server) (x : Site) (is_dead : ℕ → Bool) : Type 0 where
   pub forced : AllForced v
+  pub met : AllByRecursion (IsOfMet v) v.holds
   pub lanes : (session k : ℕ) → LaneLocks (stays_at v k) (x.lane_at session k)
   pub node : IfSome x.node (NodeLocks v (λ session. x.lane_at session x.past))
   pub apps : (app : ℕ) → is_dead app ≡ false → IfSome (x.end_at app).state.session (LocksOf v x (x.end_at app))
