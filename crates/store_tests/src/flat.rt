@@ -117,26 +117,29 @@ impl Flat {
 
     /// What stands at and below a node: 1 for a value and 10 for descendants.
     pub fn shape(&self, node: &KeyBytes) -> u8 {
-        let mut shape = 0;
+        let mut has_value = false;
         for (key, _value) in self.pairs.range((Bound::Included(node), Bound::Unbounded)) {
             if key == node {
-                shape = 1;
+                has_value = true;
             } else if key.as_slice().starts_with(node.as_slice()) {
-                return shape + 10;
+                return if has_value { 11 } else { 10 };
             } else {
-                return shape;
+                break;
             }
         }
-        shape
+        if has_value { 1 } else { 0 }
     }
 
     /// Whether a run has just the pairs of its span.
     pub fn has_run(&self, run: &Run) -> bool {
         let mut pairs = run.pairs.as_slice().iter();
-        for (key, value) in self.pairs.range((
-            Bound::Included(&run.span.lo),
-            Bound::Excluded(&run.span.hi),
-        )) {
+        for (key, value) in self
+            .pairs
+            .range((Bound::Included(&run.span.lo), Bound::Unbounded))
+        {
+            if *key >= run.span.hi {
+                break;
+            }
             match pairs.next() {
                 Some(pair) if pair.key == *key && pair.value == *value => {}
                 _ => return false,
