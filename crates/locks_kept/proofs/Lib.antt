@@ -1,0 +1,4 @@
+pub mod ForcedRows
+pub mod ForcedActs
+pub mod SaveActs
+pub mod ForcedMoves

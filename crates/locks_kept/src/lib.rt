@@ -1,0 +1,5 @@
+//! What moves keep of the locks: each hold in force is of a live session, or of one whose Close isn't synced. The contract
+//! of each function is a law, and takes no memory.
+#![tactic(auto)]
+
+pub mod laws;
