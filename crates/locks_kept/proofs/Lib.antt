@@ -2,3 +2,5 @@ pub mod ForcedRows
 pub mod ForcedActs
 pub mod SaveActs
 pub mod ForcedMoves
+pub mod RowLists
+pub mod RowMoves

@@ -1,8 +1,10 @@
--- Moves that keep what holds in force are of.
-use Rattle.std.specs.Prelude.{ℕ, List}
+-- Moves that keep what holds in force are of, and what the rows of a table of locks are.
+use Rattle.std.specs.Prelude.{◌≡◌, ◌<◌, ℕ, true, List, IfSome}
+use Rattle.std.specs.List.{AllByRecursion}
 use Rattle.plain_orders.specs.declared.act.Act.{Act}
 use Rattle.plain_orders.specs.declared.layout.Layout.{Layout}
 use Rattle.plain_runs.specs.Run.{IsRun, state_after}
+use Rattle.data_rules.specs.DataState.{DataState}
 use Rattle.cluster_runs.specs.declared.move_outs.MoveOuts.{MoveOuts}
 use Rattle.cluster_runs.specs.declared.moves.Move.{Move}
 use Rattle.cluster_runs.specs.CoresState.{CoresState}
@@ -12,6 +14,7 @@ use Rattle.cluster_runs.specs.Mirrors.{Mirrors}
 use Rattle.cluster_runs.specs.Moves.{Allowed}
 use Rattle.cluster_invariant.specs.Holds.{Holds}
 use Rattle.cluster_promises.specs.Forced.{AllForced}
+use Rattle.cluster_promises.specs.Locks.{LockMay, has_one_row}
 
 -- at each data server, each hold in force is of a live session, or of one whose Close isn't synced
 abbrev pub EachForced : Layout → Machine → Type 0
@@ -21,3 +24,21 @@ EachForced l m = (d : ℕ) → AllForced ((state_after l m.trail).server_at d)
 abbrev pub MovesKeepForced : Type 0
 MovesKeepForced = (l : Layout) (c : CoresState) (m : Machine) (move : Move) (outs : MoveOuts) (written : List Act) (new : Machine)
     → Holds l m → EachForced l m → IsRun l m.trail → Mirrors c m → Allowed c move → Goes m move outs written new → IsRun l new.trail → EachForced l new
+
+-- what is put upwards in any lane asks for names that may be locked, and claims one hold at least
+abbrev pub EachUpMay : Machine → Type 0
+EachUpMay m = (d session k : ℕ) → AllByRecursion LockMay ((m.site_at d).lane_at session k).up
+
+-- the table of a running node: each row counts one hold at least, and no two are of one lock of one holder
+pub record RowsAre (n : DataState) : Type 0 where
+  pub positive : AllByRecursion (λ h. 0 < h.count) n.locks.holds
+  pub one_each : has_one_row n.locks.holds ≡ true
+
+-- at each data server that runs
+abbrev pub EachRows : Machine → Type 0
+EachRows m = (d : ℕ) → IfSome (m.site_at d).node RowsAre
+
+-- Each move keeps that.
+abbrev pub MovesKeepRows : Type 0
+MovesKeepRows = (l : Layout) (c : CoresState) (m : Machine) (move : Move) (outs : MoveOuts) (written : List Act) (new : Machine)
+    → Holds l m → EachUpMay m → EachRows m → IsRun l m.trail → Mirrors c m → Allowed c move → Goes m move outs written new → EachRows new

@@ -1,7 +1,13 @@
-ghost use Rattle.locks_kept.specs.Laws.{MovesKeepForced};
+ghost use Rattle.locks_kept.specs.Laws.{MovesKeepForced, MovesKeepRows};
 
 /// Where the invariant holds and each hold in force is of a live session, or of one whose Close isn't synced, that is so again
 /// after each move that leaves the trail a run.
 pub fn holds_in_force_are_of_sessions()
     ensures { MovesKeepForced }
+{}
+
+/// Where the invariant holds and what is put upwards claims one hold at least, each move keeps what the rows of each data
+/// server's table of locks are: each counts one hold at least, and no two are of one lock of one holder.
+pub fn rows_of_locks_are_kept()
+    ensures { MovesKeepRows }
 {}
