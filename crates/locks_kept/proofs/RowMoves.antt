@@ -1,5 +1,5 @@
 -- What the rows of a table of locks are, after each move.
-use Rattle.std.proofs.Common.{◌≡◌, ◌≢◌, ◌<◌, ℕ, zero, suc, Bool, true, false, cond, List, [], ◌∷◌, ◌++◌, drop, filter, length, Option, Some, None, refl, sym, ◌∙◌, ap, subst, arith}
+use Rattle.std.proofs.Common.{◌≡◌, ◌<◌, ℕ, zero, suc, Bool, true, false, cond, List, [], ◌∷◌, ◌++◌, drop, filter, length, Option, Some, None, refl, sym, ◌∙◌, ap, subst, arith}
 use Rattle.std.specs.Prelude.{IfSome}
 use Rattle.std.specs.List.{AllByRecursion}
 use Rattle.plain_orders.specs.declared.act.Act.{Act}
@@ -32,10 +32,10 @@ use Rattle.cluster_runs.specs.Machine.{Machine, Site}
 use Rattle.cluster_runs.specs.Mirrors.{Mirrors}
 use Rattle.cluster_runs.specs.Moves.{Allowed}
 use Rattle.cluster_runs.specs.Sent.{Lane, Place}
-use Rattle.cluster_invariant.specs.Asks.{LaneAsks, NodeAsks}
+use Rattle.cluster_invariant.specs.Asks.{NodeAsks}
 use Rattle.cluster_invariant.specs.Holds.{Holds, SiteHolds}
 use Rattle.cluster_invariant.proofs.OrderKept.{step_site}
-use Rattle.cluster_invariant.proofs.PieceKinds.{LockCall, Asks, Unlocks, Withdraws, GivesBack, ForgetsTicket, Claims, Cancels, Releases, calls}
+use Rattle.cluster_invariant.proofs.PieceKinds.{LockCall, Asks, Unlocks, Withdraws, GivesBack, ForgetsTicket, Claims, Cancels, Releases}
 use Rattle.cluster_invariant.proofs.PieceMay.{Asked, CallsMay, Coming, begins}
 use Rattle.cluster_invariant.proofs.Pieces.{kept_by_pieces}
 use Rattle.cluster_invariant.proofs.PiecesOfSteps.{step_pieces, synced_state}
