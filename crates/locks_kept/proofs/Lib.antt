@@ -4,3 +4,5 @@ pub mod SaveActs
 pub mod ForcedMoves
 pub mod RowLists
 pub mod RowMoves
+pub mod GrantPieces
+pub mod GrantMoves

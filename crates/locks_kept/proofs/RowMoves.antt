@@ -151,7 +151,7 @@ module _ (l : Layout) (c : CoresState) (m : Machine) (server now : ℕ) (input :
 -- other moves
 
 -- the ends' steps leave the nodes
-told_node : (o : Option Place) (f : Lane → Lane) (x : Site) → (at_told o f x).node ≡ x.node
+pub told_node : (o : Option Place) (f : Lane → Lane) (x : Site) → (at_told o f x).node ≡ x.node
 told_node None f x = refl
 told_node (Some p) f x = refl
 
@@ -170,10 +170,11 @@ started_rows server times entries now =
     }
 
 -- where each node is as it was
-same_nodes : (m new : Machine) → ((d : ℕ) → (new.site_at d).node ≡ (m.site_at d).node) → EachRows m → EachRows new
-same_nodes m new same rows d = subst (λ (o : Option DataState). IfSome o RowsAre) (sym (same d)) (rows d)
+pub same_nodes : (P : DataState → Type 0) (m new : Machine) → ((d : ℕ) → (new.site_at d).node ≡ (m.site_at d).node)
+    → ((d : ℕ) → IfSome (m.site_at d).node P) → (d : ℕ) → IfSome (new.site_at d).node P
+same_nodes P m new same all d = subst (λ (o : Option DataState). IfSome o P) (sym (same d)) (all d)
 
-looked_nodes : (m : Machine) (app job line : ℕ) (command : Command) (outs : MoveOuts) (written : List Act) (new : Machine)
+pub looked_nodes : (m : Machine) (app job line : ℕ) (command : Command) (outs : MoveOuts) (written : List Act) (new : Machine)
     → LookedGoes m app job line command outs written new → (d : ℕ) → (new.site_at d).node ≡ (m.site_at d).node
 looked_nodes m app job line (commands.Set at value) outs written new goes d = absurd goes
 looked_nodes m app job line (commands.Kill at) outs written new goes d = absurd goes
@@ -191,11 +192,11 @@ looked_nodes m app job line (commands.Sync server) outs written new goes d = abs
 -- Each move.
 pub moves_keep_rows : MovesKeepRows
 moves_keep_rows l c m (moves.Step job now line command) outs written new h ups rows run shows allowed goes =
-    same_nodes m new (λ d. ap (λ (n : Machine). (n.site_at d).node) goes.after ∙ told_node _ _ _) rows
+    same_nodes RowsAre m new (λ d. ap (λ (n : Machine). (n.site_at d).node) goes.after ∙ told_node _ _ _) rows
 moves_keep_rows l c m (moves.Looked job line command) outs written new h ups rows run shows allowed goes =
-    same_nodes m new (looked_nodes m _ job line command outs written new goes) rows
+    same_nodes RowsAre m new (looked_nodes m _ job line command outs written new goes) rows
 moves_keep_rows l c m (moves.App app now input) outs written new h ups rows run shows allowed goes =
-    same_nodes m new (λ d. ap (λ (n : Machine). (n.site_at d).node) goes.after ∙ told_node _ _ _) rows
+    same_nodes RowsAre m new (λ d. ap (λ (n : Machine). (n.site_at d).node) goes.after ∙ told_node _ _ _) rows
 moves_keep_rows l c m (moves.Server server now input) outs written new h ups rows run shows allowed goes =
     subst EachRows (sym goes.after)
     (at_places (λ d x. IfSome x.node RowsAre) m.site_at server (server_site goes.node now input goes.data_outs goes.state (m.site_at server))
@@ -209,6 +210,6 @@ moves_keep_rows l c m (moves.Halt server) outs written new h ups rows run shows 
     subst EachRows (sym goes.after)
     (at_places (λ d x. IfSome x.node RowsAre) m.site_at server _ tt (λ d other. rows d))
 moves_keep_rows l c m (moves.Die app) outs written new h ups rows run shows allowed goes =
-    same_nodes m new (λ d. ap (λ (n : Machine). (n.site_at d).node) goes.after) rows
+    same_nodes RowsAre m new (λ d. ap (λ (n : Machine). (n.site_at d).node) goes.after) rows
 moves_keep_rows l c m (moves.Tick now) outs written new h ups rows run shows allowed goes =
-    same_nodes m new (λ d. ap (λ (n : Machine). (n.site_at d).node) goes.after) rows
+    same_nodes RowsAre m new (λ d. ap (λ (n : Machine). (n.site_at d).node) goes.after) rows

@@ -1,5 +1,5 @@
--- Moves that keep what holds in force are of, and what the rows of a table of locks are.
-use Rattle.std.specs.Prelude.{◌≡◌, ◌<◌, ℕ, true, List, IfSome}
+-- Moves that keep what holds in force are of, what the rows of a table of locks are, and what the Grants say that wait.
+use Rattle.std.specs.Prelude.{◌≡◌, ◌<◌, ℕ, true, List, length, IfSome}
 use Rattle.std.specs.List.{AllByRecursion}
 use Rattle.plain_orders.specs.declared.act.Act.{Act}
 use Rattle.plain_orders.specs.declared.layout.Layout.{Layout}
@@ -14,7 +14,7 @@ use Rattle.cluster_runs.specs.Mirrors.{Mirrors}
 use Rattle.cluster_runs.specs.Moves.{Allowed}
 use Rattle.cluster_invariant.specs.Holds.{Holds}
 use Rattle.cluster_promises.specs.Forced.{AllForced}
-use Rattle.cluster_promises.specs.Locks.{LockMay, has_one_row}
+use Rattle.cluster_promises.specs.Locks.{GrantWaits, LockMay, has_one_row}
 
 -- at each data server, each hold in force is of a live session, or of one whose Close isn't synced
 abbrev pub EachForced : Layout → Machine → Type 0
@@ -42,3 +42,16 @@ EachRows m = (d : ℕ) → IfSome (m.site_at d).node RowsAre
 abbrev pub MovesKeepRows : Type 0
 MovesKeepRows = (l : Layout) (c : CoresState) (m : Machine) (move : Move) (outs : MoveOuts) (written : List Act) (new : Machine)
     → Holds l m → EachUpMay m → EachRows m → IsRun l m.trail → Mirrors c m → Allowed c move → Goes m move outs written new → EachRows new
+
+-- each Grant that waits at a running node says the length at which it was granted
+abbrev pub GrantsWait : DataState → Type 0
+GrantsWait n = AllByRecursion (λ r. GrantWaits (length n.order) r.at r.says) n.replies
+
+-- at each data server that runs
+abbrev pub EachGrantsWait : Machine → Type 0
+EachGrantsWait m = (d : ℕ) → IfSome (m.site_at d).node GrantsWait
+
+-- Each move keeps that.
+abbrev pub MovesKeepGrants : Type 0
+MovesKeepGrants = (l : Layout) (c : CoresState) (m : Machine) (move : Move) (outs : MoveOuts) (written : List Act) (new : Machine)
+    → Holds l m → EachGrantsWait m → IsRun l m.trail → Mirrors c m → Allowed c move → Goes m move outs written new → EachGrantsWait new

@@ -1,4 +1,4 @@
-ghost use Rattle.locks_kept.specs.Laws.{MovesKeepForced, MovesKeepRows};
+ghost use Rattle.locks_kept.specs.Laws.{MovesKeepForced, MovesKeepGrants, MovesKeepRows};
 
 /// Where the invariant holds and each hold in force is of a live session, or of one whose Close isn't synced, that is so again
 /// after each move that leaves the trail a run.
@@ -10,4 +10,10 @@ pub fn holds_in_force_are_of_sessions()
 /// server's table of locks are: each counts one hold at least, and no two are of one lock of one holder.
 pub fn rows_of_locks_are_kept()
     ensures { MovesKeepRows }
+{}
+
+/// Where the invariant holds, each move keeps what the Grants say that wait at each data server: the length of the order at
+/// which they were granted.
+pub fn grants_that_wait_are_kept()
+    ensures { MovesKeepGrants }
 {}
