@@ -6,3 +6,4 @@ pub mod RowLists
 pub mod RowMoves
 pub mod GrantPieces
 pub mod GrantMoves
+pub mod UpsLeft

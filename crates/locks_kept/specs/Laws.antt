@@ -1,5 +1,5 @@
 -- Moves that keep what holds in force are of, what the rows of a table of locks are, and what the Grants say that wait.
-use Rattle.std.specs.Prelude.{◌≡◌, ◌<◌, ℕ, true, List, length, IfSome}
+use Rattle.std.specs.Prelude.{◌≡◌, ◌<◌, ⊤, ℕ, true, List, length, IfSome}
 use Rattle.std.specs.List.{AllByRecursion}
 use Rattle.plain_orders.specs.declared.act.Act.{Act}
 use Rattle.plain_orders.specs.declared.layout.Layout.{Layout}
@@ -7,6 +7,7 @@ use Rattle.plain_runs.specs.Run.{IsRun, state_after}
 use Rattle.data_rules.specs.DataState.{DataState}
 use Rattle.cluster_runs.specs.declared.move_outs.MoveOuts.{MoveOuts}
 use Rattle.cluster_runs.specs.declared.moves.Move.{Move}
+use Rattle.cluster_runs.specs.declared.moves.Move.TheVariants.{App, Begin, Die, Halt, Looked, Server, Step, Tick}
 use Rattle.cluster_runs.specs.CoresState.{CoresState}
 use Rattle.cluster_runs.specs.Goes.{Goes}
 use Rattle.cluster_runs.specs.Machine.{Machine}
@@ -55,3 +56,19 @@ EachGrantsWait m = (d : ℕ) → IfSome (m.site_at d).node GrantsWait
 abbrev pub MovesKeepGrants : Type 0
 MovesKeepGrants = (l : Layout) (c : CoresState) (m : Machine) (move : Move) (outs : MoveOuts) (written : List Act) (new : Machine)
     → Holds l m → EachGrantsWait m → IsRun l m.trail → Mirrors c m → Allowed c move → Goes m move outs written new → EachGrantsWait new
+
+-- a move is no input of an application server and no step of a job's command
+abbrev pub IsBeside : Move → Type 0
+IsBeside (Step job now line command) = ⊥
+IsBeside (Looked job line command) = ⊤
+IsBeside (App app now input) = ⊥
+IsBeside (Server server now input) = ⊤
+IsBeside (Begin server now entries) = ⊤
+IsBeside (Halt server) = ⊤
+IsBeside (Die app) = ⊤
+IsBeside (Tick now) = ⊤
+
+-- Each such move leaves what is put upwards in each lane.
+abbrev pub MovesBesideLeaveUps : Type 0
+MovesBesideLeaveUps = (m : Machine) (move : Move) (outs : MoveOuts) (written : List Act) (new : Machine) → IsBeside move → Goes m move outs written new
+    → (d session k : ℕ) → ((new.site_at d).lane_at session k).up ≡ ((m.site_at d).lane_at session k).up

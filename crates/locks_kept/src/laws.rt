@@ -1,4 +1,4 @@
-ghost use Rattle.locks_kept.specs.Laws.{MovesKeepForced, MovesKeepGrants, MovesKeepRows};
+ghost use Rattle.locks_kept.specs.Laws.{MovesBesideLeaveUps, MovesKeepForced, MovesKeepGrants, MovesKeepRows};
 
 /// Where the invariant holds and each hold in force is of a live session, or of one whose Close isn't synced, that is so again
 /// after each move that leaves the trail a run.
@@ -16,4 +16,10 @@ pub fn rows_of_locks_are_kept()
 /// which they were granted.
 pub fn grants_that_wait_are_kept()
     ensures { MovesKeepGrants }
+{}
+
+/// Only inputs of application servers and steps of jobs' commands change what is put upwards in a lane: so each other move
+/// keeps what holds of its Asks, claims and Cancels.
+pub fn ups_are_left()
+    ensures { MovesBesideLeaveUps }
 {}
