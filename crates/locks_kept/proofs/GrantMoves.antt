@@ -1,5 +1,5 @@
 -- Grants that wait as replies say the length at which they were granted, after each move.
-use Rattle.std.proofs.Common.{◌≡◌, ◌≢◌, ℕ, List, [], ◌∷◌, length, Option, refl, sym, ◌∙◌, ap, subst}
+use Rattle.std.proofs.Common.{◌≡◌, ℕ, List, [], ◌∷◌, length, Option, refl, sym, ◌∙◌, ap, subst}
 use Rattle.std.specs.Prelude.{IfSome}
 use Rattle.plain_orders.specs.declared.act.Act.{Act}
 use Rattle.plain_orders.specs.declared.entry.Entry.{Entry}
@@ -10,7 +10,6 @@ use Rattle.data_rules.specs.DataState.{DataState}
 use Rattle.data_rules.specs.declared.data_in.DataIn.{DataIn}
 use Rattle.data_rules.specs.declared.data_in.DataIn.TheVariants as data_in
 use Rattle.data_rules.specs.declared.rows.LiveEnd.{LiveEnd}
-use Rattle.data_rules.specs.declared.rows.Reply.{Reply}
 use Rattle.data_rules.specs.Opening.{live_ends}
 use Rattle.data_rules.specs.Puts.{Sofar, begun}
 use Rattle.data_rules.specs.Step.{made, recovering, started, with_epoch}

@@ -1,5 +1,5 @@
 -- Grants that wait as replies say the length at which they were granted, over each small change of a data server's step.
-use Rattle.std.proofs.Common.{◌≡◌, ◌≤◌, ◌+◌, ℕ, Bool, true, false, cond, List, [], ◌∷◌, ◌++◌, filter, length, length-append, Option, Some, None, is_some, refl, sym, ◌∙◌, ap, subst, arith}
+use Rattle.std.proofs.Common.{◌≡◌, ◌≤◌, ◌+◌, ℕ, Bool, true, false, List, [], ◌∷◌, ◌++◌, filter, length, length-append, Option, Some, None, is_some, refl, sym, ◌∙◌, ap, subst, arith}
 use Rattle.std.specs.List.{AllByRecursion}
 use Rattle.plain_orders.specs.declared.act.Act.TheVariants as act
 use Rattle.plain_orders.specs.declared.causes.ShutCause.{ShutCause}
@@ -18,17 +18,17 @@ use Rattle.data_rules.specs.declared.rows.Reply.{Reply}
 use Rattle.data_rules.specs.declared.rows.Says.{Says}
 use Rattle.data_rules.specs.declared.rows.Says.TheVariants.{AnswerOf, EpochWelcome, GrantOf, NewWelcome, ResetOf}
 use Rattle.data_rules.specs.Callers.{old_welcome, sends_again, waiting_conn}
-use Rattle.data_rules.specs.Closing.{silenced, unawaited}
+use Rattle.data_rules.specs.Closing.{silenced}
 use Rattle.data_rules.specs.Conns.{breaks_if, drops_conn, end_breaks, is_normal, link_of, with_event, without_conn}
 use Rattle.data_rules.specs.Entering.{appends, enters}
 use Rattle.data_rules.specs.Granting.{frees, grants, grants_one, locks_become, with_locks}
-use Rattle.data_rules.specs.Opening.{bound, breaks_unless, live_ends, opens}
+use Rattle.data_rules.specs.Opening.{breaks_unless, live_ends, opens}
 use Rattle.data_rules.specs.Puts.{Sofar, becomes, conn_of, head_of, is_reply_elsewhere, puts, says_on, says_to, tells, window_of, writes}
 use Rattle.cluster_invariant.specs.Words.{IsFront}
 use Rattle.cluster_invariant.proofs.AllLists.{all_filtered, all_follow, all_joined}
 use Rattle.cluster_invariant.proofs.Deeds.{Does, deeds_grow, order_by}
 use Rattle.cluster_invariant.proofs.PieceDeeds.{does_piece}
-use Rattle.cluster_invariant.proofs.PieceKinds.{Ending, There, Here, LockCall, Asks, Unlocks, Withdraws, GivesBack, ForgetsTicket, Claims, Cancels, Releases, Piece, Accepts, Forgets, Breaks, Dials, Waits, Opens, OpensNext, Resumes, GoesOn, ComesAgain, AwaitsReset, Closes, Acknowledges, Takes, TakesDone, Enters, Fetches, PutsNormal, PutsAck, Replies, Leaves, Bares, Locks as CallsLocks, RoundEnds, Ticks, calls, cuts_if, end_back, ends_back, event_of, makes, next_caller, parts_from, shuts, with_close, with_replies}
+use Rattle.cluster_invariant.proofs.PieceKinds.{Ending, There, Here, LockCall, Asks, Unlocks, Withdraws, GivesBack, ForgetsTicket, Claims, Cancels, Releases, Piece, Accepts, Forgets, Breaks, Dials, Waits, Opens, OpensNext, Resumes, GoesOn, ComesAgain, AwaitsReset, Closes, Acknowledges, Takes, TakesDone, Enters, Fetches, PutsNormal, PutsAck, Replies, Leaves, Bares, Locks as CallsLocks, RoundEnds, Ticks, calls, cuts_if, end_back, ends_back, makes, next_caller, parts_from, shuts, with_close, with_replies}
 use Rattle.cluster_invariant.proofs.PieceMay.{Coming, RepliesMay}
 use Rattle.cluster_invariant.proofs.Pieces.{MayMake}
 use Rattle.cluster_invariant.proofs.PutLaws.{OnlyWindows, appends_state, only_leaves, only_puts}
