@@ -7,3 +7,4 @@ pub mod RowMoves
 pub mod GrantPieces
 pub mod GrantMoves
 pub mod UpsLeft
+pub mod DownsLeft

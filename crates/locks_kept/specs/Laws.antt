@@ -72,3 +72,19 @@ IsBeside (Tick now) = ⊤
 abbrev pub MovesBesideLeaveUps : Type 0
 MovesBesideLeaveUps = (m : Machine) (move : Move) (outs : MoveOuts) (written : List Act) (new : Machine) → IsBeside move → Goes m move outs written new
     → (d session k : ℕ) → ((new.site_at d).lane_at session k).up ≡ ((m.site_at d).lane_at session k).up
+
+-- a move is no step of a data server
+abbrev pub IsNoServer : Move → Type 0
+IsNoServer (Step job now line command) = ⊤
+IsNoServer (Looked job line command) = ⊤
+IsNoServer (App app now input) = ⊤
+IsNoServer (Server server now input) = ⊥
+IsNoServer (Begin server now entries) = ⊤
+IsNoServer (Halt server) = ⊤
+IsNoServer (Die app) = ⊤
+IsNoServer (Tick now) = ⊤
+
+-- Each such move leaves what is put downwards in each lane.
+abbrev pub OtherMovesLeaveDowns : Type 0
+OtherMovesLeaveDowns = (m : Machine) (move : Move) (outs : MoveOuts) (written : List Act) (new : Machine) → IsNoServer move → Goes m move outs written new
+    → (d session k : ℕ) → ((new.site_at d).lane_at session k).down ≡ ((m.site_at d).lane_at session k).down

@@ -1,4 +1,4 @@
-ghost use Rattle.locks_kept.specs.Laws.{MovesBesideLeaveUps, MovesKeepForced, MovesKeepGrants, MovesKeepRows};
+ghost use Rattle.locks_kept.specs.Laws.{MovesBesideLeaveUps, MovesKeepForced, MovesKeepGrants, MovesKeepRows, OtherMovesLeaveDowns};
 
 /// Where the invariant holds and each hold in force is of a live session, or of one whose Close isn't synced, that is so again
 /// after each move that leaves the trail a run.
@@ -22,4 +22,9 @@ pub fn grants_that_wait_are_kept()
 /// keeps what holds of its Asks, claims and Cancels.
 pub fn ups_are_left()
     ensures { MovesBesideLeaveUps }
+{}
+
+/// Only steps of data servers change what is put downwards in a lane.
+pub fn downs_are_left()
+    ensures { OtherMovesLeaveDowns }
 {}
