@@ -41,7 +41,8 @@ told_downs (Some p) f x same s k = go (s == p.session && k == p.order)
     go true = same (x.lane_at s k)
     go false = refl
 
-site_downs : (app server : ℕ) (outs : AppOuts) (old new : AppEnd) (m : Option Down) (e : End) (x : Site) → SameDowns x (app_site app server outs old new m e x)
+site_downs : (app server : ℕ) (outs : AppOuts) (old new : AppEnd) (m : Option Down) (e : End) (x : Site)
+    → SameDowns x (app_site app server outs old new m e x)
 site_downs app server outs old new m e x =
     told_downs e.told (with_app_step (is_told_new old.session new.session) m old.dial (sent_before old.session) new.session (ups_to server outs.frames))
     (record x { end_at = put x.end_at app e })

@@ -215,7 +215,8 @@ module _ (l : Layout) (c : CoresState) (m : Machine) (server now : ℕ) (input :
       all : written ≡ Synced server upto ∷ map (act_of old.server) deeds
       all =
           acts ∙ ap (raised v.synced) same
-          ∙ ap (λ (b : Bool). cond b (Synced old.server upto ∷ raised v.synced (map (act_of old.server) deeds)) (raised v.synced (map (act_of old.server) deeds))) (lt-ltb v.synced upto higher)
+          ∙ ap (λ (b : Bool). cond b (Synced old.server upto ∷ raised v.synced (map (act_of old.server) deeds))
+          (raised v.synced (map (act_of old.server) deeds))) (lt-ltb v.synced upto higher)
           ∙ ap (λ (xs : List Act). Synced old.server upto ∷ xs) (all_raised v.synced old.server deeds)
           ∙ ap (λ (d : ℕ). Synced d upto ∷ map (act_of old.server) deeds) its
 
@@ -257,11 +258,13 @@ module _ (l : Layout) (c : CoresState) (m : Machine) (server now : ℕ) (input :
           forced_on l m written new run forced more goes_run
           (subst (AllByRecursion (λ a. is_save a ≡ false))
           (sym (acts ∙ ap (raised v.synced) same
-          ∙ ap (λ (b : Bool). cond b (Synced old.server upto ∷ raised v.synced (map (act_of old.server) deeds)) (raised v.synced (map (act_of old.server) deeds))) (le-ltb v.synced upto low)
+          ∙ ap (λ (b : Bool). cond b (Synced old.server upto ∷ raised v.synced (map (act_of old.server) deeds))
+          (raised v.synced (map (act_of old.server) deeds))) (le-ltb v.synced upto low)
           ∙ all_raised v.synced old.server deeds))
           (deeds_no_save old.server deeds))
 
-      higher : (b : Bool) → nat_lt v.synced upto ≡ b → (deeds : List Deed) → goes.data_outs.acts ≡ Synced old.server upto ∷ map (act_of old.server) deeds → EachForced l new
+      higher : (b : Bool) → nat_lt v.synced upto ≡ b → (deeds : List Deed) → goes.data_outs.acts ≡ Synced old.server upto ∷ map (act_of old.server) deeds
+          → EachForced l new
       higher true is deeds same = with_it upto deeds (ltb-true v.synced upto is) low same released
       higher false is deeds same = quiet deeds (ltb-false v.synced upto is) same
 
@@ -284,7 +287,8 @@ job_forced l m app job now line command outs written new forced run goes goes_ru
     by : Wrote (app_begun (app_state m app)) (app_made goes.state goes.app_outs) → EachForced l new
     by w =
         forced_on l m written new run forced (ap (λ (n : Machine). n.trail) goes.after) goes_run
-        (subst (AllByRecursion (λ a. is_save a ≡ false)) (sym (goes.acts ∙ w.acts)) (all_follow IsOfJob (λ a. is_save a ≡ false) job_no_save w.written w.of_job))
+        (subst (AllByRecursion (λ a. is_save a ≡ false)) (sym (goes.acts ∙ w.acts))
+        (all_follow IsOfJob (λ a. is_save a ≡ false) job_no_save w.written w.of_job))
 
 looked_forced : (l : Layout) (m : Machine) (app job line : ℕ) (command : Command) (outs : MoveOuts) (written : List Act) (new : Machine)
     → EachForced l m → IsRun l m.trail → LookedGoes m app job line command outs written new → IsRun l new.trail → EachForced l new
@@ -315,7 +319,8 @@ moves_keep_forced l c m (moves.App app now input) outs written new h forced run 
     by : Leaves (app_begun (app_state m app)) (app_made goes.state goes.app_outs) → EachForced l new
     by w =
         forced_on l m written new run forced (ap (λ (n : Machine). n.trail) goes.after) goes_run
-        (subst (AllByRecursion (λ a. is_save a ≡ false)) (sym (goes.acts ∙ w.acts)) (all_follow (λ a. leaves_orders a ≡ true) (λ a. is_save a ≡ false) leaves_no_save w.more w.leaves))
+        (subst (AllByRecursion (λ a. is_save a ≡ false)) (sym (goes.acts ∙ w.acts))
+        (all_follow (λ a. leaves_orders a ≡ true) (λ a. is_save a ≡ false) leaves_no_save w.more w.leaves))
 moves_keep_forced l c m (moves.Server server now input) outs written new h forced run shows allowed goes goes_run =
     server_forced l c m server now input outs written new h forced run shows allowed goes goes_run
 moves_keep_forced l c m (moves.Begin server now entries) outs written new h forced run shows allowed goes goes_run =

@@ -140,9 +140,12 @@ module _ (leaving : ℕ → Bool) where
   enters l clock s (entry.Epoch number) may = absurd may
   enters l clock s (entry.Closed session) may = absurd may
   enters l clock s (entry.Opened session app) may = longer s (entered s (entry.Opened session app)) (entry.Opened session app) refl refl refl
-  enters l clock s (entry.Update session w job txn op) may = longer s (entered s (entry.Update session w job txn op)) (entry.Update session w job txn op) refl refl refl
-  enters l clock s (entry.Commit session w job txn) may = longer s (entered s (entry.Commit session w job txn)) (entry.Commit session w job txn) refl refl refl
-  enters l clock s (entry.Rollback session w job txn) may = longer s (entered s (entry.Rollback session w job txn)) (entry.Rollback session w job txn) refl refl refl
+  enters l clock s (entry.Update session w job txn op) may = longer s (entered s (entry.Update session w job txn op))
+      (entry.Update session w job txn op) refl refl refl
+  enters l clock s (entry.Commit session w job txn) may = longer s (entered s (entry.Commit session w job txn))
+      (entry.Commit session w job txn) refl refl refl
+  enters l clock s (entry.Rollback session w job txn) may = longer s (entered s (entry.Rollback session w job txn))
+      (entry.Rollback session w job txn) refl refl refl
 
   -- nothing is in force before the first order
   opens : (clock round : ℕ) (s : Server) (entries : List Entry) → OpenedMay s entries → Steps s (opened_with clock round s entries)
@@ -162,7 +165,8 @@ module _ (leaving : ℕ → Bool) where
         where
           go : (live s.order h.session ≡ true) ⊎ ((list_any (closes h.session) (drop s.synced s.order) ≡ true) ⊎ (leaving h.session ≡ true))
               → (live (opened_with clock round s entries).order h.session ≡ true)
-              ⊎ ((list_any (closes h.session) (drop (opened_with clock round s entries).synced (opened_with clock round s entries).order) ≡ true) ⊎ (leaving h.session ≡ true))
+              ⊎ ((list_any (closes h.session) (drop (opened_with clock round s entries).synced (opened_with clock round s entries).order) ≡ true) ⊎
+              (leaving h.session ≡ true))
           go (inl has) = absurd (false≢true (ap (λ (es : List Entry). live es h.session) (sym none) ∙ has))
           go (inr (inl has)) = absurd (false≢true (ap (list_any (closes h.session)) (sym (dropped s.synced s.order none)) ∙ has))
           go (inr (inr has)) = inr (inr has)
@@ -172,7 +176,8 @@ module _ (leaving : ℕ → Bool) where
       each_map (ForcedBut leaving s) (ForcedBut leaving (crashed clock round s kept)) (hold_after_crash (take kept s.order) kept) one s.holds k
     where
       one : (h : Hold) → ForcedBut leaving s h → ForcedBut leaving (crashed clock round s kept) (hold_after_crash (take kept s.order) kept h)
-      one h forced is = inl (live-push (take kept s.order) (entry.Epoch (last_epoch (take kept s.order) + 1)) h.session ∙ go (live (take kept s.order) h.session) h.in_force _ is)
+      one h forced is = inl (live-push (take kept s.order) (entry.Epoch (last_epoch (take kept s.order) + 1)) h.session ∙ go
+          (live (take kept s.order) h.session) h.in_force _ is)
         where
           go : (b f g : Bool) → ((if b then f else false) && g) ≡ true → b ≡ true
           go true f g is = refl
@@ -205,7 +210,8 @@ module _ (leaving : ℕ → Bool) where
       each_map (ForcedBut leaving s) (ForcedBut leaving (frees s session job mode key)) (freed_hold (first_given s session job mode key) session job mode key)
       (λ h forced is. forced (was_there h.in_force h.gone _ is)) s.holds k
 
-  grants_of : (s : Server) (session job : ℕ) (mode : Mode) (key : List ℕ) (at : ℕ) → GrantMay s session job mode key at → Steps s (grants s session job mode key at)
+  grants_of : (s : Server) (session job : ℕ) (mode : Mode) (key : List ℕ) (at : ℕ) → GrantMay s session job mode key at
+      → Steps s (grants s session job mode key at)
   grants_of s session job mode key at may o k =
       each_push (ForcedBut leaving s) s.holds (new_hold session job mode key at (first_quit (is_quit session job mode key) s.quits)) k (λ is. inl may.is_live)
 
@@ -215,11 +221,13 @@ module _ (leaving : ℕ → Bool) where
 
   gives_of : (s : Server) (app job : ℕ) (mode : Mode) (key : List ℕ) → Steps s (gives_up s app job mode key)
   gives_of s app job mode key o k =
-      each_last (ForcedBut leaving s) (is_kept (pair_session s app) job mode key) (given_up (given_now s (pair_session s app))) (λ h is forced. forced) s.holds k
+      each_last (ForcedBut leaving s) (is_kept (pair_session s app) job mode key) (given_up (given_now s (pair_session s app)))
+          (λ h is forced. forced) s.holds k
 
   quits_of : (s : Server) (app job : ℕ) (mode : Mode) (key : List ℕ) → Steps s (quits s app job mode key)
   quits_of s app job mode key o k =
-      each_first (ForcedBut leaving s) (is_asked (pair_session s app) job mode key) (given_up (given_now s (pair_session s app))) (λ h is forced. forced) s.holds k
+      each_first (ForcedBut leaving s) (is_asked (pair_session s app) job mode key) (given_up (given_now s (pair_session s app)))
+          (λ h is forced. forced) s.holds k
 
   -- all acts
 
@@ -245,7 +253,8 @@ module _ (leaving : ℕ → Bool) where
   row_forced l p (Opened d entries) may other e = at_put Steps p.server_at d _ same (opens p.clock l.times.round (p.server_at d) entries may) e
   row_forced l p (Enter d x) may other e = at_put Steps p.server_at d _ same (enters l p.clock (p.server_at d) x may) e
   row_forced l p (Synced d n) may other e = absurd (false≢true (sym other))
-  row_forced l p (Shut d session cause) may other e = at_put Steps p.server_at d _ same (longer (p.server_at d) (shut (p.server_at d) session) (entry.Closed session) refl refl refl) e
+  row_forced l p (Shut d session cause) may other e = at_put Steps p.server_at d _ same (longer (p.server_at d) (shut (p.server_at d) session)
+      (entry.Closed session) refl refl refl) e
   row_forced l p (Release d session) may other e = at_put Steps p.server_at d _ same (releases_of (p.server_at d) session) e
   row_forced l p (Met app d session) may other e = at_put Steps p.server_at d _ same (same (p.server_at d)) e
   row_forced l p (Told app d session epoch kept) may other e = at_put Steps p.server_at d _ same (same (p.server_at d)) e

@@ -70,7 +70,8 @@ moves_keep_grants l c m (moves.Server server now input) outs written new h waits
     subst EachGrantsWait (sym goes.after)
     (at_places (λ d x. IfSome x.node GrantsWait) m.site_at server (server_site goes.node now input goes.data_outs goes.state (m.site_at server))
     (subst (λ (o : Option DataState). IfSome o GrantsWait) (sym (step_site goes.node now input goes.data_outs goes.state (m.site_at server)).node)
-    (step_waits l c m server now input outs written new h run shows allowed goes (of_some GrantsWait (m.site_at server).node goes.node goes.runs (waits server))))
+    (step_waits l c m server now input outs written new h run shows allowed goes
+    (of_some GrantsWait (m.site_at server).node goes.node goes.runs (waits server))))
     (λ d other. waits d))
 moves_keep_grants l c m (moves.Begin server now entries) outs written new h waits run shows allowed goes =
     subst EachGrantsWait (sym goes.after)

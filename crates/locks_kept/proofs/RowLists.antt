@@ -90,10 +90,12 @@ none_raised h who name mode more at (x ∷ hs) other none =
     go true first rest up = none_both (is_lane h.who h.name h.mode x) (list_any (is_lane h.who h.name h.mode) hs) first rest
     go false first rest up = none_both (is_lane h.who h.name h.mode x) (list_any (is_lane h.who h.name h.mode) (raised who name mode more at hs)) first up
 
-one_raised : (who : Who) (name : List ℕ) (mode : Mode) (more at : ℕ) (hs : List Row) → has_one_row hs ≡ true → has_one_row (raised who name mode more at hs) ≡ true
+one_raised : (who : Who) (name : List ℕ) (mode : Mode) (more at : ℕ) (hs : List Row) → has_one_row hs ≡ true
+    → has_one_row (raised who name mode more at hs) ≡ true
 one_raised who name mode more at [] one = refl
 one_raised who name mode more at (h ∷ hs) one =
-    let parts : (list_any (is_lane h.who h.name h.mode) hs ≡ false) × (has_one_row hs ≡ true) = row_parts (list_any (is_lane h.who h.name h.mode) hs) (has_one_row hs) one in
+    let parts : (list_any (is_lane h.who h.name h.mode) hs ≡ false) × (has_one_row hs ≡ true) = row_parts (list_any (is_lane h.who h.name h.mode) hs)
+        (has_one_row hs) one in
     go (is_lane who name mode h) refl parts.0 (one_raised who name mode more at hs parts.1)
   where
     go : (b : Bool) → is_lane who name mode h ≡ b → list_any (is_lane h.who h.name h.mode) hs ≡ false → has_one_row (raised who name mode more at hs) ≡ true
@@ -135,7 +137,8 @@ none_lowered p same who name mode (h ∷ hs) none =
 one_lowered : (who : Who) (name : List ℕ) (mode : Mode) (hs : List Row) → has_one_row hs ≡ true → has_one_row (lowered who name mode hs) ≡ true
 one_lowered who name mode [] one = refl
 one_lowered who name mode (h ∷ hs) one =
-    let parts : (list_any (is_lane h.who h.name h.mode) hs ≡ false) × (has_one_row hs ≡ true) = row_parts (list_any (is_lane h.who h.name h.mode) hs) (has_one_row hs) one in
+    let parts : (list_any (is_lane h.who h.name h.mode) hs ≡ false) × (has_one_row hs ≡ true) = row_parts (list_any (is_lane h.who h.name h.mode) hs)
+        (has_one_row hs) one in
     go (is_lane who name mode h) (h.count == 1) parts.0 parts.1 (one_lowered who name mode hs parts.1)
   where
     go : (b c : Bool) → list_any (is_lane h.who h.name h.mode) hs ≡ false → has_one_row hs ≡ true → has_one_row (lowered who name mode hs) ≡ true
@@ -151,7 +154,8 @@ less_one zero some other = absurd (omega (arith, some))
 less_one (suc zero) some other = absurd (true≢false other)
 less_one (suc (suc n)) some other = omega arith
 
-positive_lowered : (who : Who) (name : List ℕ) (mode : Mode) (hs : List Row) → AllByRecursion IsPositive hs → AllByRecursion IsPositive (lowered who name mode hs)
+positive_lowered : (who : Who) (name : List ℕ) (mode : Mode) (hs : List Row) → AllByRecursion IsPositive hs
+    → AllByRecursion IsPositive (lowered who name mode hs)
 positive_lowered who name mode [] all = tt
 positive_lowered who name mode (h ∷ hs) all = go (is_lane who name mode h) (h.count == 1) refl (positive_lowered who name mode hs all.1)
   where
@@ -179,12 +183,15 @@ none_filtered p q (h ∷ hs) none =
 one_filtered : (q : Row → Bool) (hs : List Row) → has_one_row hs ≡ true → has_one_row (filter q hs) ≡ true
 one_filtered q [] one = refl
 one_filtered q (h ∷ hs) one =
-    let parts : (list_any (is_lane h.who h.name h.mode) hs ≡ false) × (has_one_row hs ≡ true) = row_parts (list_any (is_lane h.who h.name h.mode) hs) (has_one_row hs) one in
+    let parts : (list_any (is_lane h.who h.name h.mode) hs ≡ false) × (has_one_row hs ≡ true) = row_parts (list_any (is_lane h.who h.name h.mode) hs)
+        (has_one_row hs) one in
     go (q h) parts.0 (one_filtered q hs parts.1)
   where
-    go : (b : Bool) → list_any (is_lane h.who h.name h.mode) hs ≡ false → has_one_row (filter q hs) ≡ true → has_one_row (cond b (h ∷ filter q hs) (filter q hs)) ≡ true
+    go : (b : Bool) → list_any (is_lane h.who h.name h.mode) hs ≡ false → has_one_row (filter q hs) ≡ true
+        → has_one_row (cond b (h ∷ filter q hs) (filter q hs)) ≡ true
     go true none rest =
-        row_both (list_any (is_lane h.who h.name h.mode) (filter q hs)) (has_one_row (filter q hs)) (none_filtered (is_lane h.who h.name h.mode) q hs none) rest
+        row_both (list_any (is_lane h.who h.name h.mode) (filter q hs)) (has_one_row (filter q hs)) (none_filtered
+            (is_lane h.who h.name h.mode) q hs none) rest
     go false none rest = rest
 
 pub rows_filtered : (q : Row → Bool) (hs : List Row) → Rows hs → Rows (filter q hs)

@@ -61,11 +61,13 @@ asked_rows : (l : Locks) (r : Request) (at : ℕ) → Rows l.holds → Rows (ask
 asked_rows l r at is = go (waits l.holds l.requests r) (rows_raised r.who r.name r.mode 1 at l.holds (omega arith) is)
   where
     go : (b : Bool) → Rows (with_grant l r at).holds
-        → Rows (cond {A = Freed} b (record { locks = record l { requests = l.requests ++ r ∷ [] }; grants = [] }) (record { locks = with_grant l r at; grants = r ∷ [] })).locks.holds
+        → Rows (cond {A = Freed} b (record { locks = record l { requests = l.requests ++ r ∷ [] }; grants = [] })
+        (record { locks = with_grant l r at; grants = r ∷ [] })).locks.holds
     go true now = is
     go false now = now
 
-call_rows : (t : Coming) (b : Sofar) → ((w : Who) (key : List ℕ) (mode : Mode) (number at : ℕ) → Asked t w.session (up.Claim w.job mode number at key) b → 0 < number)
+call_rows : (t : Coming) (b : Sofar) → ((w : Who) (key : List ℕ) (mode : Mode) (number at : ℕ) → Asked t w.session
+    (up.Claim w.job mode number at key) b → 0 < number)
     → (call : LockCall) → CallsMay t call b → TableGo TableRows call b
 call_rows t b claims (Asks r) m h = become (asked b.state.locks r (length b.state.order)) b (asked_rows b.state.locks r (length b.state.order) h)
 call_rows t b claims (Unlocks who mode key) m h =
@@ -201,7 +203,8 @@ moves_keep_rows l c m (moves.Server server now input) outs written new h ups row
     subst EachRows (sym goes.after)
     (at_places (λ d x. IfSome x.node RowsAre) m.site_at server (server_site goes.node now input goes.data_outs goes.state (m.site_at server))
     (subst (λ (o : Option DataState). IfSome o RowsAre) (sym (step_site goes.node now input goes.data_outs goes.state (m.site_at server)).node)
-    (step_rows l c m server now input outs written new h run shows allowed goes ups (of_some RowsAre (m.site_at server).node goes.node goes.runs (rows server))))
+    (step_rows l c m server now input outs written new h run shows allowed goes ups
+    (of_some RowsAre (m.site_at server).node goes.node goes.runs (rows server))))
     (λ d other. rows d))
 moves_keep_rows l c m (moves.Begin server now entries) outs written new h ups rows run shows allowed goes =
     subst EachRows (sym goes.after)

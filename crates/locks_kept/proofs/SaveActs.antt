@@ -98,7 +98,8 @@ writes_it d s b its =
     or_true false = refl
 
 -- each of several sessions is released
-all_written : (d q : ℕ) (ss : List ℕ) (b : Sofar) → b.state.server ≡ d → list_any (λ s. s == q) ss ≡ true → to_release d (releases_all ss b).outs.acts q ≡ true
+all_written : (d q : ℕ) (ss : List ℕ) (b : Sofar) → b.state.server ≡ d → list_any (λ s. s == q) ss ≡ true
+    → to_release d (releases_all ss b).outs.acts q ≡ true
 all_written d q [] b its is = absurd (false≢true is)
 all_written d q (s ∷ ss) b its is = go (s == q) refl is (λ has. all_written d q ss (releases s b) ((releases_goes s b).server ∙ its) has)
   where
@@ -129,7 +130,8 @@ closed_has q (Rollback session w job txn ∷ es) is = closed_has q es is
 acks_goes : (ss : List ℕ) (b : Sofar) → Goes b (acks ss b)
 acks_goes [] b = record { more = []; acts = sym (append-nil b.outs.acts); server = refl; round = refl; order = refl }
 acks_goes (s ∷ ss) b =
-    goes_then b (acks_one s b) (acks ss (acks_one s b)) (goes_by_windows b (acks_one s b) (only_puts s (Ack (head_of b.state s)) b)) (acks_goes ss (acks_one s b))
+    goes_then b (acks_one s b) (acks ss (acks_one s b)) (goes_by_windows b (acks_one s b) (only_puts s (Ack (head_of b.state s)) b)) (acks_goes ss
+        (acks_one s b))
 
 flush_goes : (b : Sofar) → Goes b (flushed b)
 flush_goes b = go (only_flushed b)
