@@ -1,5 +1,5 @@
 -- What is put downwards in each lane is left by each move but a step of a data server.
-use Rattle.std.proofs.Common.{◌≡◌, ◌≢◌, ℕ, Bool, true, false, ◌==◌, ◌&&◌, if◌then◌else◌, List, Option, Some, None, refl, sym, ◌∙◌, ap}
+use Rattle.std.proofs.Common.{◌≡◌, ℕ, Bool, true, false, ◌==◌, ◌&&◌, if◌then◌else◌, List, Option, Some, None, refl, ◌∙◌, ap}
 use Rattle.plain_orders.specs.declared.act.Act.{Act}
 use Rattle.plain_runs.specs.Plain.{put}
 use Rattle.app_job.specs.declared.command.Command.{Command}

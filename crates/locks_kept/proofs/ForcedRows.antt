@@ -222,12 +222,12 @@ module _ (leaving : ℕ → Bool) where
   gives_of : (s : Server) (app job : ℕ) (mode : Mode) (key : List ℕ) → Steps s (gives_up s app job mode key)
   gives_of s app job mode key o k =
       each_last (ForcedBut leaving s) (is_kept (pair_session s app) job mode key) (given_up (given_now s (pair_session s app)))
-          (λ h is forced. forced) s.holds k
+      (λ h is forced. forced) s.holds k
 
   quits_of : (s : Server) (app job : ℕ) (mode : Mode) (key : List ℕ) → Steps s (quits s app job mode key)
   quits_of s app job mode key o k =
       each_first (ForcedBut leaving s) (is_asked (pair_session s app) job mode key) (given_up (given_now s (pair_session s app)))
-          (λ h is forced. forced) s.holds k
+      (λ h is forced. forced) s.holds k
 
   -- all acts
 

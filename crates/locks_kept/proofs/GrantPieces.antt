@@ -164,7 +164,7 @@ module _ (k : ℕ) where
   less_piece t (Forgets ending conn) b may low w = less_cut ending conn (becomes (without_conn conn) b) (less_gone conn b.state w)
   less_piece t (Breaks ending conn session app) b may low w =
       less_cut ending conn (end_breaks (Some app) t.now (becomes (without_conn conn) b)) (less_breaks app t.now (becomes (without_conn conn) b)
-          (less_gone conn b.state w))
+      (less_gone conn b.state w))
   less_piece t (Dials app dial) b may low w = w
   less_piece t (Waits app conn) b may low w = less_drop (waiting_conn b.state app) b w
   less_piece t (Opens app conn) b may low w = less_opens app conn t.now b w
@@ -188,7 +188,7 @@ module _ (k : ℕ) where
   less_piece t (Replies at says) b may low w = pushed b.state.replies (record { at = at; says = says }) (made_waits t at says b may) w
   less_piece t (Leaves before r behind) b may low w =
       less_windows (becomes (with_replies (before ++ behind)) b) (makes t.now (Leaves before r behind) b) (only_leaves r.says
-          (becomes (with_replies (before ++ behind)) b))
+      (becomes (with_replies (before ++ behind)) b))
       (without_one before behind r (subst W may.its w))
   less_piece t (Bares session conn) b may low w = w
   less_piece t (CallsLocks call) b may low w = less_calls call b low w

@@ -95,7 +95,7 @@ one_raised : (who : Who) (name : List ℕ) (mode : Mode) (more at : ℕ) (hs : L
 one_raised who name mode more at [] one = refl
 one_raised who name mode more at (h ∷ hs) one =
     let parts : (list_any (is_lane h.who h.name h.mode) hs ≡ false) × (has_one_row hs ≡ true) = row_parts (list_any (is_lane h.who h.name h.mode) hs)
-        (has_one_row hs) one in
+    (has_one_row hs) one in
     go (is_lane who name mode h) refl parts.0 (one_raised who name mode more at hs parts.1)
   where
     go : (b : Bool) → is_lane who name mode h ≡ b → list_any (is_lane h.who h.name h.mode) hs ≡ false → has_one_row (raised who name mode more at hs) ≡ true
@@ -138,7 +138,7 @@ one_lowered : (who : Who) (name : List ℕ) (mode : Mode) (hs : List Row) → ha
 one_lowered who name mode [] one = refl
 one_lowered who name mode (h ∷ hs) one =
     let parts : (list_any (is_lane h.who h.name h.mode) hs ≡ false) × (has_one_row hs ≡ true) = row_parts (list_any (is_lane h.who h.name h.mode) hs)
-        (has_one_row hs) one in
+    (has_one_row hs) one in
     go (is_lane who name mode h) (h.count == 1) parts.0 parts.1 (one_lowered who name mode hs parts.1)
   where
     go : (b c : Bool) → list_any (is_lane h.who h.name h.mode) hs ≡ false → has_one_row hs ≡ true → has_one_row (lowered who name mode hs) ≡ true
@@ -184,14 +184,14 @@ one_filtered : (q : Row → Bool) (hs : List Row) → has_one_row hs ≡ true �
 one_filtered q [] one = refl
 one_filtered q (h ∷ hs) one =
     let parts : (list_any (is_lane h.who h.name h.mode) hs ≡ false) × (has_one_row hs ≡ true) = row_parts (list_any (is_lane h.who h.name h.mode) hs)
-        (has_one_row hs) one in
+    (has_one_row hs) one in
     go (q h) parts.0 (one_filtered q hs parts.1)
   where
     go : (b : Bool) → list_any (is_lane h.who h.name h.mode) hs ≡ false → has_one_row (filter q hs) ≡ true
         → has_one_row (cond b (h ∷ filter q hs) (filter q hs)) ≡ true
     go true none rest =
         row_both (list_any (is_lane h.who h.name h.mode) (filter q hs)) (has_one_row (filter q hs)) (none_filtered
-            (is_lane h.who h.name h.mode) q hs none) rest
+        (is_lane h.who h.name h.mode) q hs none) rest
     go false none rest = rest
 
 pub rows_filtered : (q : Row → Bool) (hs : List Row) → Rows hs → Rows (filter q hs)

@@ -131,7 +131,7 @@ acks_goes : (ss : List ℕ) (b : Sofar) → Goes b (acks ss b)
 acks_goes [] b = record { more = []; acts = sym (append-nil b.outs.acts); server = refl; round = refl; order = refl }
 acks_goes (s ∷ ss) b =
     goes_then b (acks_one s b) (acks ss (acks_one s b)) (goes_by_windows b (acks_one s b) (only_puts s (Ack (head_of b.state s)) b)) (acks_goes ss
-        (acks_one s b))
+    (acks_one s b))
 
 flush_goes : (b : Sofar) → Goes b (flushed b)
 flush_goes b = go (only_flushed b)
