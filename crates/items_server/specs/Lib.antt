@@ -1,0 +1,2 @@
+pub mod ItemActs
+pub mod Laws
